@@ -1,0 +1,13 @@
+pub mod Fraction
+pub mod Spec
+pub mod Object
+pub mod Measures
+pub mod Totals
+pub mod WellFounded
+pub mod Ideal
+pub mod Making
+pub mod Labels
+pub mod Run
+pub mod Cell
+pub mod ObjectText
+pub mod Oracle
