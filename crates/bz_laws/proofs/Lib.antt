@@ -8,6 +8,7 @@ pub mod Pairs
 pub mod Labelled
 pub mod Bounds
 pub mod Heights
+pub mod Nodes
 pub mod Leaves
 pub mod Products
 pub mod Makings
