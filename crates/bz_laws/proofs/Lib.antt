@@ -9,6 +9,7 @@ pub mod Labelled
 pub mod Bounds
 pub mod Heights
 pub mod Nodes
+pub mod Numbered
 pub mod Leaves
 pub mod Products
 pub mod Makings
