@@ -11,6 +11,9 @@ pub mod Heights
 pub mod Nodes
 pub mod Numbered
 pub mod Leaves
+pub mod Tallest
+pub mod Lists
+pub mod Inhabited
 pub mod Products
 pub mod Makings
 pub mod WeightForm
