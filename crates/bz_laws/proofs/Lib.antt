@@ -13,6 +13,7 @@ pub mod Numbered
 pub mod Leaves
 pub mod Tallest
 pub mod Lists
+pub mod Values
 pub mod Inhabited
 pub mod Products
 pub mod Makings

@@ -33,6 +33,33 @@ equal-sym h = record { at_most = h.at_least; at_least = h.at_most }
 pub equal-plus : {a b c d : Fraction} → AreEqual a b → AreEqual c d → AreEqual (plus a c) (plus b d)
 equal-plus h k = record { at_most = plus-mono h.at_most k.at_most; at_least = plus-mono h.at_least k.at_least }
 
+module _ {A : Type 0} where
+  filter-all : (P : A → Type 0) (test : A → Bool) (xs : List A) → AllByRecursion P xs → AllByRecursion P (filter test xs)
+  filter-all P test [] h = tt
+  filter-all P test (a ∷ xs) h = go (test a) (filter-all P test xs h.1)
+    where
+      go : (b : Bool) → AllByRecursion P (filter test xs) → AllByRecursion P (cond b (a ∷ filter test xs) (filter test xs))
+      go true k = (h.0, k)
+      go false k = k
+
+  -- a list without repeats splits by a test into two
+  pub filter-distinct : (test : A → Bool) (xs : List A) → IsDistinct xs → IsDistinct (filter test xs)
+  filter-distinct test [] d = tt
+  filter-distinct test (a ∷ xs) d = go (test a) (filter-distinct test xs d.1)
+    where
+      go : (b : Bool) → IsDistinct (filter test xs) → IsDistinct (cond b (a ∷ filter test xs) (filter test xs))
+      go true k = (filter-all (λ c. c ≢ a) test xs d.0, k)
+      go false k = k
+
+  -- two lists without a common member join without repeats
+  pub join-distinct : (xs ys : List A) → IsDistinct xs → IsDistinct ys → AllByRecursion (λ a. ¬ (IsOneOf ys a)) xs → IsDistinct (xs ++ ys)
+  join-distinct [] ys d e h = e
+  join-distinct (a ∷ xs) ys d e h = (AllByRecursion-append (λ b. b ≢ a) xs ys d.0 (apart a ys h.0), join-distinct xs ys d.1 e h.1)
+    where
+      apart : (a : A) (ys : List A) → ¬ (IsOneOf ys a) → AllByRecursion (λ b. b ≢ a) ys
+      apart a [] out = tt
+      apart a (y ∷ ys) out = (λ q. out (inl (sym q)), apart a ys (λ m. out (inr m)))
+
 module _ {A : Type 0} (w : A → Fraction) where
   -- a list without one of its members
   record Without (a : A) (xs : List A) : Type 0 where
@@ -66,24 +93,7 @@ module _ {A : Type 0} (w : A → Fraction) where
       let r = without a ys h.0 in
       AtMost-trans (plus-mono (AtMost-refl (w a)) (sub_list-at_most xs r.rest d.1 (kept a ys r.rest r.others xs d.0 h.1))) r.total_is
 
-  filter-all : (P : A → Type 0) (test : A → Bool) (xs : List A) → AllByRecursion P xs → AllByRecursion P (filter test xs)
-  filter-all P test [] h = tt
-  filter-all P test (a ∷ xs) h = go (test a) (filter-all P test xs h.1)
-    where
-      go : (b : Bool) → AllByRecursion P (filter test xs) → AllByRecursion P (cond b (a ∷ filter test xs) (filter test xs))
-      go true k = (h.0, k)
-      go false k = k
-
-  -- a list without repeats splits by a test into two
-  pub filter-distinct : (test : A → Bool) (xs : List A) → IsDistinct xs → IsDistinct (filter test xs)
-  filter-distinct test [] d = tt
-  filter-distinct test (a ∷ xs) d = go (test a) (filter-distinct test xs d.1)
-    where
-      go : (b : Bool) → IsDistinct (filter test xs) → IsDistinct (cond b (a ∷ filter test xs) (filter test xs))
-      go true k = (filter-all (λ c. c ≢ a) test xs d.0, k)
-      go false k = k
-
-  -- whose totals add up to its own
+  -- the totals of what passes a test and of what fails it add up to the list's
   pub filter-total : (test : A → Bool) (xs : List A) → AreEqual (total_by w xs) (plus (total_by w (filter test xs)) (total_by w (filter (λ a. cond (test a) false true) xs)))
   filter-total test [] = record { at_most = omega arith; at_least = omega arith }
   filter-total test (a ∷ xs) = go (test a) (filter-total test xs)
@@ -92,15 +102,7 @@ module _ {A : Type 0} (w : A → Fraction) where
       go true k = equal-trans (equal-plus (equal-refl (w a)) k) (record { at_most = plus-assoc' (w a) (total_by w (filter test xs)) (total_by w (filter (λ b. cond (test b) false true) xs)); at_least = plus-assoc (w a) (total_by w (filter test xs)) (total_by w (filter (λ b. cond (test b) false true) xs)) })
       go false k = equal-trans (equal-plus (equal-refl (w a)) k) (record { at_most = plus-swap (w a) (total_by w (filter test xs)) (total_by w (filter (λ b. cond (test b) false true) xs)); at_least = plus-swap (total_by w (filter test xs)) (w a) (total_by w (filter (λ b. cond (test b) false true) xs)) })
 
-  -- two lists without a common member join without repeats
-  pub join-distinct : (xs ys : List A) → IsDistinct xs → IsDistinct ys → AllByRecursion (λ a. ¬ (IsOneOf ys a)) xs → IsDistinct (xs ++ ys)
-  join-distinct [] ys d e h = e
-  join-distinct (a ∷ xs) ys d e h = (AllByRecursion-append (λ b. b ≢ a) xs ys d.0 (apart a ys h.0), join-distinct xs ys d.1 e h.1)
-    where
-      apart : (a : A) (ys : List A) → ¬ (IsOneOf ys a) → AllByRecursion (λ b. b ≢ a) ys
-      apart a [] out = tt
-      apart a (y ∷ ys) out = (λ q. out (inl (sym q)), apart a ys (λ m. out (inr m)))
-
+  -- and so do the totals of two lists to that of the joined list
   pub join-total : (xs ys : List A) → AreEqual (total_by w (xs ++ ys)) (plus (total_by w xs) (total_by w ys))
   join-total [] ys = record { at_most = omega arith; at_least = omega arith }
   join-total (a ∷ xs) ys = equal-trans (equal-plus (equal-refl (w a)) (join-total xs ys)) (record { at_most = plus-assoc' (w a) (total_by w xs) (total_by w ys); at_least = plus-assoc (w a) (total_by w xs) (total_by w ys) })
@@ -147,7 +149,7 @@ module _ {A B : Type 0} where
   pub pairs-distinct : (xs : List A) (ys : List B) → IsDistinct xs → IsDistinct ys → IsDistinct (pairs_of xs ys)
   pairs-distinct [] ys d e = tt
   pairs-distinct (x ∷ xs) ys d e =
-      join-distinct (λ p. whole 0) (map (λ y. (x, y)) ys) (pairs_of xs ys) (row-distinct x ys e) (pairs-distinct xs ys d.1 e)
+      join-distinct (map (λ y. (x, y)) ys) (pairs_of xs ys) (row-distinct x ys e) (pairs-distinct xs ys d.1 e)
       (apart-lists (λ p. p.0 ≡ x) (map (λ y. (x, y)) ys) (pairs_of xs ys) (map-first x (λ a. a ≡ x) ys refl) (pairs-first (λ a. a ≢ x) xs ys d.0))
 
   -- and totals the product of their totals

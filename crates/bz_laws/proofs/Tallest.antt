@@ -52,19 +52,6 @@ module _ (s : Spec) (x : Fraction) (entry : ℕ → Fraction)
   pub entries-above : (c body : ℕ) → body_of s c ≡ Some body → Above x (entry c) (Belongs s body)
   entries-above c body at = above-each-height s body (λ h. step h (classes-above h) c body at)
 
--- and entries that the map from entries to node values doesn't raise, with the node values
-module _ (s : Spec) (x : Fraction) (entry value : ℕ → Fraction)
-    (mapped : (h : ℕ) → ((c : ℕ) → Above x (entry c) (ClassHas s h c)) → (e : ℕ) → Above x (value e) (HasWithin s h (Some e)))
-    (post_fixed : (c body : ℕ) → body_of s c ≡ Some body → AtMost (value body) (entry c)) where
-  step : (h : ℕ) → ((c : ℕ) → Above x (entry c) (ClassHas s h c)) → (c body : ℕ) → body_of s c ≡ Some body → Above x (entry c) (HasWithin s h (Some body))
-  step h up c body at = above-higher x (value body) (entry c) (HasWithin s h (Some body)) (post_fixed c body at) (mapped h up body)
-
-  pub post_fixed-entries : (c body : ℕ) → body_of s c ≡ Some body → Above x (entry c) (Belongs s body)
-  post_fixed-entries = entries-above s x entry step
-
-  pub post_fixed-values : (e : ℕ) → Above x (value e) (Belongs s e)
-  post_fixed-values e = above-each-height s e (λ h. mapped h (classes-above s x entry step h) e)
-
 -- what belongs to a class is what belongs to its body
 pub class-belongs-of : (s : Spec) (c body : ℕ) → body_of s c ≡ Some body → (o : Object) → Belongs s body o → ClassBelongs s c o
 class-belongs-of s c body at o b = (suc b.0, class-body s b.0 c body at o b.1)
