@@ -237,3 +237,7 @@ high-greatest s e part low high node form at c range le o b =
         let r = counted-range s (ClassHas s h.0) node part form (range_at s e) p c (known s (ClassHas s h.0) e at p h.1) in
         let k : IsInRange (option_of p) (Some (record { low = low; high = Some high })) = subst (IsInRange (option_of p)) range r in
         k.1
+
+-- an option below the low is no object's
+pub not-below-low : (s : Spec) (e part low : ℕ) (high : Option ℕ) (node : Node) (form : Objects → Object) → node_at s e ≡ Some node → IsCounted node part form → range_at s e ≡ Some (record { low = low; high = high }) → (o : Object) → Belongs s e o → low ≤ option_of o
+not-below-low s e part low high node form at c ranged o b = (in-range s (ClassHas s b.0) (whole 1) (whole 1) part e node form at c low high ranged o b.1).0

@@ -22,4 +22,5 @@ pub mod Outcomes
 pub mod Texts
 pub mod Counted
 pub mod Runs
+pub mod First
 pub mod Rooms

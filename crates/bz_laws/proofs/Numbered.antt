@@ -12,6 +12,11 @@ use Rattle.bz_laws.proofs.Samples.{above-none, below-none, above-either, below-e
 abbrev pub IsIn : (low n number : ℕ) → Type 0
 IsIn low n number = (low ≤ number) × (number < low + n)
 
+-- a finite list has a greatest number
+pub greatest : {A : Type 0} (number : A → ℕ) (xs : List A) → (m : ℕ) × AllByRecursion (λ a. number a < m) xs
+greatest number [] = (0, tt)
+greatest number (a ∷ xs) = let m = greatest number xs in (suc (number a) + m.0, (omega arith, AllByRecursion-weaker (λ b k. omega arith) xs m.1))
+
 module _ {A : Type 0} (w : A → Fraction) (number : A → ℕ) (P : A → Type 0) (f : ℕ → Fraction) where
   -- n numbers from low on, of which each is bounded
   pub above-run : (n low : ℕ) → ((k : ℕ) → IsIn low n k → AboveBy w (f k) (λ a. P a × (number a ≡ k))) → AboveBy w (sum_from f low n) (λ a. P a × IsIn low n (number a))
@@ -37,16 +42,11 @@ module _ {A : Type 0} (w : A → Fraction) (number : A → ℕ) (P : A → Type 
       which a (inl h) = let e = h.1 in (h.0, (omega arith, omega arith))
       which a (inr h) = let l = h.1.0 in let r = h.1.1 in (h.0, (omega arith, omega arith))
 
-  -- a finite list has a greatest number
-  pub greatest : (xs : List A) → (m : ℕ) × AllByRecursion (λ a. number a < m) xs
-  greatest [] = (0, tt)
-  greatest (a ∷ xs) = let m = greatest xs in (suc (number a) + m.0, (omega arith, AllByRecursion-weaker (λ b k. omega arith) xs m.1))
-
   -- all numbers from low on: a bound of each run is one of all of them
   pub above-from : ((k : ℕ) → AboveBy w (f k) (λ a. P a × (number a ≡ k))) → (low : ℕ) (g : Fraction) → ((n : ℕ) → AtMost (sum_from f low n) g) → AboveBy w g (λ a. P a × (low ≤ number a))
   above-from up low g h = record {
     holds = λ xs t.
-        let m = greatest xs in
+        let m = greatest number xs in
         AtMost-trans ((above-run m.0 low (λ k i. up k)).holds xs (record { distinct = t.distinct; each = AllByRecursion-weaker (λ a k. within m.0 a k.0 k.1) xs (AllByRecursion-both (λ a. P a × (low ≤ number a)) (λ a. number a < m.0) xs t.each m.1) })) (h m.0);
   }
     where

@@ -2,3 +2,4 @@ pub mod Terms
 pub mod Lists
 pub mod Sound
 pub mod Values
+pub mod Orders
