@@ -1,17 +1,17 @@
 -- What a sequence, set or cycle has: lists of the part's objects. With exactly k parts they total the k-th power of the part's value, times the share of k parts.
-use Rattle.std.proofs.Common.{◌≡◌, ℕ, zero, suc, ◌+◌, ◌-◌, ◌<◌, ◌≤◌, List, [], ◌∷◌, arith, refl, sym, ◌∙◌, ap, subst, Option, Some, None, replicate}
+use Rattle.std.proofs.Common.{◌≡◌, ℕ, zero, suc, ◌-◌, ◌<◌, ◌≤◌, arith, refl, sym, ◌∙◌, ap, subst, Option, Some, None, replicate}
 use Rattle.std.specs.List.{AllByRecursion}
-use Rattle.bz_model.specs.Fraction.{Fraction, AtMost, plus, times, whole, power, units}
+use Rattle.bz_model.specs.Fraction.{Fraction, AtMost, times, whole, power}
 use Rattle.bz_model.specs.Spec.{Spec, Node, Range, node_at, range_at, IsInRange, IsWithinHigh}
 use Rattle.bz_model.specs.Object.{Object, Objects, none, more, count, Has, HaveEach, HaveAll, ClassHas, Belongs}
 use Rattle.bz_model.specs.Measures.{size, sizes, weight, weights, set_share, cycle_share, share_of}
-use Rattle.bz_model.specs.Totals.{AboveBy, BelowBy, Above, Below, total_by}
+use Rattle.bz_model.specs.Totals.{AboveBy, BelowBy, Above, Below}
 use Rattle.bz_model.specs.Ideal.{option_of, Upto, IsGreatestOption}
 use Rattle.bz_model.specs.Making.{IsCounted}
 use Rattle.bz_laws.specs.Terms.{term, sum_from, product_by}
 use Rattle.bz_laws.proofs.Fractions.{AtMost-refl}
 use Rattle.bz_laws.proofs.Samples.{above-along, below-along, above-none, above-scaled, below-scaled, AboveBy-weaker, BelowBy-weaker}
-use Rattle.bz_laws.proofs.Products.{BelongEach, above-each, below-each, each-together}
+use Rattle.bz_laws.proofs.Products.{above-each, below-each}
 use Rattle.bz_laws.proofs.Nodes.{HasAt, HasUpto, ClassBelongs, known, unknown, belongs-has, belongs-of, above-has, below-has, upto-has, upto-of}
 use Rattle.bz_laws.proofs.Numbered.{above-run, below-run, above-from}
 

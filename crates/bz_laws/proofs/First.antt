@@ -1,10 +1,10 @@
 -- The first option of a counted node is its low.
-use Rattle.std.proofs.Common.{◌≡◌, ℕ, suc, ◌*◌, ◌^◌, ◌<◌, ◌≤◌, inl, inr, List, [], ◌∷◌, arith, Option, Some}
+use Rattle.std.proofs.Common.{◌≡◌, ℕ, suc, ◌*◌, ◌^◌, ◌<◌, ◌≤◌, inr, List, [], ◌∷◌, arith, Option, Some}
 use Rattle.bz_model.specs.Fraction.{Fraction, AtMost, plus, times, whole, one_in, units}
 use Rattle.bz_model.specs.Spec.{Spec, Node, node_at, range_at}
 use Rattle.bz_model.specs.Object.{Object, Objects, Belongs}
 use Rattle.bz_model.specs.Totals.{Above, Below, IsSample, total}
-use Rattle.bz_model.specs.Ideal.{option_of, Before, Upto, IsIdealOption}
+use Rattle.bz_model.specs.Ideal.{Before, Upto, IsIdealOption}
 use Rattle.bz_model.specs.Making.{IsCounted}
 use Rattle.bz_model.specs.Cell.{IsInCell}
 use Rattle.bz_laws.proofs.Options.{decided}

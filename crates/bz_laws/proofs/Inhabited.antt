@@ -1,18 +1,16 @@
 -- Where every class has an object, every node has one: each part stands below its node.
-use Rattle.std.proofs.Common.{◌≡◌, ℕ, zero, suc, ◌*◌, ◌<◌, ◌≤◌, List, [], ◌∷◌, length, arith, refl, sym, subst, Option, Some, None}
-use Rattle.std.specs.Prelude.{slice_get}
+use Rattle.std.proofs.Common.{◌≡◌, ℕ, zero, suc, ◌*◌, ◌<◌, ◌≤◌, List, [], ◌∷◌, length, arith, refl, sym, subst, Some}
 use Rattle.std.specs.List.{AllByRecursion}
-use Rattle.bz_model.specs.Fraction.{Fraction, AtMost}
-use Rattle.bz_model.specs.Spec.{Spec, Node, Range, node_at, range_at, body_of, IsInRange}
+use Rattle.bz_model.specs.Fraction.{Fraction}
+use Rattle.bz_model.specs.Spec.{Spec, Node, node_at, range_at, body_of, IsInRange}
 use Rattle.bz_model.specs.Object.{Object, Objects, none, more, ClassHas, Belongs}
 use Rattle.bz_model.specs.Measures.{weight}
 use Rattle.bz_model.specs.Totals.{Above}
 use Rattle.bz_model.specs.Making.{IsCounted}
-use Rattle.bz_model.specs.WellFounded.{IsWellFounded}
 use Rattle.bz_laws.specs.Sound.{EachPart, IsLaidOut, LetsItsLow}
 use Rattle.bz_laws.proofs.Nodes.{unknown}
 use Rattle.bz_laws.proofs.Leaves.{class-into}
-use Rattle.bz_laws.proofs.Unions.{BelongsAt, into-union}
+use Rattle.bz_laws.proofs.Unions.{into-union}
 use Rattle.bz_laws.proofs.Products.{BelongEach, into-product}
 use Rattle.bz_laws.proofs.Counted.{repeated, into-counted-of}
 use Rattle.bz_laws.proofs.Values.{each-node}

@@ -1,11 +1,11 @@
 -- Leaves and references: what they have, and what that totals.
-use Rattle.std.proofs.Common.{◌≡◌, ℕ, zero, suc, List, refl, sym, subst, Option, Some, None}
+use Rattle.std.proofs.Common.{◌≡◌, ℕ, zero, suc, List, refl, sym, subst, Option, Some}
 use Rattle.bz_model.specs.Fraction.{Fraction, whole}
-use Rattle.bz_model.specs.Spec.{Spec, Node, Range, node_at, range_at, body_of, node_of, range_of}
+use Rattle.bz_model.specs.Spec.{Spec, Node, Range, node_at, range_at, body_of}
 use Rattle.bz_model.specs.Object.{Object, Has, ClassHas, HasWithin, Belongs}
 use Rattle.bz_model.specs.Measures.{weight}
 use Rattle.bz_model.specs.Totals.{Above, Below}
-use Rattle.bz_laws.proofs.Samples.{above-one, below-one, above-none, AboveBy-weaker, BelowBy-weaker}
+use Rattle.bz_laws.proofs.Samples.{above-one, below-one, AboveBy-weaker, BelowBy-weaker}
 use Rattle.bz_laws.proofs.Nodes.{HasAt, ClassBelongs, known, unknown, belongs-has, belongs-of}
 
 has-atom : (s : Spec) (R : ℕ → Object → Type 0) (word : List ℕ) (r : Option Range) (o : Object) → Has s R (Some (Node.Atom word)) r o → o ≡ Object.Dot

@@ -1,14 +1,13 @@
 -- Four tools on lists without repeats: sub-lists, splitting and joining, one-to-one images, all pairs. Each says what the list totals.
-use Rattle.std.proofs.Common.{◌≡◌, ◌≢◌, ◌⊎◌, inl, inr, List, [], ◌∷◌, ◌++◌, map, arith, refl, sym, ◌∙◌, ap, subst}
+use Rattle.std.proofs.Common.{◌≡◌, ◌≢◌, inl, inr, List, [], ◌∷◌, ◌++◌, map, arith, refl, sym, ◌∙◌, ap, subst}
 use Rattle.std.specs.Prelude.{Bool, true, false, cond}
 use Rattle.std.specs.List.{AllByRecursion, filter}
-use Rattle.bz_model.specs.Fraction.{Fraction, AtMost, plus, times, whole}
+use Rattle.bz_model.specs.Fraction.{Fraction, AtMost, plus, times}
 use Rattle.bz_model.specs.Totals.{IsDistinct, total_by}
 use Rattle.bz_laws.specs.Terms.{AreEqual}
 use Rattle.bz_laws.specs.Lists.{IsOneOf, pairs_of}
-use Rattle.bz_laws.proofs.Fractions.{AtMost-trans, AtMost-refl, plus-mono, times-mono, plus-assoc, plus-assoc', plus-swap, times-plus, times-plus', plus-times, plus-times'}
+use Rattle.bz_laws.proofs.Fractions.{AtMost-trans, AtMost-refl, plus-mono, plus-assoc, plus-assoc', plus-swap, times-plus, times-plus', plus-times, plus-times'}
 use Rattle.bz_laws.proofs.Samples.{AllByRecursion-weaker, AllByRecursion-append}
-use Rattle.bz_laws.proofs.Pairs.{pair_path}
 
 -- members
 pub all-members : {A : Type 0} (xs : List A) → AllByRecursion (IsOneOf xs) xs

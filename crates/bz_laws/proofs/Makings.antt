@@ -1,10 +1,10 @@
 -- What is made: the ideal option is one that an object has, the made object belongs to the node, and the room falls by its size.
-use Rattle.std.proofs.Common.{◌≡◌, ℕ, zero, suc, ◌+◌, ◌<◌, ◌≤◌, ◌⊎◌, inl, inr, List, [], ◌∷◌, arith, refl, sym, ap, subst, Option, Some, replicate}
+use Rattle.std.proofs.Common.{◌≡◌, ℕ, zero, suc, ◌+◌, ◌<◌, ◌≤◌, ◌⊎◌, inl, inr, List, [], ◌∷◌, arith, refl, sym, subst, replicate}
 use Rattle.std.specs.List.{AllByRecursion}
 use Rattle.std.proofs.Math.Decide.{dec_le}
 use Rattle.bz_model.specs.Fraction.{Fraction, AtMost, plus, times, whole, one_in}
-use Rattle.bz_model.specs.Spec.{Spec, Node, Range, range_at, node_of, range_of, IsInRange}
-use Rattle.bz_model.specs.Object.{Object, Objects, none, more, count, Has, HaveEach, HaveAll, ClassHas, Belongs}
+use Rattle.bz_model.specs.Spec.{Spec, range_at, node_of, range_of, IsInRange}
+use Rattle.bz_model.specs.Object.{Object, Objects, count, Has, ClassHas, Belongs}
 use Rattle.bz_model.specs.Measures.{size, sizes}
 use Rattle.bz_model.specs.Totals.{IsSample, total}
 use Rattle.bz_model.specs.Ideal.{option_of, Before, Upto, IsIdealOption, IsGreatestOption}

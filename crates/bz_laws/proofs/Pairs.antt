@@ -3,7 +3,7 @@ use Rattle.std.proofs.Common.{◌≡◌, ◌≢◌, ℕ, zero, suc, ◌≤◌, �
 use Rattle.std.specs.List.{AllByRecursion}
 use Rattle.bz_model.specs.Fraction.{Fraction, AtMost, plus, times}
 use Rattle.bz_model.specs.Totals.{AboveBy, BelowBy, IsSample, IsDistinct, total_by}
-use Rattle.bz_laws.proofs.Fractions.{AtMost-trans, AtMost-refl, plus-mono, times-mono, plus-assoc', times-plus, times-plus', plus-swap, plus-times, plus-times'}
+use Rattle.bz_laws.proofs.Fractions.{AtMost-trans, AtMost-refl, plus-mono, times-mono, plus-assoc', times-plus', plus-swap, plus-times, plus-times'}
 use Rattle.bz_laws.proofs.Samples.{below-either, below-along, BelowBy-weaker, scaled_ge}
 
 data Every {A : Type 0} (P : A → Type 0) : List A → Type 0 where

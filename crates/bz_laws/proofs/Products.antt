@@ -3,7 +3,7 @@ use Rattle.std.proofs.Common.{◌≡◌, ℕ, max, List, [], ◌∷◌, arith, r
 use Rattle.std.specs.List.{AllByRecursion}
 use Rattle.std.proofs.Math.Nat.{le-max_left, le-max_right}
 use native.Mathlib.Decide.{ℕ_discrete}
-use Rattle.bz_model.specs.Fraction.{Fraction, AtMost, times, whole}
+use Rattle.bz_model.specs.Fraction.{Fraction, AtMost, times}
 use Rattle.bz_model.specs.Spec.{Spec, Node, Range, node_at, range_at}
 use Rattle.bz_model.specs.Object.{Object, Objects, none, more, Has, HaveEach, ClassHas, Belongs, Object-discrete}
 use Rattle.bz_model.specs.Measures.{weight, weights}
@@ -11,7 +11,6 @@ use Rattle.bz_model.specs.Totals.{AboveBy, BelowBy, Above, Below}
 use Rattle.bz_laws.specs.Terms.{product_by}
 use Rattle.bz_laws.proofs.Fractions.{AtMost-refl}
 use Rattle.bz_laws.proofs.Samples.{AllByRecursion-weaker, AboveBy-weaker, BelowBy-weaker, above-one, below-one, above-along, below-along}
-use Rattle.bz_laws.proofs.Bounds.{below-lower, above-higher}
 use Rattle.bz_laws.proofs.Pairs.{above-pairs, below-pairs, pair_weight, pair_path}
 use Rattle.bz_laws.proofs.Heights.{each-mono, class-up_to, within-up_to}
 use Rattle.bz_laws.proofs.Nodes.{HasAt, ClassBelongs, known, unknown, belongs-has, belongs-of, above-has, below-has}

@@ -1,14 +1,12 @@
 -- A finite list of objects has a greatest height, so a bound at each height is a bound, and what is reached is reached at some height.
-use Rattle.std.proofs.Common.{◌≡◌, ℕ, zero, suc, ◌≤◌, max, List, [], ◌∷◌, arith, refl, subst, Option, Some, None}
+use Rattle.std.proofs.Common.{◌≡◌, ℕ, zero, suc, max, List, [], ◌∷◌, arith, refl, subst, Option, Some, None}
 use Rattle.std.specs.List.{AllByRecursion}
 use Rattle.std.proofs.Math.Nat.{le-max_left, le-max_right}
-use Rattle.bz_model.specs.Fraction.{Fraction, AtMost}
-use Rattle.bz_model.specs.Spec.{Spec, node_of, range_of, body_of}
+use Rattle.bz_model.specs.Fraction.{Fraction}
+use Rattle.bz_model.specs.Spec.{Spec, body_of}
 use Rattle.bz_model.specs.Object.{Object, ClassHas, HasWithin, Belongs}
-use Rattle.bz_model.specs.Measures.{weight}
 use Rattle.bz_model.specs.Totals.{AboveBy, BelowBy, Above, Below}
 use Rattle.bz_laws.proofs.Samples.{AllByRecursion-weaker, AboveBy-weaker, BelowBy-weaker, above-none}
-use Rattle.bz_laws.proofs.Bounds.{above-higher}
 use Rattle.bz_laws.proofs.Heights.{within-up_to}
 use Rattle.bz_laws.proofs.Nodes.{ClassBelongs}
 use Rattle.bz_laws.proofs.Leaves.{class-body, body-class}

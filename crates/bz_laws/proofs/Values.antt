@@ -1,12 +1,10 @@
 -- Numbers that cover the nodes bound them from above, and numbers that are reached from below, for any meaning of classes.
-use Rattle.std.proofs.Common.{◌≡◌, ℕ, zero, suc, ◌-◌, ◌<◌, ◌≤◌, List, [], ◌∷◌, length, arith, refl, sym, subst, Option, Some, None}
+use Rattle.std.proofs.Common.{◌≡◌, ℕ, zero, suc, ◌-◌, ◌<◌, ◌≤◌, List, [], ◌∷◌, length, arith, refl, subst, Option, Some, None}
 use Rattle.std.specs.Prelude.{slice_get}
-use Rattle.std.specs.List.{AllByRecursion}
 use Rattle.std.proofs.Math.Decide.{dec_le}
 use Rattle.bz_model.specs.Fraction.{Fraction, AtMost, whole}
 use Rattle.bz_model.specs.Spec.{Spec, Node, Range, node_at, range_at, body_of, IsInRange}
 use Rattle.bz_model.specs.Object.{Object, Objects, Has, ClassHas, HasWithin, Belongs}
-use Rattle.bz_model.specs.Measures.{weight}
 use Rattle.bz_model.specs.Totals.{Above, Below, total_by}
 use Rattle.bz_model.specs.Ideal.{option_of}
 use Rattle.bz_model.specs.Making.{IsCounted}

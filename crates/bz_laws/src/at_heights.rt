@@ -23,8 +23,8 @@ pub fn a_finite_list_has_a_greatest_height()
 
 /// A bound at each height is a bound, and what is reached is reached at some height.
 pub fn bounds_at_each_height_are_bounds()
-    ensures above { (s : Spec) (x f : Fraction) (e : ℕ) → ((h : ℕ)
-        → Above x f (HasWithin s h (Some e))) → Above x f (Belongs s e) }
+    ensures above { (s : Spec) (x f : Fraction) (e : ℕ)
+        → ((h : ℕ) → Above x f (HasWithin s h (Some e))) → Above x f (Belongs s e) }
     ensures below { (s : Spec) (x f : Fraction) (e : ℕ) → Below x f (Belongs s e) →
         (h : ℕ) × Below x f (HasWithin s h (Some e)) }
 {}

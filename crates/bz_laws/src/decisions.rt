@@ -71,10 +71,10 @@ pub fn the_low_is_the_first_option()
         → range_at s e ≡ Some (record { low = low; high = high })
         → Above x (units F hi) (Belongs s e) → Below x (units F lo) (Upto s e low)
         → suc k * hi ≤ 2 ^ b * lo → IsInCell k b u → IsIdealOption s x u e low }
-    ensures only { (s : Spec) (x u : Fraction) (e part low : ℕ) (node : Node) (form : Objects
-        → Object) (o : Object) → node_at s e ≡ Some node → IsCounted node part form
-        → range_at s e ≡ Some (record { low = low; high = Some low }) → Belongs s part o
-        → IsIdealOption s x u e low }
+    ensures only { (s : Spec) (x u : Fraction) (e part low : ℕ) (node : Node)
+        (form : Objects → Object) (o : Object) → node_at s e ≡ Some node
+        → IsCounted node part form → range_at s e ≡ Some (record { low = low; high = Some low })
+        → Belongs s part o → IsIdealOption s x u e low }
     ensures over { (s : Spec) (x u : Fraction) (e part low room i : ℕ) (high : Option ℕ)
         (node : Node) (form : Objects → Object) → node_at s e ≡ Some node
         → IsCounted node part form → range_at s e ≡ Some (record { low = low; high = high })

@@ -72,12 +72,12 @@ pub fn products_are_bounded_by_their_parts()
 /// The objects of exactly k parts are bounded by the k-th power of the part's bound, times the
 /// share of k parts: 1 at a sequence, 1/k! at a set, 1/k at a cycle.
 pub fn counted_nodes_are_bounded_by_powers()
-    ensures above { (s : Spec) (x a : Fraction) (e part k : ℕ) (node : Node) (form : Objects
-        → Object) → node_at s e ≡ Some node → IsCounted node part form
+    ensures above { (s : Spec) (x a : Fraction) (e part k : ℕ) (node : Node)
+        (form : Objects → Object) → node_at s e ≡ Some node → IsCounted node part form
         → Above x a (Belongs s part)
         → Above x (term node a k) (λ o. Belongs s e o × (option_of o ≡ k)) }
-    ensures below { (s : Spec) (x a : Fraction) (e part k : ℕ) (node : Node) (form : Objects
-        → Object) → node_at s e ≡ Some node → IsCounted node part form
+    ensures below { (s : Spec) (x a : Fraction) (e part k : ℕ) (node : Node)
+        (form : Objects → Object) → node_at s e ≡ Some node → IsCounted node part form
         → IsInRange k (range_at s e) → Below x a (Belongs s part)
         → Below x (term node a k) (λ o. Belongs s e o × (option_of o ≡ k)) }
 {}
@@ -109,25 +109,26 @@ pub fn counted_nodes_with_a_high_are_bounded_by_a_sum()
         → Below x (sum_from (term node a) low (suc high - low)) (Belongs s e) }
 {}
 
-/// What no sum of terms from low on exceeds bounds a sequence, set or cycle, with a high or without.
-/// Without a high each such sum is reached.
+/// What no sum of terms from low on exceeds bounds a sequence, set or cycle, with a high or
+/// without. Without a high each such sum is reached.
 pub fn counted_nodes_are_bounded_by_all_sums()
     ensures above { (s : Spec) (x a f : Fraction) (e part low : ℕ) (high : Option ℕ) (node : Node)
         (form : Objects → Object) → node_at s e ≡ Some node → IsCounted node part form
-        → range_at s e ≡ Some (record { low = low; high = high }) → ((n : ℕ)
-        → AtMost (sum_from (term node a) low n) f) → Above x a (Belongs s part)
+        → range_at s e ≡ Some (record { low = low; high = high })
+        → ((n : ℕ) → AtMost (sum_from (term node a) low n) f) → Above x a (Belongs s part)
         → Above x f (Belongs s e) }
-    ensures below { (s : Spec) (x a : Fraction) (e part low n : ℕ) (node : Node) (form : Objects
-        → Object) → node_at s e ≡ Some node → IsCounted node part form
+    ensures below { (s : Spec) (x a : Fraction) (e part low n : ℕ) (node : Node)
+        (form : Objects → Object) → node_at s e ≡ Some node → IsCounted node part form
         → range_at s e ≡ Some (record { low = low; high = None }) → Below x a (Belongs s part)
         → Below x (sum_from (term node a) low n) (Belongs s e) }
 {}
 
 /// Up to an option below its low a sequence, set or cycle has nothing, so every number bounds it.
 pub fn nothing_is_up_to_an_option_below_the_low()
-    ensures none { (s : Spec) (e part low i : ℕ) (high : Option ℕ) (node : Node) (form : Objects
-        → Object) (o : Object) → node_at s e ≡ Some node → IsCounted node part form
-        → range_at s e ≡ Some (record { low = low; high = high }) → i < low → ¬ (Upto s e i o) }
+    ensures none { (s : Spec) (e part low i : ℕ) (high : Option ℕ) (node : Node)
+        (form : Objects → Object) (o : Object) → node_at s e ≡ Some node
+        → IsCounted node part form → range_at s e ≡ Some (record { low = low; high = high })
+        → i < low → ¬ (Upto s e i o) }
     ensures above { (s : Spec) (x f : Fraction) (e part low i : ℕ) (high : Option ℕ) (node : Node)
         (form : Objects → Object) → node_at s e ≡ Some node → IsCounted node part form
         → range_at s e ≡ Some (record { low = low; high = high }) → i < low

@@ -12,12 +12,13 @@ ghost use Rattle.bz_laws.specs.Values.{Covers, AreReached};
 /// nodes' objects. By height: of one height more; and of height 0 whatever the entries are.
 pub fn numbers_that_cover_the_nodes_bound_them()
     ensures belongs { (s : Spec) (x : Fraction) (entry value : ℕ → Fraction) → IsLaidOut s
-        → Covers s x entry value → ((c body : ℕ) → body_of s c ≡ Some body
-        → Above x (entry c) (Belongs s body)) → (e : ℕ) → Above x (value e) (Belongs s e) }
+        → Covers s x entry value
+        → ((c body : ℕ) → body_of s c ≡ Some body → Above x (entry c) (Belongs s body)) → (e : ℕ)
+        → Above x (value e) (Belongs s e) }
     ensures height { (s : Spec) (x : Fraction) (h : ℕ) (entry value : ℕ → Fraction) → IsLaidOut s
-        → Covers s x entry value → ((c body : ℕ) → body_of s c ≡ Some body
-        → Above x (entry c) (HasWithin s h (Some body))) → (e : ℕ)
-        → Above x (value e) (HasWithin s (suc h) (Some e)) }
+        → Covers s x entry value
+        → ((c body : ℕ) → body_of s c ≡ Some body → Above x (entry c) (HasWithin s h (Some body)))
+        → (e : ℕ) → Above x (value e) (HasWithin s (suc h) (Some e)) }
     ensures height_zero { (s : Spec) (x : Fraction) (entry value : ℕ → Fraction) → IsLaidOut s
         → Covers s x entry value → (e : ℕ) → Above x (value e) (HasWithin s 0 (Some e)) }
 {}
@@ -26,9 +27,9 @@ pub fn numbers_that_cover_the_nodes_bound_them()
 /// nodes are reached by the nodes' objects.
 pub fn numbers_that_the_nodes_reach_are_reached()
     ensures { (s : Spec) (x : Fraction) (entry value : ℕ → Fraction) → IsLaidOut s
-        → AreReached s x entry value → ((c body : ℕ) → body_of s c ≡ Some body
-        → Below x (entry c) (Belongs s body)) → (e : ℕ) → e < length s.nodes
-        → Below x (value e) (Belongs s e) }
+        → AreReached s x entry value
+        → ((c body : ℕ) → body_of s c ≡ Some body → Below x (entry c) (Belongs s body)) → (e : ℕ)
+        → e < length s.nodes → Below x (value e) (Belongs s e) }
 {}
 
 /// Post-fixed entries bound every total: where the numbers cover the nodes, and each class's entry
@@ -36,10 +37,11 @@ pub fn numbers_that_the_nodes_reach_are_reached()
 /// the height of the objects.
 pub fn post_fixed_entries_bound_every_total()
     ensures entries { (s : Spec) (x : Fraction) (entry value : ℕ → Fraction) → IsLaidOut s
-        → Covers s x entry value → ((c body : ℕ) → body_of s c ≡ Some body
-        → AtMost (value body) (entry c)) → (c body : ℕ) → body_of s c ≡ Some body
-        → Above x (entry c) (Belongs s body) }
+        → Covers s x entry value
+        → ((c body : ℕ) → body_of s c ≡ Some body → AtMost (value body) (entry c)) → (c body : ℕ)
+        → body_of s c ≡ Some body → Above x (entry c) (Belongs s body) }
     ensures values { (s : Spec) (x : Fraction) (entry value : ℕ → Fraction) → IsLaidOut s
-        → Covers s x entry value → ((c body : ℕ) → body_of s c ≡ Some body
-        → AtMost (value body) (entry c)) → (e : ℕ) → Above x (value e) (Belongs s e) }
+        → Covers s x entry value
+        → ((c body : ℕ) → body_of s c ≡ Some body → AtMost (value body) (entry c)) → (e : ℕ)
+        → Above x (value e) (Belongs s e) }
 {}

@@ -25,9 +25,10 @@ pub fn weights_are_positive()
 /// Where each class has an object, each node of a sound specification has one, so that each upper
 /// bound of a node is above 0.
 pub fn every_node_has_an_object()
-    ensures object { (s : Spec) (e : ℕ) → IsLaidOut s → ((c body : ℕ) → body_of s c ≡ Some body →
-        (o : Object) × Belongs s body o) → e < length s.nodes → (o : Object) × Belongs s e o }
-    ensures above { (s : Spec) (x f : Fraction) (e : ℕ) → IsLaidOut s → ((c body : ℕ)
-        → body_of s c ≡ Some body → (o : Object) × Belongs s body o) → e < length s.nodes
-        → 0 < x.num → Above x f (Belongs s e) → 0 < f.num }
+    ensures object { (s : Spec) (e : ℕ) → IsLaidOut s
+        → ((c body : ℕ) → body_of s c ≡ Some body → (o : Object) × Belongs s body o)
+        → e < length s.nodes → (o : Object) × Belongs s e o }
+    ensures above { (s : Spec) (x f : Fraction) (e : ℕ) → IsLaidOut s
+        → ((c body : ℕ) → body_of s c ≡ Some body → (o : Object) × Belongs s body o)
+        → e < length s.nodes → 0 < x.num → Above x f (Belongs s e) → 0 < f.num }
 {}

@@ -1,4 +1,4 @@
-//! Laws on lists of distinct objects and what they total. The tools that every bound is proved with.
+//! Laws on lists of distinct objects and what they total: the tools that every bound stands on.
 ghost use Rattle.std.specs.Prelude.{◌≡◌, ℕ, Bool, true, false, cond, List, [], ◌∷◌, ◌++◌, map};
 ghost use Rattle.std.specs.List.{AllByRecursion, filter};
 ghost use Rattle.bz_model.specs.Fraction.{Fraction, AtMost, plus, times};
@@ -35,10 +35,11 @@ pub fn lists_without_a_common_object_join()
 /// A map that is one-to-one on a list keeps it without repeats, and multiplies its total by what it
 /// multiplies each weight by.
 pub fn a_one_to_one_map_scales_the_total()
-    ensures distinct { (g : Object → Object) (os : List Object) → ((o p : Object) → IsOneOf os o
-        → IsOneOf os p → g o ≡ g p → o ≡ p) → IsDistinct os → IsDistinct (map g os) }
-    ensures total { (x factor : Fraction) (g : Object → Object) (os : List Object) → ((o : Object)
-        → IsOneOf os o → AreEqual (weight x (g o)) (times factor (weight x o)))
+    ensures distinct { (g : Object → Object) (os : List Object)
+        → ((o p : Object) → IsOneOf os o → IsOneOf os p → g o ≡ g p → o ≡ p) → IsDistinct os
+        → IsDistinct (map g os) }
+    ensures total { (x factor : Fraction) (g : Object → Object) (os : List Object)
+        → ((o : Object) → IsOneOf os o → AreEqual (weight x (g o)) (times factor (weight x o)))
         → AreEqual (total x (map g os)) (times factor (total x os)) }
 {}
 
