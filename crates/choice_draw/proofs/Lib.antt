@@ -1,0 +1,4 @@
+pub mod LeastPassing
+pub mod Choices
+pub mod SoundOptions
+pub mod WholeNumbers
