@@ -4,4 +4,6 @@
 //! the cell. No clause says that a cell is ever decided.
 #![tactic(auto)]
 
+mod cells;
+pub mod union;
 pub mod whole;

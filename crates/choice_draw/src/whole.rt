@@ -1,9 +1,10 @@
 //! Whole numbers below a number, drawn from bits.
-ghost use Rattle.std.specs.Prelude.{◌≡◌, ℕ, ◌^◌, ◌≤◌, IfSome, IfNone};
+ghost use Rattle.std.specs.Prelude.{◌≡◌, ℕ, ◌≤◌, IfSome, IfNone};
 ghost use Rattle.bz_model.specs.Cell.{IsCell};
 ghost use Rattle.choice_draw.specs.Decision.{whole_decision};
 ghost use Rattle.choice_draw.specs.Whole.{Decides};
 
+use crate::cells::power_of_two;
 use bz_model::cell::Cell;
 
 /// Which whole number below `m` every number of the cell gives, `floor(u * m)`.
@@ -25,11 +26,4 @@ pub fn decide_whole(cell: Cell, m: u64) -> Option<u64>
     } else {
         None
     }
-}
-
-fn power_of_two(b: u32) -> u128
-    requires { b ≤ 60 }
-    ensures exact { result ≡ 2 ^ b }
-{
-    1_u128 << b
 }
