@@ -11,3 +11,4 @@ pub mod Run
 pub mod Cell
 pub mod ObjectText
 pub mod Oracle
+pub mod Roomy

@@ -6,5 +6,6 @@
 #![tactic(auto)]
 
 pub mod cell;
+pub mod cells;
 pub mod oracle;
 pub mod steps;

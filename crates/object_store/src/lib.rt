@@ -1,0 +1,5 @@
+//! Shapes: objects as lists of tokens in preorder.
+#![tactic(auto)]
+
+pub mod shape;
+pub mod token;
