@@ -53,9 +53,7 @@ impl Shape {
         ensures spare { self.old.spare ≤ self.new.spare + 1 }
     {
         self.content.push(t)?;
-        if t == Token::Dot {
-            self.dots += 1;
-        }
+        self.dots += t.atoms();
         Ok(())
     }
 

@@ -1,4 +1,5 @@
 //! Tokens of a shape.
+ghost use Rattle.std.specs.Prelude.{◌≡◌};
 
 /// A node of an object's tree. Tuples and class references have none.
 #[derive(Clone, Copy, Debug, PartialEq, Eq)]
@@ -11,4 +12,18 @@ pub enum Token {
     Dot,
     /// A neutral object.
     Unit,
+}
+
+impl Token {
+    ghost use Rattle.object_store.specs.Tokens.{token_size};
+
+    /// The number of atoms that the token stands for: one for a dot, none for another.
+    pub fn atoms(self) -> u64
+        ensures { result ≡ token_size self }
+    {
+        match self {
+            Token::Dot => 1,
+            Token::Pick(_) | Token::Count(_) | Token::Unit => 0,
+        }
+    }
 }
