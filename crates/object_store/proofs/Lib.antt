@@ -1,2 +1,4 @@
 pub mod Sizes
 pub mod OneToOne
+pub mod NextToken
+pub mod Descent

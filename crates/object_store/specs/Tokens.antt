@@ -41,3 +41,15 @@ pub record IsOf (s : Spec) (c : ℕ) (tokens : List Token) : Type 0 where
   pub object : Object
   pub belongs : Belongs s body object
   pub spelled : tokens_of object ≡ tokens
+
+-- A list has one object of each of these nodes, in order.
+abbrev pub BelongEach : Spec → List ℕ → Objects → Type 0
+BelongEach s [] none = Unit {0}
+BelongEach s (e ∷ es) (more o os) = Belongs s e o × BelongEach s es os
+BelongEach s _ _ = ⊥
+
+-- The tokens are those of one object of each of these nodes, one object after the other.
+pub record AreOf (s : Spec) (es : List ℕ) (tokens : List Token) : Type 0 where
+  pub objects : Objects
+  pub belong : BelongEach s es objects
+  pub spelled : tokens_all objects ≡ tokens
