@@ -8,7 +8,6 @@ use Rattle.bz_model.specs.Spec.{Spec, Node, node_at, range_at, node_of, range_of
 use Rattle.bz_model.specs.Object.{Object, Objects, none, more, Has, ClassHas, HasWithin, Belongs}
 use Rattle.bz_model.specs.Object.Object.{Unit_, Dot, Pick, Tuple, SeqOf, SetOf, CycOf}
 use Rattle.bz_model.specs.Measures.{tree_nodes, all_nodes}
-use Rattle.bz_laws.proofs.Leaves.{class-from-within, class-none-within}
 use Rattle.bz_laws.proofs.Nodes.{known}
 use Rattle.object_store.specs.declared.token.Token.{Token}
 use Rattle.object_store.specs.Tokens.{AreOf}
@@ -46,11 +45,11 @@ module _ (s : Spec) where
 
   -- a step down is to a smaller object
   step_down : {e f : ℕ} (m : ℕ) → StepsTo s e f → HasSmall s e (suc m) → HasSmall s f m
-  step_down {e} {f} m (StepsTo.body c at b) k = go k.height k.within k.small
+  step_down {e} {f} m (StepsTo.body c at b) k = go k.height (known s (ClassHas s k.height) e at k.object k.within) k.small
     where
-      go : (h : ℕ) → HasWithin s h (Some e) k.object → h + tree_nodes k.object ≤ suc m → HasSmall s f m
-      go zero w l = absurd (class-none-within s e c at k.object w)
-      go (suc h) w l = record { height = h; object = k.object; within = class-from-within s h e c f at b k.object w; small = omega arith }
+      go : (h : ℕ) → ClassHas s h c k.object → h + tree_nodes k.object ≤ suc m → HasSmall s f m
+      go zero w l = elim w [ ]
+      go (suc h) w l = record { height = h; object = k.object; within = subst (λ n. Has s (ClassHas s h) (node_of s n) (range_of s n) k.object) b w; small = omega arith }
   step_down {e} {f} m (StepsTo.part parts at) k = go k.object (known s (ClassHas s k.height) e at k.object k.within) k.small
     where
       go : (o : Object) → Has s (ClassHas s k.height) (Some (Node.Product (f ∷ parts))) (range_at s e) o → k.height + tree_nodes o ≤ suc m → HasSmall s f m
