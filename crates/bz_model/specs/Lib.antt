@@ -13,3 +13,4 @@ pub mod ObjectText
 pub mod Oracle
 pub mod Number
 pub mod FractionRead
+pub mod Roomy

@@ -8,5 +8,6 @@
 pub mod cell;
 pub mod fraction;
 pub mod number;
+pub mod cells;
 pub mod oracle;
 pub mod steps;

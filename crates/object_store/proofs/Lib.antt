@@ -1,0 +1,5 @@
+pub mod Sizes
+pub mod OneToOne
+pub mod Unrolled
+pub mod NextToken
+pub mod Descent

@@ -1,0 +1,112 @@
+//! Nodes that wait to be visited, with spare room.
+ghost use Rattle.std.specs.Prelude.{◌≡◌, ◌+◌, ◌<◌, ◌≤◌, [], ◌∷◌, ◌++◌, map, length, replicate, option_map, option_to_list, IsOk, OnOk, OnErr, slice_get, IsTrue, ◌↔◌};
+ghost use Rattle.class_system.specs.Views.{number};
+
+use class_system::ids::ExprId;
+use std::alloc::{AllocError, Global};
+use std::marker::Model;
+
+/// A node so many times in a row.
+#[derive(Clone, Copy, Debug)]
+pub struct Run {
+    pub node: ExprId,
+    pub times: u32,
+}
+
+/// The numbers of the nodes that wait, the next one first, and how many more runs of equal nodes
+/// may be put in front without a refusal.
+///
+/// A node that waits a million times takes the memory of one.
+#[derive(Drop)]
+pub struct Pending {
+    runs: Vec<Run>,
+}
+
+impl Model for Pending {
+    ghost use Rattle.std.specs.Prelude.{ℕ, ◌-◌, vec_len, vec_capacity};
+    ghost use Rattle.bz_model.specs.Roomy.{Roomy};
+    ghost use Rattle.object_store.specs.Runs.{unrolled, HaveSome};
+
+    ghost Value = { Roomy ℕ };
+
+    ghost view = { λ p. record { items = unrolled p.runs.items; spare = vec_capacity p.runs - vec_len p.runs } };
+
+    ghost invariant = { λ p. HaveSome p.runs.items };
+}
+
+impl Pending {
+    /// Nothing waits.
+    pub fn new(alloc: Global) -> Pending
+        ensures { result.items ≡ [] }
+    {
+        Pending {
+            runs: Vec::new(alloc),
+        }
+    }
+
+    /// Takes memory for at least `more` further runs. What waits stays as it was in any case.
+    pub fn reserve(&mut self, more: usize) -> Result<(), AllocError>
+        ensures items { self.new.items ≡ self.old.items }
+        ensures spare { OnOk result (more ≤ self.new.spare) }
+    {
+        self.runs.reserve(more)
+    }
+
+    /// Forgets all that waits. Gives no memory back.
+    pub fn clear(&mut self)
+        ensures { self.new.items ≡ [] }
+    {
+        self.runs.clear();
+    }
+
+    /// The next node; None exactly where nothing waits. Takes no memory.
+    pub fn first(&self) -> Option<ExprId>
+        ensures { option_map number result ≡ slice_get self.now.items 0 }
+    {
+        let run = self.runs.last()?;
+        Some(run.node)
+    }
+
+    /// Takes the next node; None exactly where nothing waits. Takes no memory.
+    pub fn pop(&mut self) -> Option<ExprId>
+        ensures items { self.old.items ≡ option_to_list (option_map number result) ++ self.new.items }
+        ensures spare { self.old.spare ≤ self.new.spare }
+    {
+        let Run { node, times } = self.runs.pop()?;
+        if times > 1 {
+            self.runs.push_reserved(Run {
+                node,
+                times: times - 1,
+            });
+        }
+        Some(node)
+    }
+
+    /// Puts a node in front, so many times.
+    ///
+    /// A refusal leaves what waits as it was, and none comes where there is spare room.
+    pub fn push(&mut self, node: ExprId, times: u32) -> Result<(), AllocError>
+        ensures ok { OnOk result (self.new.items ≡ replicate times node.0 ++ self.old.items) }
+        ensures err { OnErr result (self.new.items ≡ self.old.items) }
+        ensures room { 0 < self.old.spare → IsOk result }
+        ensures spare { self.old.spare ≤ self.new.spare + 1 }
+    {
+        if times > 0 {
+            self.runs.push(Run { node, times })?;
+        }
+        Ok(())
+    }
+
+    /// Puts nodes in front, in their order.
+    ///
+    /// A refusal may leave some of them there, and none comes where there is spare room for each.
+    pub fn push_all(&mut self, nodes: &[ExprId]) -> Result<(), AllocError>
+        ensures ok { OnOk result (self.new.items ≡ map number nodes.now ++ self.old.items) }
+        ensures room { length nodes.now ≤ self.old.spare → IsOk result }
+    {
+        for i in (0..nodes.len()).rev() {
+            self.push(nodes[i], 1)?;
+        }
+        Ok(())
+    }
+}

@@ -1,0 +1,73 @@
+//! Shapes: lists of tokens in preorder, with spare room.
+ghost use Rattle.std.specs.Prelude.{◌≡◌, ◌+◌, ◌<◌, ◌≤◌, [], ◌∷◌, ◌++◌, IsOk, OnOk, OnErr};
+ghost use Rattle.object_store.specs.Tokens.{size_of};
+
+use crate::token::Token;
+use std::alloc::{AllocError, Global};
+use std::marker::Model;
+
+/// A list of tokens, seen as its items and how many more may be pushed without a refusal.
+#[derive(Drop)]
+pub struct Shape {
+    content: Vec<Token>,
+    dots: u64,
+}
+
+impl Model for Shape {
+    ghost use Rattle.std.specs.Prelude.{◌≡◌, ◌-◌, vec_len, vec_capacity};
+    ghost use Rattle.bz_model.specs.Roomy.{Roomy};
+    ghost use Rattle.object_store.specs.declared.token.Token.{Token};
+    ghost use Rattle.object_store.specs.Tokens.{size_of};
+
+    ghost Value = { Roomy Token };
+
+    ghost view = { λ s. record { items = s.content.items; spare = vec_capacity s.content - vec_len s.content } };
+
+    ghost invariant = { λ s. s.dots ≡ size_of s.content.items };
+}
+
+impl Shape {
+    /// The empty list.
+    pub fn new(alloc: Global) -> Shape
+        ensures { result.items ≡ [] }
+    {
+        Shape {
+            content: Vec::new(alloc),
+            dots: 0,
+        }
+    }
+
+    /// Takes memory for at least `more` further tokens. The list stays as it was in any case.
+    pub fn reserve(&mut self, more: usize) -> Result<(), AllocError>
+        ensures items { self.new.items ≡ self.old.items }
+        ensures spare { OnOk result (more ≤ self.new.spare) }
+    {
+        self.content.reserve(more)
+    }
+
+    /// Appends a token. A refusal leaves the list as it was, and none comes where there is spare room.
+    pub fn push(&mut self, t: Token) -> Result<(), AllocError>
+        ensures ok { OnOk result (self.new.items ≡ self.old.items ++ t ∷ []) }
+        ensures err { OnErr result (self.new.items ≡ self.old.items) }
+        ensures room { 0 < self.old.spare → IsOk result }
+        ensures spare { self.old.spare ≤ self.new.spare + 1 }
+    {
+        self.content.push(t)?;
+        self.dots += t.atoms();
+        Ok(())
+    }
+
+    /// The number of atoms, which is the number of dots. Takes no memory and no walk.
+    pub fn size(&self) -> u64
+        ensures { result ≡ size_of self.now.items }
+    {
+        self.dots
+    }
+
+    /// The tokens in order. Takes no memory.
+    pub fn tokens(&self) -> &[Token]
+        ensures { result.now ≡ self.now.items }
+    {
+        self.content.as_slice()
+    }
+}
