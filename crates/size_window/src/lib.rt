@@ -1,0 +1,2 @@
+//! Drawings: attempts within a window of sizes, turn by turn.
+#![tactic(auto)]
