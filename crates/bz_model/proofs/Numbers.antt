@@ -74,6 +74,11 @@ long : (a b : List ℕ) → length a < length (a ++ 47 ∷ b)
 long [] b = omega arith
 long (x ∷ a) b = let h = long a b in omega (arith, h)
 
+in-front : (a b : List ℕ) (k : ℕ) → k < length a → get_or (a ++ 47 ∷ b) k 0 ≡ get_or a k 0
+in-front [] b k h = absurd (omega arith)
+in-front (x ∷ a) b zero h = refl
+in-front (x ∷ a) b (suc k) h = in-front a b k (omega arith)
+
 -- a text without a stroke has not that form
 pub not-parted : (text : List ℕ) → ((k : ℕ) → k < length text → get_or text k 0 ≢ 47) → ¬ (HasFractionForm text)
 not-parted text nowhere form =
@@ -86,3 +91,13 @@ pub joined : (text : List ℕ) (i : ℕ) → i < length text → get_or text i 0
 joined [] i lt here = absurd (omega arith)
 joined (x ∷ text) zero lt here = ap (λ v. v ∷ text) here
 joined (x ∷ text) (suc i) lt here = rw (suc-plus_one i) (ap (λ r. x ∷ r) (joined text i (omega arith) here))
+
+-- a text has the form of a fraction in one way
+pub one-form : (text : List ℕ) (f g : HasFractionForm text) → (f.num ≡ g.num) × (f.den ≡ g.den)
+one-form text f g =
+    let lt : length f.num < length text = subst (λ t. length f.num < length t) (sym f.is) (long f.num f.den) in
+    let here : get_or text (length f.num) 0 ≡ 47 = subst (λ t. get_or t (length f.num) 0 ≡ 47) (sym f.is) (here-in f.num f.den) in
+    let before : (k : ℕ) → k < length f.num → get_or text k 0 ≢ 47 = λ k h. subst (λ t. get_or t k 0 ≢ 47) (sym f.is) (λ e. no_stroke f.num f.is_num k h (sym (in-front f.num f.den k h) ∙ e)) in
+    let p = parted text (length f.num) lt here before f in
+    let q = parted text (length f.num) lt here before g in
+    (p.num ∙ sym q.num, p.den ∙ sym q.den)

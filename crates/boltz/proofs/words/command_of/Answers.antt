@@ -1,0 +1,1 @@
+use Rattle.boltz.proofs.words.command_of.Goals as goal

@@ -1,0 +1,4 @@
+//! The top call: a command's words, its files and its output.
+#![tactic(auto)]
+
+pub mod words;
