@@ -1,4 +1,5 @@
 //! The top call: a command's words, its files and its output.
 #![tactic(auto)]
 
+pub mod lines;
 pub mod words;

@@ -1,0 +1,86 @@
+//! The lines that the program writes.
+ghost use Rattle.std.specs.Prelude.{◌≡◌, ◌++◌, IfOk, string_bytes};
+ghost use Rattle.boltz.specs.Lines.{header_lines, object_line, entry_lines, cells_line, cell_field, open_line, end_line, spec_end_line, feed};
+
+use bz_model::cell::{Bounds, Cell};
+use bz_model::fraction::Fraction;
+use std::alloc::{AllocError, Global};
+use std::fmt::Write;
+
+/// The lines before the first object.
+pub fn header(alloc: Global, x: Fraction) -> Result<String, AllocError>
+    ensures { IfOk result (λ text. string_bytes text ≡ header_lines x.num x.den) }
+{
+    let num = x.num;
+    let den = x.den;
+    format!(in alloc; "boltzmann 1\nmode unlabelled\nx {num}/{den}\nfraction 48\nwindow 0 1000\n")
+}
+
+/// The lines of a kept object with this text.
+pub fn entry(
+    alloc: Global,
+    number: u64,
+    place: u64,
+    size: u64,
+    text: &[u8],
+    cells: &[Cell],
+) -> Result<Vec<u8>, AllocError>
+    ensures { IfOk result (λ lines. lines.items ≡ entry_lines number place size text.now cells.now) }
+{
+    let head = format!(in alloc; "object {number} at {place} size {size}\ntext ")?;
+    let tail = cells_of(alloc, cells)?;
+    let mut lines = Vec::new(alloc);
+    lines.extend_from_slice(head.as_bytes())?;
+    lines.extend_from_slice(text)?;
+    lines.extend_from_slice(tail.as_bytes())?;
+    Ok(lines)
+}
+
+/// The end of the text's line, and the line of the cells.
+fn cells_of(alloc: Global, cells: &[Cell]) -> Result<String, AllocError>
+    ensures { IfOk result (λ text. string_bytes text ≡ feed ++ cells_line cells.now) }
+{
+    let mut line = format!(in alloc; "\ncells")?;
+    for cell in cells {
+        let k = cell.k;
+        let b = cell.b;
+        write!(line, " {k}/{b}")?;
+    }
+    line.push_str("\n")?;
+    Ok(line)
+}
+
+/// The line of a number that 60 bits leave open at a node.
+pub fn open_number(
+    alloc: Global,
+    node: u32,
+    cell: Cell,
+    bounds: Bounds,
+) -> Result<String, AllocError>
+    ensures { IfOk result (λ text. string_bytes text ≡ open_line node cell bounds) }
+{
+    let (k, b) = (cell.k, cell.b);
+    let (lo, hi) = (bounds.lo, bounds.hi);
+    format!(in alloc; "undecided node {node} cell {k}/{b} within {lo} {hi}\n")
+}
+
+/// The last line of a drawing that ended with this word.
+pub fn end(
+    alloc: Global,
+    word: &str,
+    kept: u64,
+    thrown: u64,
+    bits: u64,
+    turns: u64,
+) -> Result<String, AllocError>
+    ensures { IfOk result (λ text. string_bytes text ≡ end_line word.now kept thrown bits turns) }
+{
+    format!(in alloc; "end {word} kept {kept} thrown {thrown} bits {bits} turns {turns}\n")
+}
+
+/// The last line after a specification's canonical text.
+pub fn spec_end(alloc: Global, classes: u32, nodes: u32) -> Result<String, AllocError>
+    ensures { IfOk result (λ text. string_bytes text ≡ spec_end_line classes nodes) }
+{
+    format!(in alloc; "end done classes {classes} nodes {nodes}\n")
+}
