@@ -4,3 +4,4 @@ pub mod Results
 pub mod Depths
 pub mod Soundness
 pub mod Texts
+pub mod Growth
