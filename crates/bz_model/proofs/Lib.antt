@@ -1,0 +1,4 @@
+pub mod Rows
+mod Examples
+mod Written
+mod Chosen
