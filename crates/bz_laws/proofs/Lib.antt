@@ -22,5 +22,6 @@ pub mod Outcomes
 pub mod Texts
 pub mod Counted
 pub mod Runs
+pub mod Readings
 pub mod First
 pub mod Rooms

@@ -15,4 +15,5 @@ pub mod making;
 pub mod node_values;
 pub mod object_texts;
 pub mod objects;
+pub mod order;
 pub mod totals;
