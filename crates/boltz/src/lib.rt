@@ -1,5 +1,6 @@
 //! The top call: a command's words, its files and its output.
 #![tactic(auto)]
 
+pub mod first_form;
 pub mod lines;
 pub mod words;
