@@ -1,0 +1,16 @@
+pub mod Fractions
+pub mod Terms
+pub mod Tails
+pub mod Geometric
+pub mod Values
+pub mod Growth
+pub mod Rules
+pub mod Monotone
+pub mod LogarithmMonotone
+pub mod Lists
+pub mod PartsGrow
+pub mod Fitting
+pub mod Running
+pub mod Halves
+pub mod Steps
+pub mod Ends

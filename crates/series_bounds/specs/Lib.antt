@@ -1,0 +1,4 @@
+pub mod Series
+pub mod ExactSums
+pub mod Lists
+pub mod Running
