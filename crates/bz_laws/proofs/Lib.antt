@@ -26,3 +26,4 @@ pub mod Runs
 pub mod Readings
 pub mod First
 pub mod Rooms
+pub mod Pending

@@ -1,7 +1,7 @@
 -- Sweeps: lower ones from zero are reached, upper ones keep bounds from above.
-use Rattle.std.proofs.Common.{◌≡◌, ℕ, zero, suc, ◌<◌, min, max, [], arith, sym, subst, length, Some}
-use Rattle.bz_model.specs.Fraction.{Fraction, AtMost, units, whole}
-use Rattle.bz_model.specs.Spec.{Spec, Node, node_at, body_of}
+use Rattle.std.proofs.Common.{◌≡◌, ℕ, zero, suc, ◌<◌, min, max, arith, sym, subst, length, Some}
+use Rattle.bz_model.specs.Fraction.{Fraction, units, whole}
+use Rattle.bz_model.specs.Spec.{Spec, body_of}
 use Rattle.bz_model.specs.Object.{Object, Belongs}
 use Rattle.bz_model.specs.Totals.{Above, Below}
 use Rattle.bz_laws.specs.Sound.{IsLaidOut}
