@@ -6,4 +6,4 @@ pub returns-clause-zero : goal.returns-clause-zero
 returns-clause-zero c = λ s x F e. below-zero x F (Belongs s e)
 
 pub returns-clause-swept : goal.returns-clause-swept
-returns-clause-swept c = λ s x F entry value sound bodies first reach next n k body at. lower-swept s sound bodies x F entry value first reach next n k body at
+returns-clause-swept c = λ s x F entry value sound sweeps n k body at. lower-swept s sound x F entry value sweeps n k body at
