@@ -241,3 +241,7 @@ high-greatest s e part low high node form at c range le o b =
 -- an option below the low is no object's
 pub not-below-low : (s : Spec) (e part low : ℕ) (high : Option ℕ) (node : Node) (form : Objects → Object) → node_at s e ≡ Some node → IsCounted node part form → range_at s e ≡ Some (record { low = low; high = high }) → (o : Object) → Belongs s e o → low ≤ option_of o
 not-below-low s e part low high node form at c ranged o b = (in-range s (ClassHas s b.0) (whole 1) (whole 1) part e node form at c low high ranged o b.1).0
+
+-- the option of a counted node's object lies in the range
+pub option-ranged : (s : Spec) (e part : ℕ) (node : Node) (form : Objects → Object) → node_at s e ≡ Some node → IsCounted node part form → (o : Object) → Belongs s e o → IsInRange (option_of o) (range_at s e)
+option-ranged s e part node form at c o b = counted-range s (ClassHas s b.0) node part form (range_at s e) o c (known s (ClassHas s b.0) e at o b.1)

@@ -14,6 +14,7 @@ pub mod Leaves
 pub mod Tallest
 pub mod Lists
 pub mod Values
+pub mod Sweeps
 pub mod Inhabited
 pub mod Products
 pub mod Makings
@@ -25,3 +26,4 @@ pub mod Runs
 pub mod Readings
 pub mod First
 pub mod Rooms
+pub mod Pending

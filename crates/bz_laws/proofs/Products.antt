@@ -9,6 +9,7 @@ use Rattle.bz_model.specs.Object.{Object, Objects, none, more, Has, HaveEach, Cl
 use Rattle.bz_model.specs.Measures.{weight, weights}
 use Rattle.bz_model.specs.Totals.{AboveBy, BelowBy, Above, Below}
 use Rattle.bz_laws.specs.Terms.{product_by}
+use Rattle.bz_laws.specs.Parts.{head, tail}
 use Rattle.bz_laws.proofs.Fractions.{AtMost-refl}
 use Rattle.bz_laws.proofs.Samples.{AllByRecursion-weaker, AboveBy-weaker, BelowBy-weaker, above-one, below-one, above-along, below-along}
 use Rattle.bz_laws.proofs.Pairs.{above-pairs, below-pairs, pair_weight, pair_path}
@@ -19,14 +20,6 @@ use Rattle.bz_laws.proofs.Nodes.{HasAt, ClassBelongs, known, unknown, belongs-ha
 abbrev pub parts_of : Object → Objects
 parts_of (Object.Tuple os) = os
 parts_of _ = none
-
-abbrev pub head : Objects → Object
-head none = Object.Unit_
-head (more o os) = o
-
-abbrev pub tail : Objects → Objects
-tail none = none
-tail (more o os) = os
 
 module _ (s : Spec) (R : ℕ → Object → Type 0) where
   pub has-product : (parts : List ℕ) (r : Option Range) (o : Object) → Has s R (Some (Node.Product parts)) r o → (o ≡ Object.Tuple (parts_of o)) × HaveEach s R parts (parts_of o)

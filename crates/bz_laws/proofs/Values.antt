@@ -1,6 +1,6 @@
 -- Numbers that cover the nodes bound them from above, and numbers that are reached from below, for any meaning of classes.
 use Rattle.std.proofs.Common.{◌≡◌, ℕ, zero, suc, ◌-◌, ◌<◌, ◌≤◌, List, [], ◌∷◌, length, arith, refl, subst, Option, Some, None}
-use Rattle.std.specs.Prelude.{slice_get}
+use Rattle.std.specs.Prelude.{slice_get, Bool, IsTrue}
 use Rattle.std.proofs.Math.Decide.{dec_le}
 use Rattle.bz_model.specs.Fraction.{Fraction, AtMost, whole}
 use Rattle.bz_model.specs.Spec.{Spec, Node, Range, node_at, range_at, body_of, IsInRange}
@@ -11,7 +11,7 @@ use Rattle.bz_model.specs.Making.{IsCounted}
 use Rattle.bz_laws.specs.Terms.{term, sum_from, product_by}
 use Rattle.bz_laws.specs.Sound.{EachPart}
 use Rattle.bz_laws.specs.Values.{CoversTerms, CoversRange, CoversNode, Covers, IsReachedByTerms, IsReachedInRange, IsReachedByNode, AreReached}
-use Rattle.bz_laws.proofs.Samples.{AllByRecursion-weaker, above-none, below-none}
+use Rattle.bz_laws.proofs.Samples.{AllByRecursion-weaker, AllByRecursion-both, above-none, below-none}
 use Rattle.bz_laws.proofs.Bounds.{above-higher, below-lower}
 use Rattle.bz_laws.proofs.Nodes.{HasAt, ClassBelongs, known, above-of, below-of}
 use Rattle.bz_laws.proofs.Leaves.{above-atom-at, below-atom-at, above-empty-at, below-empty-at, above-class-at, below-class-at}
@@ -83,6 +83,17 @@ each_part-weaker f (Node.Empty word) h = tt
 each_part-weaker f (Node.Atom word) h = tt
 each_part-weaker f (Node.Class c) h = tt
 
+-- two properties of parts that give a third
+pub each_part-both : {P Q S : ℕ → Type 0} → ((p : ℕ) → P p → Q p → S p) → (node : Node) → EachPart P node → EachPart Q node → EachPart S node
+each_part-both {P} {Q} f (Node.Union parts) h k = AllByRecursion-weaker (λ p both. f p both.0 both.1) parts (AllByRecursion-both P Q parts h k)
+each_part-both {P} {Q} f (Node.Product parts) h k = AllByRecursion-weaker (λ p both. f p both.0 both.1) parts (AllByRecursion-both P Q parts h k)
+each_part-both f (Node.Seq part) h k = f part h k
+each_part-both f (Node.Set part) h k = f part h k
+each_part-both f (Node.Cyc part) h k = f part h k
+each_part-both f (Node.Empty word) h k = tt
+each_part-both f (Node.Atom word) h k = tt
+each_part-both f (Node.Class c) h k = tt
+
 -- what each node has where its parts have it, all nodes have
 module _ (s : Spec) (below : (e : ℕ) (node : Node) → node_at s e ≡ Some node → EachPart (λ part. part < e) node) (P : ℕ → Type 0) (step : (e : ℕ) (node : Node) → node_at s e ≡ Some node → EachPart P node → P e) where
   there : (nodes : List Node) (e : ℕ) → e < length nodes → (node : Node) × (slice_get nodes e ≡ Some node)
@@ -105,40 +116,41 @@ missing (node ∷ nodes) zero le = absurd (omega arith)
 missing (node ∷ nodes) (suc e) le = missing nodes e (omega arith)
 
 module _ (s : Spec) (below : (e : ℕ) (node : Node) → node_at s e ≡ Some node → EachPart (λ part. part < e) node) (x : Fraction) (entry value : ℕ → Fraction) where
-  -- numbers that cover the nodes bound what they have, where the entries bound what the classes have
-  pub covers-above : (R : ℕ → Object → Type 0) → Covers s x entry value → ((c : ℕ) → Above x (entry c) (R c)) → (e : ℕ) → Above x (value e) (HasAt s R e)
-  covers-above R cover up e = go (dec_le (suc e) (length s.nodes))
+  -- numbers that cover their nodes bound what these have, where the entries bound what the classes have
+  pub covers-above : (R : ℕ → Object → Type 0) (told : ℕ → Bool) → Covers s x told entry value → ((c : ℕ) → Above x (entry c) (R c)) → (e : ℕ) → IsTrue (told e) → Above x (value e) (HasAt s R e)
+  covers-above R told cover up e yes_told = go (dec_le (suc e) (length s.nodes))
     where
       go : Dec (suc e ≤ length s.nodes) → Above x (value e) (HasAt s R e)
-      go (yes lt) = each-node s below (λ d. Above x (value d) (HasAt s R d)) (λ d node at parts. above-node s R x entry value d node at up parts (cover.node d node at)) e lt
+      go (yes lt) = each-node s below (λ d. IsTrue (told d) → Above x (value d) (HasAt s R d)) (λ d node at parts t. above-node s R x entry value d node at up (each_part-both (λ p h k. h k) node parts (cover.parts d node t at)) (cover.node d node t at)) e lt yes_told
       go (no ge) = above-none (λ o h. let none_there : Has s R None (range_at s e) o = subst (λ n. Has s R n (range_at s e) o) (missing s.nodes e (omega (arith, ge))) h in none_there)
 
   -- numbers that are reached by the nodes are reached by what they have, where the entries are by what the classes have
   pub reached-below : (R : ℕ → Object → Type 0) → AreReached s x entry value → ((e c : ℕ) → node_at s e ≡ Some (Node.Class c) → Below x (entry c) (R c)) → (e : ℕ) → e < length s.nodes → Below x (value e) (HasAt s R e)
   reached-below R reach down e lt = each-node s below (λ d. Below x (value d) (HasAt s R d)) (λ d node at parts. below-node s R x entry value d node at (λ c eq. down d c (subst (λ m. node_at s d ≡ Some m) eq at)) parts (reach.node d node at)) e lt
 
-  -- by height: with one reference more than the entries' objects
-  pub covers-height : Covers s x entry value → (h : ℕ) → ((c body : ℕ) → body_of s c ≡ Some body → Above x (entry c) (HasWithin s h (Some body))) → (e : ℕ) → Above x (value e) (HasWithin s (suc h) (Some e))
-  covers-height cover h up e = covers-above (ClassHas s (suc h)) cover (λ c. above-body s x (entry c) h c (up c)) e
-
-  -- and of height 0 whatever the entries are
-  pub covers-height_zero : Covers s x entry value → (e : ℕ) → Above x (value e) (HasWithin s 0 (Some e))
-  covers-height_zero cover e = covers-above (ClassHas s 0) cover (λ c. above-none (λ o k. k)) e
-
-  -- of whatever height
-  pub covers-belongs : Covers s x entry value → ((c body : ℕ) → body_of s c ≡ Some body → Above x (entry c) (Belongs s body)) → (e : ℕ) → Above x (value e) (Belongs s e)
-  covers-belongs cover up e = above-of s x e (covers-above (ClassBelongs s) cover (λ c. above-class-belongs s x (entry c) c (up c)) e)
-
   pub reached-belongs : AreReached s x entry value → ((e c : ℕ) → node_at s e ≡ Some (Node.Class c) → (body : ℕ) × (body_of s c ≡ Some body)) → ((c body : ℕ) → body_of s c ≡ Some body → Below x (entry c) (Belongs s body)) → (e : ℕ) → e < length s.nodes → Below x (value e) (Belongs s e)
   reached-belongs reach classes down e lt = below-of s x e (reached-below (ClassBelongs s) reach (λ d c at. let b = classes d c at in below-class-belongs s x c b.0 b.1 (down c b.0 b.1)) e lt)
 
-  -- entries that are at least their bodies' numbers bound every total
-  module _ (cover : Covers s x entry value) (post_fixed : (c body : ℕ) → body_of s c ≡ Some body → AtMost (value body) (entry c)) where
-    step : (h : ℕ) → ((c : ℕ) → Above x (entry c) (ClassHas s h c)) → (c body : ℕ) → body_of s c ≡ Some body → Above x (entry c) (HasWithin s h (Some body))
-    step h up c body at = above-higher x (value body) (entry c) (HasWithin s h (Some body)) (post_fixed c body at) (covers-above (ClassHas s h) cover up body)
+  module _ (told : ℕ → Bool) (cover : Covers s x told entry value) where
+    -- by height: with one reference more than the entries' objects
+    pub covers-height : (h : ℕ) → ((c body : ℕ) → body_of s c ≡ Some body → Above x (entry c) (HasWithin s h (Some body))) → (e : ℕ) → IsTrue (told e) → Above x (value e) (HasWithin s (suc h) (Some e))
+    covers-height h up e t = covers-above (ClassHas s (suc h)) told cover (λ c. above-body s x (entry c) h c (up c)) e t
 
-    pub post_fixed-entries : (c body : ℕ) → body_of s c ≡ Some body → Above x (entry c) (Belongs s body)
-    post_fixed-entries = entries-above s x entry step
+    -- and of height 0 whatever the entries are
+    pub covers-height_zero : (e : ℕ) → IsTrue (told e) → Above x (value e) (HasWithin s 0 (Some e))
+    covers-height_zero e t = covers-above (ClassHas s 0) told cover (λ c. above-none (λ o k. k)) e t
 
-    pub post_fixed-values : (e : ℕ) → Above x (value e) (Belongs s e)
-    post_fixed-values e = above-each-height s e (λ h. covers-above (ClassHas s h) cover (classes-above s x entry step h) e)
+    -- of whatever height
+    pub covers-belongs : ((c body : ℕ) → body_of s c ≡ Some body → Above x (entry c) (Belongs s body)) → (e : ℕ) → IsTrue (told e) → Above x (value e) (Belongs s e)
+    covers-belongs up e t = above-of s x e (covers-above (ClassBelongs s) told cover (λ c. above-class-belongs s x (entry c) c (up c)) e t)
+
+    -- entries that are at least their bodies' numbers bound every total
+    module _ (all_told : (c body : ℕ) → body_of s c ≡ Some body → IsTrue (told body)) (post_fixed : (c body : ℕ) → body_of s c ≡ Some body → AtMost (value body) (entry c)) where
+      step : (h : ℕ) → ((c : ℕ) → Above x (entry c) (ClassHas s h c)) → (c body : ℕ) → body_of s c ≡ Some body → Above x (entry c) (HasWithin s h (Some body))
+      step h up c body at = above-higher x (value body) (entry c) (HasWithin s h (Some body)) (post_fixed c body at) (covers-above (ClassHas s h) told cover up body (all_told c body at))
+
+      pub post_fixed-entries : (c body : ℕ) → body_of s c ≡ Some body → Above x (entry c) (Belongs s body)
+      post_fixed-entries = entries-above s x entry step
+
+      pub post_fixed-values : (e : ℕ) → IsTrue (told e) → Above x (value e) (Belongs s e)
+      post_fixed-values e t = above-each-height s e (λ h. covers-above (ClassHas s h) told cover (classes-above s x entry step h) e t)

@@ -4,3 +4,5 @@ pub mod Sound
 pub mod Values
 pub mod Orders
 pub mod Spelled
+pub mod Parts
+pub mod Pending

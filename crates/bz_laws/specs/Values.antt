@@ -1,9 +1,10 @@
 -- Numbers for the nodes, one for each, that cover or are reached by what the parts' numbers give.
-use Rattle.std.specs.Prelude.{◌≡◌, ℕ, suc, ◌-◌, Option, Some, None}
-use Rattle.bz_model.specs.Fraction.{Fraction, AtMost, whole}
-use Rattle.bz_model.specs.Spec.{Spec, Node, Range, node_at, range_at}
+use Rattle.std.specs.Prelude.{◌≡◌, ℕ, suc, ◌-◌, max, Bool, IsTrue, Option, Some, None}
+use Rattle.bz_model.specs.Fraction.{Fraction, AtMost, whole, units}
+use Rattle.bz_model.specs.Spec.{Spec, Node, Range, node_at, range_at, body_of}
 use Rattle.bz_model.specs.Totals.{total_by}
 use Rattle.bz_laws.specs.Terms.{term, sum_from, product_by}
+use Rattle.bz_laws.specs.Sound.{EachPart}
 
 -- A number covers the terms of a node from low on: without a high it is at least each sum of them, with a high at least the sum up to it.
 abbrev pub CoversTerms : Node → Fraction → (low : ℕ) → Option ℕ → Fraction → Type 0
@@ -46,10 +47,17 @@ IsReachedByNode x entry value (Node.Seq part) r v = IsReachedInRange (Node.Seq p
 IsReachedByNode x entry value (Node.Set part) r v = IsReachedInRange (Node.Set part) (value part) r v
 IsReachedByNode x entry value (Node.Cyc part) r v = IsReachedInRange (Node.Cyc part) (value part) r v
 
--- The numbers of the nodes cover them all.
-pub record Covers (s : Spec) (x : Fraction) (entry value : ℕ → Fraction) : Type 0 where
-  pub node : (e : ℕ) (node : Node) → node_at s e ≡ Some node → CoversNode x entry value node (range_at s e) (value e)
+-- The numbers that are told of some nodes cover these: with a node each of its parts has one, and the node's covers it.
+pub record Covers (s : Spec) (x : Fraction) (told : ℕ → Bool) (entry value : ℕ → Fraction) : Type 0 where
+  pub parts : (e : ℕ) (node : Node) → IsTrue (told e) → node_at s e ≡ Some node → EachPart (λ part. IsTrue (told part)) node
+  pub node : (e : ℕ) (node : Node) → IsTrue (told e) → node_at s e ≡ Some node → CoversNode x entry value node (range_at s e) (value e)
 
 -- The numbers of the nodes are all reached.
 pub record AreReached (s : Spec) (x : Fraction) (entry value : ℕ → Fraction) : Type 0 where
   pub node : (e : ℕ) (node : Node) → node_at s e ≡ Some node → IsReachedByNode x entry value node (range_at s e) (value e)
+
+-- Lower sweeps from zero, of entries and of the nodes' numbers in units: each entry is 0 at first, the numbers of each sweep are reached by the nodes, and each class gets the greater of its entry and its body's number.
+pub record AreLowerSweeps (s : Spec) (x : Fraction) (F : ℕ) (entry value : (sweep number : ℕ) → ℕ) : Type 0 where
+  pub zero : (c : ℕ) → entry 0 c ≡ 0
+  pub reached : (n : ℕ) → AreReached s x (λ c. units F (entry n c)) (λ e. units F (value n e))
+  pub greater : (n c body : ℕ) → body_of s c ≡ Some body → entry (suc n) c ≡ max (entry n c) (value n body)

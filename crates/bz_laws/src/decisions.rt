@@ -1,7 +1,7 @@
 //! Laws on the ideal choice: what a cell's tests decide for every number of the cell.
 ghost use Rattle.std.specs.Prelude.{◌≡◌, ℕ, suc, ◌*◌, ◌^◌, ◌<◌, ◌≤◌, List, length, Option, Some, slice_get};
 ghost use Rattle.bz_model.specs.Fraction.{Fraction, IsUniform, units};
-ghost use Rattle.bz_model.specs.Spec.{Spec, Node, node_at, range_at};
+ghost use Rattle.bz_model.specs.Spec.{Spec, Node, node_at, range_at, IsInRange};
 ghost use Rattle.bz_model.specs.Object.{Object, Objects, Belongs};
 ghost use Rattle.bz_model.specs.Totals.{Above, Below};
 ghost use Rattle.bz_model.specs.Ideal.{option_of, Before, Upto, IsIdealOption, IsGreatestOption};
@@ -85,6 +85,16 @@ pub fn the_low_is_the_first_option()
 pub fn the_ideal_option_is_taken()
     ensures { (s : Spec) (x u : Fraction) (e i : ℕ) → IsIdealOption s x u e i →
         (o : Object) × Belongs s e o × (option_of o ≡ i) }
+{}
+
+/// The option of a union's object is below its number of parts, that of a sequence, set or cycle lies
+/// in its range. So a cycle has a part where its low is at least 1.
+pub fn options_lie_in_the_range()
+    ensures union { (s : Spec) (e : ℕ) (parts : List ℕ) (o : Object)
+        → node_at s e ≡ Some (Node.Union parts) → Belongs s e o → option_of o < length parts }
+    ensures counted { (s : Spec) (e part : ℕ) (node : Node) (form : Objects → Object) (o : Object)
+        → node_at s e ≡ Some node → IsCounted node part form → Belongs s e o
+        → IsInRange (option_of o) (range_at s e) }
 {}
 
 /// The last part of a union is its greatest option, where the part has an object.

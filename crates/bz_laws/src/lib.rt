@@ -9,6 +9,7 @@
 #![tactic(auto)]
 
 pub mod at_heights;
+pub mod begun;
 pub mod decisions;
 pub mod kinds;
 pub mod making;
