@@ -6,3 +6,4 @@ pub mod UnionOptions
 pub mod UnionScan
 pub mod PartsInRange
 pub mod UnionParts
+pub mod UnionIdeal

@@ -77,7 +77,7 @@ fn decide_by_table<const F: u32, O: Oracle<F>>(
         lo = lo.saturating_add(bounds.lo);
         if i + 1 == parts.len() || ends_before(cell, lo, whole.hi) {
             let reached = i == 0 || begins_after(cell, hi_before.min(whole.hi), whole.lo);
-            return if reached { Some(i as u32) } else { None };
+            return reached.then_some(i as u32);
         }
         hi_before = hi_before.saturating_add(bounds.hi);
     }
