@@ -7,3 +7,4 @@ pub mod UnionScan
 pub mod PartsInRange
 pub mod UnionParts
 pub mod UnionIdeal
+pub mod DrawsOn
