@@ -11,3 +11,5 @@ pub mod Run
 pub mod Cell
 pub mod ObjectText
 pub mod Oracle
+pub mod Number
+pub mod FractionRead

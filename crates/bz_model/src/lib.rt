@@ -6,5 +6,7 @@
 #![tactic(auto)]
 
 pub mod cell;
+pub mod fraction;
+pub mod number;
 pub mod oracle;
 pub mod steps;
