@@ -4,7 +4,6 @@ pub mod SoundOptions
 pub mod WholeNumbers
 pub mod UnionOptions
 pub mod UnionScan
-pub mod PartsInRange
 pub mod UnionParts
 pub mod UnionIdeal
 pub mod DrawsOn

@@ -10,7 +10,7 @@ use Rattle.class_system.specs.Views.{number}
 use Rattle.class_system.specs.Sound.{IsSound}
 use Rattle.class_system.specs.Limits.{IsWithinLimits}
 use Rattle.class_system.specs.declared.ids.ExprId.{ExprId}
-use Rattle.choice_draw.proofs.PartsInRange.{part-before}
+use Rattle.class_system.proofs.Soundness.{part_below}
 
 slice_get-map : (f : ExprId → ℕ) (xs : List ExprId) (i : ℕ) (x : ExprId) → slice_get xs i ≡ Some x → slice_get (map f xs) i ≡ Some (f x)
 slice_get-map f [] i x h = absurd (cc)
@@ -29,7 +29,7 @@ pub parts-few : (s : Spec) (e : ℕ) (parts : List ExprId) → IsWithinLimits s 
 parts-few s e parts limits here = let few = limits.parts.at e (Node.Union (map number parts)) here in omega (arith, few.few, length-map parts number)
 
 pub parts-in_range : (s : Spec) (e : ℕ) (parts : List ExprId) → IsSound s → node_at s e ≡ Some (Node.Union (map number parts)) → Each (λ p. p.0 < length s.nodes) parts
-parts-in_range s e parts sound here = record { at = λ i p there. let inside : e < length s.nodes = within s.nodes e (Node.Union (map number parts)) here in let before : p.0 < e = part-before s sound e (Node.Union (map number parts)) inside here i p.0 (slice_get-map number parts i p there) in omega arith }
+parts-in_range s e parts sound here = record { at = λ i p there. let inside : e < length s.nodes = within s.nodes e (Node.Union (map number parts)) here in let before : p.0 < e = part_below s sound e p.0 (Node.Union (map number parts)) here (record { place = i; is_there = slice_get-map number parts i p there }) in omega arith }
 
 -- a number of the list is that of a node in range
 pub numbers-in_range : (n : ℕ) (parts : List ExprId) → Each (λ p. p.0 < n) parts → (i p : ℕ) → slice_get (map number parts) i ≡ Some p → p < n
