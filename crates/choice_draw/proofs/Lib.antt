@@ -8,3 +8,4 @@ pub mod UnionParts
 pub mod UnionIdeal
 pub mod DrawsOn
 pub mod ToldDraws
+pub mod Ticks
