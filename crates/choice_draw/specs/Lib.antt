@@ -1,4 +1,5 @@
 pub mod Decision
+pub mod IdealOfCell
 pub mod Whole
 pub mod Draw
 pub mod Answer

@@ -7,6 +7,7 @@ ghost use Rattle.choice_draw.specs.Draw.{halved};
 use bz_model::cell::Cell;
 
 /// The level that a cell of `b` bits is looked at on, one for each ten bits begun.
+#[inline]
 pub(crate) fn level_at(b: u32) -> u8
     requires some_bits { 1 ≤ b }
     requires few_bits { b ≤ 60 }
@@ -18,6 +19,7 @@ pub(crate) fn level_at(b: u32) -> u8
 }
 
 /// The number of cells of `b` bits.
+#[inline]
 pub(crate) fn power_of_two(b: u32) -> u128
     requires { b ≤ 60 }
     ensures exact { result ≡ 2 ^ b }
@@ -26,6 +28,7 @@ pub(crate) fn power_of_two(b: u32) -> u128
 }
 
 /// The half of a cell that one more bit names.
+#[inline]
 pub(crate) fn half_of(cell: Cell, bit: bool) -> Cell
     requires few_bits { cell.b < 60 }
     requires below { cell.k < 2 ^ cell.b }
