@@ -4,5 +4,8 @@ pub mod SoundOptions
 pub mod WholeNumbers
 pub mod UnionOptions
 pub mod UnionScan
-pub mod PartsInRange
 pub mod UnionParts
+pub mod UnionIdeal
+pub mod DrawsOn
+pub mod ToldDraws
+pub mod Ticks

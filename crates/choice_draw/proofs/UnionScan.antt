@@ -1,15 +1,24 @@
 -- What a pass over the parts of a union keeps, and the choice that it ends with.
 use Rattle.std.proofs.Common.{◌≡◌, ℕ, zero, suc, ◌+◌, ◌-◌, ◌*◌, ◌^◌, ◌<◌, ◌≤◌, ◌⊎◌, inl, inr, min, length, List, [], ◌∷◌, ◌++◌, map, take, sum, get_or, arith, refl, sym, ◌∙◌, ap, subst, Option, Some, None, Bool, true, false, cond, ◌||◌, ⊎_elim}
 use Rattle.std.specs.Prelude.{nat_eq, nat_le}
+use Rattle.std.specs.Bool.{then_some}
 use Rattle.std.proofs.Math.Seq.{take-suc}
 use Rattle.std.proofs.lemmas.Bool.{cases_lt, cases_Bool, eqb-true, eq-eqb, or_from}
 use Rattle.std.proofs.lemmas.List.{map-append}
 use Rattle.std.proofs.lemmas.List.Sums.{sum_by-append, sum_by-cons}
 use Rattle.bz_model.specs.declared.cell.Cell.{Cell}
 use Rattle.bz_model.specs.declared.cell.Bounds.{Bounds}
-use Rattle.choice_draw.specs.Decision.{Choice, added_down, union_options, is_last, ends_before, begins_after, is_reached, choice_of}
+use Rattle.choice_draw.specs.Decision.{Choice, added_down, union_options, is_last, ends_before, begins_after, is_reached, choice_of, taken}
 use Rattle.choice_draw.proofs.LeastPassing.{IsLeastPassing}
 use Rattle.choice_draw.proofs.Choices.{choice-is_taken, choice-unreached}
+
+-- what a cell decides at a union, from the bounds of a level
+abbrev pub union_choice_at : (table : (level node : ℕ) → Bounds) → (level e : ℕ) → (parts : List ℕ) → Cell → Option Choice
+union_choice_at table level e parts cell = choice_of (union_options (table level) e parts) cell
+
+pub taken-then_some : (b : Bool) (i : ℕ) → taken (then_some b i) ≡ cond b (Some (Choice.Take i)) None
+taken-then_some true i = refl
+taken-then_some false i = refl
 
 -- the part passes the first test, or is the last
 abbrev pub passes_at : (node : ℕ → Bounds) → (e : ℕ) → (parts : List ℕ) → Cell → (i : ℕ) → Bool

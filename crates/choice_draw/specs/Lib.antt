@@ -1,3 +1,5 @@
 pub mod Decision
-pub mod Draw
+pub mod IdealOfCell
 pub mod Whole
+pub mod Draw
+pub mod Answer

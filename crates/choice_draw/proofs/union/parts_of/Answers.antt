@@ -4,9 +4,9 @@ use Rattle.bz_model.specs.Spec.{Node, node_at}
 use Rattle.class_system.specs.Views.{spec_node, number}
 use Rattle.choice_draw.proofs.UnionParts.{parts-two, parts-few, parts-in_range}
 use Rattle.choice_draw.proofs.union.parts_of.Goals as goal
-use Rattle.choice_draw.proofs.union.parts_of.Goals.{In-Union}
+use Rattle.choice_draw.proofs.union.parts_of.Goals.{After-items}
 
-here : (c : In-Union) → node_at c.args.system.now c.args.node.0 ≡ Some (Node.Union (map number c.items.result.now))
+here : (c : After-items) → node_at c.args.system.now c.args.node.0 ≡ Some (Node.Union (map number c.items.result.now))
 here c = c.node.ensures.node ∙ ap (λ n. Some (spec_node n)) c.in-Union.is ∙ ap (λ ps. Some (Node.Union (map number ps))) (sym c.items.ensures.items)
 
 pub returns-clause-some : goal.returns-clause-some
