@@ -34,7 +34,7 @@ pub record Limits : Type 0 where
 pub record Sampling : Type 0 where
   pub chooser : Chooser
   pub limits : Limits
-  pub tape : ℕ → Option ℕ
+  pub tape : ℕ → Option Bool
 
 -- The kept state. Where no attempt is under way, nothing is pending, tokens and cells are empty, and the room is 0.
 pub record State : Type 0 where

@@ -1,0 +1,8 @@
+use Rattle.std.proofs.Common.{◌≡◌, drop, map}
+use Rattle.std.specs.Prelude.{slice_index}
+use Rattle.class_system.specs.Views.{number}
+use Rattle.series_bounds.specs.Lists.{added_down}
+use Rattle.rounded_map.proofs.lower.union_lo.Given as goal
+
+abbrev pub invariant-loop-part : goal.invariant-loop-part
+invariant-loop-part g l = added_down l.sum.0 (map (slice_index l.before) (map number (drop l.part-index l.rest))) ≡ added_down l.initial.sum.0 (map (slice_index l.before) (map number l.rest))

@@ -1,0 +1,2 @@
+pub mod RoundedMap
+pub mod Derivative

@@ -1,0 +1,10 @@
+//! Node values by the rounded map, sweeps of class vectors, and the test that a vector is post-fixed.
+//!
+//! A class vector has one number for each class, in units of `2^-F`. The values of all nodes, lower
+//! and upper, the sweeps and the derivative are those of `specs/RoundedMap.antt` and
+//! `specs/Derivative.antt`. From entries that are reached (bound) come node values that are reached
+//! (bound), and a post-fixed vector bounds every total. No clause says that a sweep comes close to
+//! the exact values. No call takes memory, and each ticks once.
+#![tactic(auto)]
+
+pub mod lower;
