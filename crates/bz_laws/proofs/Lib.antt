@@ -24,6 +24,7 @@ pub mod Texts
 pub mod Counted
 pub mod Runs
 pub mod Readings
+pub mod Ordered
 pub mod First
 pub mod Rooms
 pub mod Pending
