@@ -1,18 +1,18 @@
 -- An object that stands in order has the text that its parts give as they stand.
-use Rattle.std.proofs.Common.{◌≡◌, ◌≢◌, ℕ, zero, suc, ◌≤◌, ◌<◌, ◌⊎◌, inl, inr, min, List, [], ◌∷◌, ◌++◌, map, length, take, drop, arith, refl, sym, ◌∙◌, ap, subst, Option, Some, None}
+use Rattle.std.proofs.Common.{◌≡◌, ℕ, zero, suc, inl, inr, List, [], ◌∷◌, ◌++◌, map, take, drop, arith, refl, sym, ◌∙◌, ap, subst, Option, Some}
 use Rattle.std.specs.Prelude.{Bool, true, false, nat_le, nat_eq, if◌then◌else◌, slice_get, decimal, codes}
 use Rattle.std.proofs.lemmas.Bool.Decides.{leb_tells, eqb_tells}
 use Rattle.std.proofs.lemmas.List.{append-nil}
-use Rattle.bz_model.specs.Spec.{Spec, Mode, Node, Range, node_at, range_at, node_of, range_of, body_of}
-use Rattle.bz_model.specs.Object.{Object, Objects, none, more, Has, HaveEach, HaveAll, ClassHas, HasWithin, Belongs}
+use Rattle.bz_model.specs.Spec.{Spec, Node, Range, node_at, range_at, node_of, range_of, body_of}
+use Rattle.bz_model.specs.Object.{Object, Objects, none, more, Has, HaveEach, HaveAll, ClassHas, Belongs}
 use Rattle.bz_model.specs.Measures.{size}
 use Rattle.bz_model.specs.ObjectText.{Arrangement, PartText, put, in_order, least_of, rotated_to, lesser_label, least_label, text_by, texts_of_each, texts_of_all, class_text, text_within, object_text, spaced}
 use Rattle.bz_laws.specs.InOrder.{leasts, IsRising, BeginsWithLeast, StandsInOrder, AllStandInOrder}
 
-abbrev standing : Arrangement
+abbrev pub standing : Arrangement
 standing = Arrangement.AsItStands
 
-abbrev canonical : Arrangement
+abbrev pub canonical : Arrangement
 canonical = Arrangement.Canonical
 
 abbrev pub least_at : PartText → ℕ
