@@ -4,3 +4,4 @@
 pub mod pending;
 pub mod shape;
 pub mod token;
+mod walk;

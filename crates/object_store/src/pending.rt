@@ -1,5 +1,5 @@
 //! Nodes that wait to be visited, with spare room.
-ghost use Rattle.std.specs.Prelude.{◌≡◌, ◌+◌, ◌<◌, ◌≤◌, [], ◌∷◌, ◌++◌, map, length, replicate, option_map, option_to_list, IsOk, OnOk, OnErr, slice_get, IsTrue, ◌↔◌};
+ghost use Rattle.std.specs.Prelude.{◌≡◌, ◌+◌, ◌<◌, ◌≤◌, [], ◌∷◌, ◌++◌, map, length, replicate, option_map, option_to_list, IsOk, OnOk, OnErr, IfNone, slice_get};
 ghost use Rattle.class_system.specs.Views.{number};
 
 use class_system::ids::ExprId;
@@ -70,6 +70,7 @@ impl Pending {
     /// Takes the next node; None exactly where nothing waits. Takes no memory.
     pub fn pop(&mut self) -> Option<ExprId>
         ensures items { self.old.items ≡ option_to_list (option_map number result) ++ self.new.items }
+        ensures none { IfNone result (self.old.items ≡ []) }
         ensures spare { self.old.spare ≤ self.new.spare }
     {
         let Run { node, times } = self.runs.pop()?;
