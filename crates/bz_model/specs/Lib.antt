@@ -12,3 +12,5 @@ pub mod Cell
 pub mod ObjectText
 pub mod Oracle
 pub mod Roomy
+pub mod Number
+pub mod FractionRead

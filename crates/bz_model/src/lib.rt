@@ -7,5 +7,7 @@
 
 pub mod cell;
 pub mod cells;
+pub mod fraction;
+pub mod number;
 pub mod oracle;
 pub mod steps;

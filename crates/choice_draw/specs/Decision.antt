@@ -1,16 +1,20 @@
 -- What a cell decides among the options of a node, and which whole number it decides.
-use Rattle.std.specs.Prelude.{ℕ, zero, suc, ◌+◌, ◌-◌, ◌*◌, ◌/◌, ◌^◌, min, Bool, false, ◌||◌, nat_le, nat_lt, nat_eq, List, [], ◌∷◌, map, take, length, sum, Option, Some, None, if◌then◌else◌}
+use Rattle.std.specs.Prelude.{◌≡◌, ℕ, zero, suc, ◌+◌, ◌-◌, ◌*◌, ◌/◌, ◌^◌, min, Bool, false, ◌||◌, nat_le, nat_lt, nat_eq, List, [], ◌∷◌, map, take, length, sum, Option, Some, None, if◌then◌else◌}
 use Rattle.bz_model.specs.declared.cell.Cell.{Cell}
 use Rattle.bz_model.specs.declared.cell.Bounds.{Bounds}
+use Rattle.bz_model.specs.Spec.{Spec, Node, node_at}
 
 -- What is decided is an option, or that every option is above the room.
 pub data Choice : Type 0 where
   Take : (option : ℕ) → Choice
   Over : Choice
 
--- A cell is looked at on a level of its own: one for each ten bits.
+-- A cell is looked at on a level of its own, one for each ten bits begun; no bit needs no level.
+abbrev pub level_for : (bits : ℕ) → ℕ
+level_for bits = (bits + 9) / 10
+
 abbrev pub level_of : Cell → ℕ
-level_of cell = (cell.b + 9) / 10
+level_of cell = level_for cell.b
 
 -- A decision looks at the node's bounds, the options from `first` on that may be taken, the option that is the node's last where it is among these, the bounds of the objects up to an option, and the room where options above it exist.
 pub record Options : Type 0 where
@@ -87,6 +91,25 @@ union_options node e parts = record {
 -- What a cell decides at a union, from a table of bounds by level and node.
 abbrev pub union_choice : (table : (level node : ℕ) → Bounds) → (e : ℕ) → (parts : List ℕ) → Cell → Option Choice
 union_choice table e parts cell = choice_of (union_options (table (level_of cell)) e parts) cell
+
+-- A node of a specification is a union.
+pub record IsUnion (s : Spec) (e : ℕ) : Type 0 where
+  pub parts : List ℕ
+  pub here : node_at s e ≡ Some (Node.Union parts)
+
+-- The parts of a union; a node of another kind has none here.
+abbrev pub union_parts : Option Node → List ℕ
+union_parts (Some (Node.Union parts)) = parts
+union_parts _ = []
+
+-- What a cell decides at a union of a specification, from a table of bounds by level and node.
+abbrev pub union_decision : Spec → (table : (level node : ℕ) → Bounds) → (e : ℕ) → Cell → Option Choice
+union_decision s table e cell = union_choice table e (union_parts (node_at s e)) cell
+
+-- The choice of an option, where there is one.
+abbrev pub taken : Option ℕ → Option Choice
+taken None = None
+taken (Some option) = Some (Choice.Take option)
 
 -- The whole number i is the floor of u * m for every number u of the cell where the cell ends at or before (i + 1) / m, i being the floor at the cell's begin.
 abbrev pub whole_from : (m i : ℕ) → Cell → Option ℕ

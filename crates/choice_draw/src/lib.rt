@@ -3,3 +3,7 @@
 //! A draw takes bits until its cell decides. What is decided is the ideal option of every number of
 //! the cell. No clause says that a cell is ever decided.
 #![tactic(auto)]
+
+mod cells;
+pub mod union;
+pub mod whole;

@@ -1,0 +1,9 @@
+pub mod LeastPassing
+pub mod Choices
+pub mod SoundOptions
+pub mod WholeNumbers
+pub mod UnionOptions
+pub mod UnionScan
+pub mod UnionParts
+pub mod UnionIdeal
+pub mod DrawsOn

@@ -1,0 +1,22 @@
+//! Cells that are halved by bits, and their levels.
+ghost use Rattle.std.specs.Prelude.{◌≡◌, ◌^◌, ◌≤◌};
+ghost use Rattle.choice_draw.specs.Decision.{level_for};
+
+/// The level that a cell of `b` bits is looked at on, one for each ten bits begun.
+pub(crate) fn level_at(b: u32) -> u8
+    requires some_bits { 1 ≤ b }
+    requires few_bits { b ≤ 60 }
+    ensures exact { result ≡ level_for b }
+    ensures from_one { 1 ≤ result }
+    ensures to_six { result ≤ 6 }
+{
+    ((b + 9) / 10) as u8
+}
+
+/// The number of cells of `b` bits.
+pub(crate) fn power_of_two(b: u32) -> u128
+    requires { b ≤ 60 }
+    ensures exact { result ≡ 2 ^ b }
+{
+    1_u128 << b
+}

@@ -1,0 +1,105 @@
+//! Parts of a union, drawn from bits.
+ghost use Rattle.std.specs.Prelude.{◌≡◌, ℕ, suc, ◌*◌, ◌^◌, ◌<◌, ◌≤◌, ◌↔◌, map, length, IfSome, IsTrue, nat_le};
+ghost use Rattle.bz_model.specs.Fraction.{Fraction};
+ghost use Rattle.bz_model.specs.Spec.{node_at};
+ghost use Rattle.bz_model.specs.Cell.{IsCell, IsInCell};
+ghost use Rattle.bz_model.specs.Ideal.{IsIdealOption};
+ghost use Rattle.class_system.specs.Views.{number};
+ghost use Rattle.class_system.specs.Each.{Each};
+ghost use Rattle.choice_draw.specs.Decision.{level_of, IsUnion, union_parts, union_choice, union_decision, taken};
+
+use crate::cells::{level_at, power_of_two};
+use bz_model::cell::Cell;
+use bz_model::oracle::Oracle;
+use class_system::expr::Expr;
+use class_system::ids::ExprId;
+use class_system::system::System;
+
+/// The number of the part of a union that is the ideal option of every number of the cell.
+///
+/// It looks at the bounds of the cell's level, which is raised. `None` exactly where the cell
+/// straddles: where the least part that ends after the cell doesn't begin before it. Takes no
+/// memory.
+pub fn decide_union<const F: u32, O: Oracle<F>>(
+    system: &System,
+    node: ExprId,
+    cell: Cell,
+    oracle: &O,
+) -> Option<u32>
+    requires fraction { (24 ≤ F) × (F ≤ 56) }
+    requires union { IsUnion system.now node.0 }
+    requires cell { IsCell cell.k cell.b }
+    requires spec { O.spec oracle.now ≡ system.now }
+    requires raised { level_of cell ≤ O.raised oracle.now }
+    ensures exact { taken result ≡ union_decision system.now (O.table oracle.now) node.0 cell }
+    ensures ideal { IfSome result (λ i. (u : Fraction) → IsInCell cell.k cell.b u → IsIdealOption system.now (O.x oracle.now) u node.0 i) }
+{
+    oracle.known();
+    decide_by_table(parts_of(system, node), node, cell, oracle)
+}
+
+/// The parts of a union.
+fn parts_of(system: &System, node: ExprId) -> &[ExprId]
+    requires union { IsUnion system.now node.0 }
+    ensures parts { map number result.now ≡ union_parts (node_at system.now node.0) }
+    ensures some { 2 ≤ length result.now }
+    ensures few { length result.now ≤ 64 }
+    ensures in_range { Each (λ p. p.0 < length system.now.nodes) result.now }
+{
+    system.known();
+    match system.node(node) {
+        Expr::Union(parts) => parts.items(),
+        _ => unreachable!(),
+    }
+}
+
+/// What a cell decides at the union of these parts.
+fn decide_by_table<const F: u32, O: Oracle<F>>(
+    parts: &[ExprId],
+    node: ExprId,
+    cell: Cell,
+    oracle: &O,
+) -> Option<u32>
+    requires cell { IsCell cell.k cell.b }
+    requires some { 0 < length parts.now }
+    requires few { length parts.now ≤ 64 }
+    requires node { node.0 < length (O.spec oracle.now).nodes }
+    requires parts { Each (λ p. p.0 < length (O.spec oracle.now).nodes) parts.now }
+    requires raised { level_of cell ≤ O.raised oracle.now }
+    ensures exact { taken result ≡ union_choice (O.table oracle.now) node.0 (map number parts.now) cell }
+{
+    let level = level_at(cell.b);
+    let whole = oracle.bounds(node.0, level)?;
+    let mut lo: u64 = 0;
+    let mut hi_before: u64 = 0;
+    for (i, part) in parts.iter().enumerate() {
+        let bounds = oracle.bounds(part.0, level)?;
+        lo = lo.saturating_add(bounds.lo);
+        if i + 1 == parts.len() || ends_before(cell, lo, whole.hi) {
+            let reached = i == 0 || begins_after(cell, hi_before.min(whole.hi), whole.lo);
+            return reached.then_some(i as u32);
+        }
+        hi_before = hi_before.saturating_add(bounds.hi);
+    }
+    None
+}
+
+/// Whether every number of the cell lies before the end of an option: the cell's end is at or
+/// before `lo / hi`, `lo` being a lower bound of the objects up to the option and `hi` an upper
+/// bound of the node.
+fn ends_before(cell: Cell, lo: u64, hi: u64) -> bool
+    requires { IsCell cell.k cell.b }
+    ensures exact { result ≡ nat_le (suc cell.k * hi) (2 ^ cell.b * lo) }
+{
+    (u128::from(cell.k) + 1) * u128::from(hi) <= power_of_two(cell.b) * u128::from(lo)
+}
+
+/// Whether no number of the cell lies before the end of an option: the cell's begin is at or after
+/// `hi / lo`, `hi` being an upper bound of the objects up to the option and `lo` a lower bound of
+/// the node.
+fn begins_after(cell: Cell, hi: u64, lo: u64) -> bool
+    requires { IsCell cell.k cell.b }
+    ensures exact { result ≡ nat_le (2 ^ cell.b * hi) (cell.k * lo) }
+{
+    power_of_two(cell.b) * u128::from(hi) <= u128::from(cell.k) * u128::from(lo)
+}
