@@ -9,7 +9,12 @@ pub mod Labelled
 pub mod Bounds
 pub mod Heights
 pub mod Nodes
+pub mod Numbered
 pub mod Leaves
+pub mod Tallest
+pub mod Lists
+pub mod Values
+pub mod Inhabited
 pub mod Products
 pub mod Makings
 pub mod WeightForm
@@ -17,4 +22,5 @@ pub mod Outcomes
 pub mod Texts
 pub mod Counted
 pub mod Runs
+pub mod First
 pub mod Rooms

@@ -1,12 +1,11 @@
 -- What a node has, where class c has the objects of R c. Belonging and each height are instances, so that a law on one kind of node is proved once for any R.
-use Rattle.std.proofs.Common.{◌≡◌, ℕ, zero, suc, ◌≤◌, max, List, [], ◌∷◌, arith, refl, sym, subst, Option, Some, None}
+use Rattle.std.proofs.Common.{◌≡◌, ℕ, ◌≤◌, max, List, [], ◌∷◌, arith, sym, subst, Option, Some}
 use Rattle.std.specs.Prelude.{slice_get}
 use Rattle.std.proofs.Math.Nat.{le-max_left, le-max_right}
 use Rattle.bz_model.specs.Fraction.{Fraction}
 use Rattle.bz_model.specs.Spec.{Spec, Node, Range, node_at, range_at, node_of, range_of}
-use Rattle.bz_model.specs.Object.{Object, Objects, none, more, Has, HaveEach, HaveAll, ClassHas, HasWithin, Belongs}
-use Rattle.bz_model.specs.Measures.{weight}
-use Rattle.bz_model.specs.Totals.{AboveBy, BelowBy, Above, Below}
+use Rattle.bz_model.specs.Object.{Object, Objects, none, more, Has, HaveEach, HaveAll, ClassHas, Belongs}
+use Rattle.bz_model.specs.Totals.{Above, Below}
 use Rattle.bz_model.specs.Ideal.{option_of, Upto}
 use Rattle.bz_laws.proofs.Samples.{AboveBy-weaker, BelowBy-weaker}
 use Rattle.bz_laws.proofs.Heights.{has-mono, each-mono, all-mono, class-up_to}

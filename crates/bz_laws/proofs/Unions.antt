@@ -11,7 +11,7 @@ use Rattle.bz_model.specs.Totals.{Above, Below, total_by}
 use Rattle.bz_model.specs.Ideal.{option_of, Upto, IsGreatestOption}
 use Rattle.bz_laws.proofs.Fractions.{AtMost-refl}
 use Rattle.bz_laws.proofs.Samples.{AllByRecursion-weaker, above-either, below-either, above-none, below-none, above-along, below-along, AboveBy-weaker, BelowBy-weaker}
-use Rattle.bz_laws.proofs.Nodes.{HasAt, HasUpto, ClassBelongs, known, unknown, has-belongs, belongs-has, belongs-of, upto-has, upto-of, above-has, below-has}
+use Rattle.bz_laws.proofs.Nodes.{HasAt, HasUpto, ClassBelongs, known, unknown, belongs-has, belongs-of, upto-has, upto-of, above-has, below-has}
 
 -- what was picked
 abbrev pub unpick : Object → Object

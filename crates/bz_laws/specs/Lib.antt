@@ -1,2 +1,5 @@
 pub mod Terms
 pub mod Lists
+pub mod Sound
+pub mod Values
+pub mod Orders
