@@ -93,10 +93,7 @@ impl Shelf for MemoryShelf {
     ghost faults = { λ shelf _. shelf.calls.failed };
 
     fn piece(&mut self, name: &Word, place: u64, buf: &mut [u8]) -> Result<usize, Failed>
-        ensures content { content_of self.new.files ≡ content_of self.old.files }
-        ensures within { IfOk result (λ n. n ≤ length buf.old) }
         ensures piece { IfOk result (λ n. IfSome (content_of self.old.files name.now) (λ bytes. IsPiece bytes place n buf.new)) }
-        ensures cause { OnErr result (Rose self.old.calls.failed self.new.calls.failed) }
         ensures counts { (other : List ℕ) → self.old.calls.failed ≤ self.new.calls.failed }
 
         // Exactly which reads fail, how many bytes the others give, and what stays.

@@ -73,11 +73,7 @@ impl Sink for MemorySink {
 
     /// Takes no memory.
     fn put(&mut self, bytes: &[u8]) -> Result<usize, Failed>
-        ensures within { IfOk result (λ n. n ≤ length bytes.now) }
         ensures some { IfOk result (λ n. 0 < length bytes.now → 0 < n) }
-        ensures appends { IfOk result (λ n. Appends (Some self.old.written) (Some self.new.written) (take n bytes.now)) }
-        ensures unchanged { OnErr result (Some self.new.written ≡ Some self.old.written) }
-        ensures cause { OnErr result (Rose self.old.calls.failed self.new.calls.failed) }
         ensures counts { self.old.calls.failed ≤ self.new.calls.failed }
 
         // Exactly which writes fail, how many bytes the others take, and what stays.

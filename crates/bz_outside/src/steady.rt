@@ -1,5 +1,5 @@
 //! A shelf and a sink that never fail.
-ghost use Rattle.std.specs.Prelude.{◌≡◌, Some, None};
+ghost use Rattle.std.specs.Prelude.{◌≡◌, Some, None, length};
 
 use crate::shelf::{Failed, Shelf, copy_piece};
 use crate::sink::Sink;
@@ -57,7 +57,9 @@ impl Sink for SteadySink {
 
     ghost faults = { λ _. 0 };
 
-    fn put(&mut self, bytes: &[u8]) -> Result<usize, Failed> {
+    fn put(&mut self, bytes: &[u8]) -> Result<usize, Failed>
+        ensures all { result ≡ Ok (length bytes.now) }
+    {
         Ok(bytes.len())
     }
 }
