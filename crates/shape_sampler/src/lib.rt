@@ -1,0 +1,2 @@
+//! Attempts: shapes made node by node from tape bits.
+#![tactic(auto)]
