@@ -1,5 +1,5 @@
 -- A draw that goes on from a cell, and how it ends.
-use Rattle.std.proofs.Common.{◌≡◌, ℕ, zero, suc, ◌+◌, ◌-◌, ◌*◌, ◌<◌, ◌≤◌, Option, Some, None, true, false, cond, arith, refl, sym, ◌∙◌, ap, subst, ⊎_elim}
+use Rattle.std.proofs.Common.{◌≡◌, ℕ, Bool, zero, suc, ◌+◌, ◌-◌, ◌*◌, ◌<◌, ◌≤◌, Option, Some, None, true, false, cond, arith, refl, sym, ◌∙◌, ap, subst, ⊎_elim}
 use Rattle.std.specs.Prelude.{nat_lt}
 use Rattle.std.proofs.lemmas.Bool.{lt-ltb, le-ltb}
 use Rattle.bz_model.specs.declared.cell.Cell.{Cell}
@@ -11,19 +11,19 @@ FailsFrom place None = Unit {0}
 FailsFrom place (Some fault) = place ≤ fault
 
 -- a draw from the start on goes on from this cell and place: wherever the shelf fails from here on, it ends as the draw from here ends
-pub record DrawsOn {A : Type 0} (decide : Cell → Option A) (tape : ℕ → Option ℕ) (start : ℕ) (cell : Cell) (place : ℕ) : Type 0 where
+pub record DrawsOn {A : Type 0} (decide : Cell → Option A) (tape : ℕ → Option Bool) (start : ℕ) (cell : Cell) (place : ℕ) : Type 0 where
   pub same : (fault : Option ℕ) → FailsFrom place fault → draw decide (bit_of tape fault) start ≡ draw_from decide (bit_of tape fault) (60 - cell.b) cell place
 
 -- the cell of no bits
 abbrev pub whole_cell : Cell
 whole_cell = record { k = 0; b = 0 }
 
-module _ {A : Type 0} (decide : Cell → Option A) (tape : ℕ → Option ℕ) (start : ℕ) where
+module _ {A : Type 0} (decide : Cell → Option A) (tape : ℕ → Option Bool) (start : ℕ) where
   pub draws-first : DrawsOn decide tape start whole_cell start
   draws-first = record { same = λ fault later. refl }
 
   -- a bit before the fault is that of the tape
-  bit_before : (fault : Option ℕ) (place v : ℕ) → FailsFrom (suc place) fault → tape place ≡ Some v → bit_of tape fault place ≡ Bit.Given v
+  bit_before : (fault : Option ℕ) (place : ℕ) (v : Bool) → FailsFrom (suc place) fault → tape place ≡ Some v → bit_of tape fault place ≡ Bit.Given v
   bit_before None place v later given = ap bit_or_end given
   bit_before (Some fault) place v later given = ap (λ b. cond b (bit_or_end (tape place)) Bit.Failed) (lt-ltb place fault later) ∙ ap bit_or_end given
 
@@ -43,7 +43,7 @@ module _ {A : Type 0} (decide : Cell → Option A) (tape : ℕ → Option ℕ) (
   unfolds n fault cell place = refl
 
   -- what a draw does where a bit is given
-  given-decision : (n : ℕ) (fault : Option ℕ) (cell : Cell) (place v : ℕ) (decision : Option A) → FailsFrom (suc place) fault → tape place ≡ Some v → decide (halved cell v) ≡ decision → draw_from decide (bit_of tape fault) (suc n) cell place ≡ after_decision n fault (halved cell v) (suc place) decision
+  given-decision : (n : ℕ) (fault : Option ℕ) (cell : Cell) (place : ℕ) (v : Bool) (decision : Option A) → FailsFrom (suc place) fault → tape place ≡ Some v → decide (halved cell v) ≡ decision → draw_from decide (bit_of tape fault) (suc n) cell place ≡ after_decision n fault (halved cell v) (suc place) decision
   unfolding after_bit
   given-decision n fault cell place v decision later given decided = unfolds n fault cell place ∙ ap (after_bit n fault cell place) (bit_before fault place v later given) ∙ ap (after_decision n fault (halved cell v) (suc place)) decided
 
@@ -56,12 +56,12 @@ module _ {A : Type 0} (decide : Cell → Option A) (tape : ℕ → Option ℕ) (
     from_here fault later more = here.same fault later ∙ ap (λ n. draw_from decide (bit_of tape fault) n cell place) (more_bits more)
 
     -- a bit that decides nothing leads on
-    pub draws-on : (v : ℕ) → cell.b < 60 → tape place ≡ Some v → decide (halved cell v) ≡ None → DrawsOn decide tape start (halved cell v) (suc place)
+    pub draws-on : (v : Bool) → cell.b < 60 → tape place ≡ Some v → decide (halved cell v) ≡ None → DrawsOn decide tape start (halved cell v) (suc place)
     unfolding after_decision
     draws-on v more given undecided = record { same = λ fault later. from_here fault (fails_earlier fault place later) more ∙ given-decision (60 - suc cell.b) fault cell place v None later given undecided }
 
     -- a bit that decides ends the draw
-    pub draws-decided : (v : ℕ) (answer : A) → cell.b < 60 → tape place ≡ Some v → decide (halved cell v) ≡ Some answer → draw decide (bit_of tape None) start ≡ Draw.Decided answer (halved cell v)
+    pub draws-decided : (v : Bool) (answer : A) → cell.b < 60 → tape place ≡ Some v → decide (halved cell v) ≡ Some answer → draw decide (bit_of tape None) start ≡ Draw.Decided answer (halved cell v)
     unfolding after_decision
     draws-decided v answer more given decided = from_here None tt more ∙ given-decision (60 - suc cell.b) None cell place v (Some answer) tt given decided
 

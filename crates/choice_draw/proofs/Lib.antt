@@ -7,3 +7,5 @@ pub mod UnionScan
 pub mod UnionParts
 pub mod UnionIdeal
 pub mod DrawsOn
+pub mod ToldDraws
+pub mod Ticks

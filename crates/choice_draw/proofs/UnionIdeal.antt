@@ -11,10 +11,14 @@ use Rattle.bz_model.specs.Oracle.{IsSound}
 use Rattle.class_system.specs.Each.{Each}
 use Rattle.class_system.specs.Views.{number}
 use Rattle.class_system.specs.declared.ids.ExprId.{ExprId}
-use Rattle.choice_draw.specs.Decision.{Choice, level_of, union_options, union_parts, union_choice, IsUnion, taken}
+use Rattle.choice_draw.specs.Decision.{Choice, level_of, union_options, union_parts, union_choice, union_decision, IsUnion, taken}
 use Rattle.choice_draw.proofs.SoundOptions.{taken-ideal}
 use Rattle.choice_draw.proofs.UnionOptions.{union-sound}
 use Rattle.choice_draw.proofs.UnionParts.{numbers-in_range, within}
+
+-- the choice by a table and a list of parts is that at the union, where these are its own
+pub decision-by : (s : Spec) (table other : (level node : ℕ) → Bounds) (e : ℕ) (parts : List ℕ) (cell : Cell) (choice : Option Choice) → other ≡ table → parts ≡ union_parts (node_at s e) → choice ≡ union_choice other e parts cell → union_decision s table e cell ≡ choice
+decision-by s table other e parts cell choice same_table same_parts decided = sym (decided ∙ ap (λ t. union_choice t e parts cell) same_table ∙ ap (λ ps. union_choice table e ps cell) same_parts)
 
 -- an option taken at a union, over a sound table
 pub union-ideal : (s : Spec) (x : Fraction) (F e : ℕ) (parts : List ExprId) (table : (level node : ℕ) → Bounds) (cell : Cell) → IsUnion s e → map number parts ≡ union_parts (node_at s e) → 2 ≤ length (map number parts) → Each (λ p. p.0 < length s.nodes) parts → IsSound s x F table → IsCell cell.k cell.b → (r : Option ℕ) → taken r ≡ union_choice table e (map number parts) cell → IfSome r (λ i. (u : Fraction) → IsInCell cell.k cell.b u → IsIdealOption s x u e i)

@@ -1,10 +1,10 @@
 -- Draws: bits are taken from a tape until a cell decides.
-use Rattle.std.specs.Prelude.{ℕ, zero, suc, ◌+◌, ◌*◌, nat_lt, Option, Some, None, if◌then◌else◌}
+use Rattle.std.specs.Prelude.{ℕ, zero, suc, ◌+◌, ◌*◌, Bool, true, false, nat_lt, Option, Some, None, if◌then◌else◌}
 use Rattle.bz_model.specs.declared.cell.Cell.{Cell}
 
 -- A tape answers with a bit, that it ended, or that its shelf failed.
 pub data Bit : Type 0 where
-  Given : (bit : ℕ) → Bit
+  Given : (bit : Bool) → Bit
   Ended : Bit
   Failed : Bit
 
@@ -16,18 +16,23 @@ pub data Draw (A : Type 0) : Type 0 where
   Failed : (place : ℕ) → Draw A
 
 -- The bit that a tape has at a place, if it has one.
-abbrev pub bit_or_end : Option ℕ → Bit
+abbrev pub bit_or_end : Option Bool → Bit
 bit_or_end None = Bit.Ended
 bit_or_end (Some bit) = Bit.Given bit
 
 -- The tape's answer at a place, where the shelf fails at the place `fault`, if there is one.
-abbrev pub bit_of : (tape : ℕ → Option ℕ) → (fault : Option ℕ) → (place : ℕ) → Bit
+abbrev pub bit_of : (tape : ℕ → Option Bool) → (fault : Option ℕ) → (place : ℕ) → Bit
 bit_of tape None place = bit_or_end (tape place)
 bit_of tape (Some fault) place = if nat_lt place fault then bit_or_end (tape place) else Bit.Failed
 
+-- A bit as a number.
+abbrev pub bit_number : Bool → ℕ
+bit_number true = 1
+bit_number false = 0
+
 -- The half of a cell that one more bit names.
-abbrev pub halved : Cell → (bit : ℕ) → Cell
-halved cell bit = record { k = 2 * cell.k + bit; b = suc cell.b }
+abbrev pub halved : Cell → (bit : Bool) → Cell
+halved cell bit = record { k = 2 * cell.k + bit_number bit; b = suc cell.b }
 
 -- The draw that takes at most n more bits, the next of them at the place.
 abbrev pub draw_from : {A : Type 0} → (decide : Cell → Option A) → (bit : ℕ → Bit) → (n : ℕ) → Cell → (place : ℕ) → Draw A

@@ -1,3 +1,4 @@
 pub mod Decision
-pub mod Draw
 pub mod Whole
+pub mod Draw
+pub mod Answer

@@ -1,6 +1,10 @@
 //! Cells that are halved by bits, and their levels.
-ghost use Rattle.std.specs.Prelude.{◌≡◌, ◌^◌, ◌≤◌};
+ghost use Rattle.std.specs.Prelude.{◌≡◌, ◌+◌, ◌^◌, ◌<◌, ◌≤◌};
+ghost use Rattle.bz_model.specs.Cell.{IsCell};
 ghost use Rattle.choice_draw.specs.Decision.{level_for};
+ghost use Rattle.choice_draw.specs.Draw.{halved};
+
+use bz_model::cell::Cell;
 
 /// The level that a cell of `b` bits is looked at on, one for each ten bits begun.
 pub(crate) fn level_at(b: u32) -> u8
@@ -19,4 +23,17 @@ pub(crate) fn power_of_two(b: u32) -> u128
     ensures exact { result ≡ 2 ^ b }
 {
     1_u128 << b
+}
+
+/// The half of a cell that one more bit names.
+pub(crate) fn half_of(cell: Cell, bit: bool) -> Cell
+    requires few_bits { cell.b < 60 }
+    requires below { cell.k < 2 ^ cell.b }
+    ensures exact { result ≡ halved cell bit }
+    ensures cell { IsCell result.k result.b }
+{
+    Cell {
+        k: 2 * cell.k + u64::from(bit),
+        b: cell.b + 1,
+    }
 }

@@ -5,5 +5,6 @@
 #![tactic(auto)]
 
 mod cells;
+pub mod drawn;
 pub mod union;
 pub mod whole;

@@ -1,19 +1,85 @@
 //! Parts of a union, drawn from bits.
-ghost use Rattle.std.specs.Prelude.{◌≡◌, ℕ, suc, ◌*◌, ◌^◌, ◌<◌, ◌≤◌, ◌↔◌, map, length, IfSome, IsTrue, nat_le};
+ghost use Rattle.std.specs.Prelude.{◌≡◌, ℕ, suc, ◌+◌, ◌-◌, ◌*◌, ◌^◌, ◌<◌, ◌≤◌, max, map, length, List, IfSome, nat_le};
 ghost use Rattle.bz_model.specs.Fraction.{Fraction};
 ghost use Rattle.bz_model.specs.Spec.{node_at};
 ghost use Rattle.bz_model.specs.Cell.{IsCell, IsInCell};
 ghost use Rattle.bz_model.specs.Ideal.{IsIdealOption};
+ghost use Rattle.bz_model.specs.Oracle.{cost_between};
 ghost use Rattle.class_system.specs.Views.{number};
 ghost use Rattle.class_system.specs.Each.{Each};
-ghost use Rattle.choice_draw.specs.Decision.{level_of, IsUnion, union_parts, union_choice, union_decision, taken};
+ghost use Rattle.bit_tape.specs.Tape.{TapeSource, Belongs, bits_of, HasFault};
+ghost use Rattle.choice_draw.specs.Decision.{Choice, level_for, level_of, IsUnion, union_parts, union_choice, union_decision, taken};
+ghost use Rattle.choice_draw.specs.Answer.{IsDrawn, OnValue, HasCell, UsesBits};
 
-use crate::cells::{level_at, power_of_two};
+use crate::cells::{half_of, level_at, power_of_two};
+use crate::drawn::Drawn;
+use bit_tape::tape::{BitAnswer, Tape};
 use bz_model::cell::Cell;
 use bz_model::oracle::Oracle;
+use bz_model::steps::Steps;
+use bz_outside::shelf::Shelf;
 use class_system::expr::Expr;
 use class_system::ids::ExprId;
 use class_system::system::System;
+use std::sync::ledger::Ledger;
+
+/// Draws the number of a union's part: takes bits until their cell decides one.
+///
+/// The number is the ideal option of every number of its cell. At most 60 bits are taken. The level
+/// of b bits, one for each ten bits begun, is raised before they are looked at, and no other. Where
+/// the shelf tells its content, the answer is fixed by the tape's bits and the oracle's table. Takes
+/// no memory.
+pub fn draw_union<const F: u32, O: Oracle<F>, S: Shelf, L: Ledger>(
+    system: &System,
+    node: ExprId,
+    oracle: &mut O,
+    tape: &mut Tape,
+    shelf: &mut S,
+    steps: &mut Steps<L>,
+) -> Drawn
+    requires fraction { (24 ≤ F) × (F ≤ 56) }
+    requires union { IsUnion system.now node.0 }
+    requires spec { O.spec oracle.old ≡ system.now }
+    requires belongs { Belongs (S.content shelf.old) tape.old }
+
+    ensures exact { IfSome (bits_of tape.old.source (S.content shelf.old)) (λ bits. IsDrawn Choice.Take (union_decision system.now (O.table oracle.old) node.0) bits tape.old.used result tape.new.used) }
+    ensures ideal { OnValue result (λ i cell. (u : Fraction) → IsInCell cell.k cell.b u → IsIdealOption system.now (O.x oracle.old) u node.0 i) }
+    ensures in_range { OnValue result (λ i cell. i < length (union_parts (node_at system.now node.0))) }
+    ensures cell { HasCell result }
+
+    ensures spec { O.spec oracle.new ≡ O.spec oracle.old }
+    ensures x { O.x oracle.new ≡ O.x oracle.old }
+    ensures table { O.table oracle.new ≡ O.table oracle.old }
+    ensures cost { O.cost oracle.new ≡ O.cost oracle.old }
+    ensures raised { O.raised oracle.new ≡ max (O.raised oracle.old) (level_for (tape.new.used - tape.old.used)) }
+    ensures ticks { steps.new ≤ steps.old + cost_between (O.cost oracle.old) (O.raised oracle.old) (O.raised oracle.new) }
+
+    ensures used { UsesBits result tape.old.used tape.new.used }
+    ensures source { tape.new.source ≡ tape.old.source }
+    ensures belongs { Belongs (S.content shelf.new) tape.new }
+
+    ensures content { S.content shelf.new ≡ S.content shelf.old }
+    ensures counts { (other : List ℕ) → S.faults shelf.old other ≤ S.faults shelf.new other }
+    ensures cause { result ≡ Drawn.ReadFault → HasFault tape.old.source (S.faults shelf.old) (S.faults shelf.new) }
+    ensures seeded { (seed : ℕ) → tape.old.source ≡ TapeSource.Seeded seed → shelf.new ≡ shelf.old }
+{
+    oracle.known();
+    let parts = parts_of(system, node);
+    let mut cell = Cell { k: 0, b: 0 };
+    'bits: while cell.b < 60 {
+        match tape.next_bit(shelf) {
+            BitAnswer::Bit(bit) => cell = half_of(cell, bit),
+            BitAnswer::Ended => return Drawn::Ended,
+            BitAnswer::ReadFault => return Drawn::ReadFault,
+        }
+        oracle.raise(level_at(cell.b), steps);
+        if let Some(option) = decide_by_table(parts, node, cell, oracle) {
+            let value = u64::from(option);
+            return Drawn::Value { value, cell };
+        }
+    }
+    Drawn::Straddles { cell }
+}
 
 /// The number of the part of a union that is the ideal option of every number of the cell.
 ///
@@ -33,6 +99,7 @@ pub fn decide_union<const F: u32, O: Oracle<F>>(
     requires raised { level_of cell ≤ O.raised oracle.now }
     ensures exact { taken result ≡ union_decision system.now (O.table oracle.now) node.0 cell }
     ensures ideal { IfSome result (λ i. (u : Fraction) → IsInCell cell.k cell.b u → IsIdealOption system.now (O.x oracle.now) u node.0 i) }
+    ensures in_range { IfSome result (λ i. i < length (union_parts (node_at system.now node.0))) }
 {
     oracle.known();
     decide_by_table(parts_of(system, node), node, cell, oracle)
@@ -67,6 +134,7 @@ fn decide_by_table<const F: u32, O: Oracle<F>>(
     requires parts { Each (λ p. p.0 < length (O.spec oracle.now).nodes) parts.now }
     requires raised { level_of cell ≤ O.raised oracle.now }
     ensures exact { taken result ≡ union_choice (O.table oracle.now) node.0 (map number parts.now) cell }
+    ensures in_range { IfSome result (λ i. i < length parts.now) }
 {
     let level = level_at(cell.b);
     let whole = oracle.bounds(node.0, level)?;

@@ -20,8 +20,8 @@ loop-i-preserved g c =
     (rw (← c.in_ok-bounds.ensures.table) c.saturating_add-hi_before.ensures) (λ last. c.if-i-parts.false (last ∙ count))
     (rw (← c.in_ok-whole.ensures.table) (sym c.ends_before.ensures.exact ∙ c.if-ends_before.false))
 
-pub returns-then-i-parts : goal.returns-then-i-parts
-returns-then-i-parts g c =
+pub returns-then-i-parts-clause-exact : goal.returns-then-i-parts-clause-exact
+returns-then-i-parts-clause-exact g c =
     let node = g.O.Oracle.table c.args.oracle.now c.level_at-level.result in
     let parts = map number c.args.parts.now in
     let whole = c.in_ok-whole.ensures.table in
@@ -38,4 +38,4 @@ returns-then-i-parts g c =
         ] in
     let decided = scan-choice node c.args.node.0 parts c.args.cell c.loop-i.i c.loop-i.lo c.loop-i.hi_before (get_or c.args.parts.now c.loop-i.i (record { 0 = 0 })).0 c.saturating_add-lo.result c.loop-i.invariant (omega arith) (get_or-map number c.args.parts.now c.loop-i.i (record { 0 = 0 }))
         (rw (← c.in_ok-bounds.ensures.table) c.saturating_add-lo.ensures) passing c.if-i-eq0.reached (rw (← whole) (omega arith)) reached in
-    record { exact = ap taken c.then_some.ensures ∙ taken-then_some c.if-i-eq0.reached c.loop-i.i ∙ sym decided ∙ ap (λ level. union_choice_at (g.O.Oracle.table c.args.oracle.now) level c.args.node.0 parts c.args.cell) c.level_at-level.ensures.exact }
+    ap taken c.then_some.ensures ∙ taken-then_some c.if-i-eq0.reached c.loop-i.i ∙ sym decided ∙ ap (λ level. union_choice_at (g.O.Oracle.table c.args.oracle.now) level c.args.node.0 parts c.args.cell) c.level_at-level.ensures.exact

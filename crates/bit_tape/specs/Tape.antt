@@ -1,0 +1,45 @@
+-- Tapes: where their bits come from, which bits they have, and how a tape fits a shelf.
+use Rattle.std.specs.Prelude.{◌≡◌, ℕ, ◌+◌, ◌/◌, List, [], length, take, drop, Bool, Option, Some, IfSome, option_map}
+use Rattle.bz_outside.specs.Outside.{Rose}
+use Rattle.bit_tape.specs.Bits.{file_bit, seed_bit}
+
+-- The bits come from the bytes under a name, or from a seed.
+pub data TapeSource : Type 0 where
+  Named : (name : List ℕ) → TapeSource
+  Seeded : (seed : ℕ) → TapeSource
+
+-- A tape: its source, how many bits it gave, and the bytes that it has read ahead, from the one with the next bit on.
+pub record TapeState : Type 0 where
+  pub source : TapeSource
+  pub used : ℕ
+  pub ahead : List ℕ
+
+-- The bits of a source over a shelf with these contents, where they are told.
+abbrev pub bits_of : TapeSource → (contents : List ℕ → Option (List ℕ)) → Option (ℕ → Option Bool)
+bits_of (TapeSource.Named name) contents = option_map file_bit (contents name)
+bits_of (TapeSource.Seeded seed) contents = Some (seed_bit seed)
+
+-- Bytes read ahead are those of a content from a place on.
+abbrev pub AreAt : (ahead : List ℕ) → (place : ℕ) → (content : List ℕ) → Type 0
+AreAt ahead place content = ahead ≡ take (length ahead) (drop place content)
+
+-- What a source reads ahead is what the contents have at the place. Of a seed no shelf is asked.
+abbrev pub ReadsAhead : TapeSource → (contents : List ℕ → Option (List ℕ)) → (place : ℕ) → (ahead : List ℕ) → Type 0
+ReadsAhead (TapeSource.Named name) contents place ahead = IfSome (contents name) (AreAt ahead place)
+ReadsAhead (TapeSource.Seeded seed) contents place ahead = Unit {0}
+
+-- A tape belongs to a shelf with these contents where the bytes that it has read ahead are those of its name's content.
+pub record Belongs (contents : List ℕ → Option (List ℕ)) (tape : TapeState) : Type 0 where
+  pub ahead : ReadsAhead tape.source contents (tape.used / 8) tape.ahead
+
+-- A read of the source failed: its name's count of faults rose. A seed has no name, so none fails.
+abbrev pub HasFault : TapeSource → (before now : List ℕ → ℕ) → Type 0
+HasFault (TapeSource.Named name) before now = Rose (before name) (now name)
+HasFault (TapeSource.Seeded seed) before now = ⊥
+
+-- The tape gave one bit. Over every shelf that it belongs to, that is the next bit of its source, and it still belongs.
+pub record GivesBit (old : TapeState) (bit : Bool) (new : TapeState) : Type 0 where
+  pub source : new.source ≡ old.source
+  pub used : new.used ≡ old.used + 1
+  pub next : (contents : List ℕ → Option (List ℕ)) → Belongs contents old → IfSome (bits_of old.source contents) (λ bits. bits old.used ≡ Some bit)
+  pub belongs : (contents : List ℕ → Option (List ℕ)) → Belongs contents old → Belongs contents new

@@ -1,0 +1,57 @@
+//! Where a tape's bytes come from.
+ghost use Rattle.std.specs.Prelude.{◌≡◌, ℕ, ◌+◌, ◌^◌, ◌<◌, ◌≤◌, List, length, IfSome};
+
+use crate::buffer::BitBuffer;
+use crate::words::Words;
+use bz_outside::shelf::{Failed, Shelf};
+use bz_outside::word::Word;
+
+/// A file's name, or the words of a seed.
+#[derive(Drop)]
+pub enum Source {
+    File(Word),
+    Seed(Words),
+}
+
+/// Whether the buffer could be filled.
+#[derive(Clone, Copy, Debug, PartialEq, Eq)]
+pub enum Refill {
+    /// There are bytes.
+    Bytes,
+    /// The source has ended.
+    Ended,
+    /// A read failed.
+    ReadFault,
+}
+
+impl Source {
+    ghost use Rattle.bit_tape.specs.Source.{source_of, GoesOn};
+    ghost use Rattle.bit_tape.specs.Refill.{Refills};
+    ghost use Rattle.bit_tape.specs.Tape.{TapeSource};
+
+    /// Fills the empty buffer with the bytes from `place` on.
+    pub fn refill<S: Shelf>(&mut self, place: u64, buffer: &mut BitBuffer, shelf: &mut S) -> Refill
+        requires empty { length buffer.old.bytes ≡ 0 }
+        requires within { place < 2 ^ 60 }
+        requires goes_on { GoesOn self.old place buffer.old.bytes }
+        ensures content { S.content shelf.new ≡ S.content shelf.old }
+        ensures counts { (other : List ℕ) → S.faults shelf.old other ≤ S.faults shelf.new other }
+        ensures source { source_of self.new ≡ source_of self.old }
+        ensures bit { buffer.new.bit ≡ buffer.old.bit }
+        ensures refills { Refills result (source_of self.old) (S.content shelf.old) (S.faults shelf.old) (S.faults shelf.new) place buffer.old.bytes buffer.new.bytes }
+        ensures goes_on { GoesOn self.new place buffer.new.bytes }
+        ensures seeded { (seed : ℕ) → source_of self.old ≡ TapeSource.Seeded seed → shelf.new ≡ shelf.old }
+    {
+        match self {
+            Source::Seed(words) => {
+                buffer.hold_word(words.next());
+                Refill::Bytes
+            }
+            Source::File(name) => match buffer.fill(shelf, name, place) {
+                Ok(0) => Refill::Ended,
+                Ok(_) => Refill::Bytes,
+                Err(Failed) => Refill::ReadFault,
+            },
+        }
+    }
+}
