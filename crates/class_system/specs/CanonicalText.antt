@@ -10,6 +10,10 @@ pub record Shown : Type 0 where
   pub form : Form
   pub text : List ℕ
 
+-- A node that is neither a union nor a product.
+abbrev pub single : List ℕ → Shown
+single text = record { form = form.Single; text = text }
+
 -- A text in parentheses.
 abbrev pub bracketed : List ℕ → List ℕ
 bracketed text = codes "(" ++ text ++ codes ")"
@@ -34,7 +38,7 @@ separated by (t ∷ u ∷ ts) = t ++ by ++ separated by (u ∷ ts)
 
 -- What is shown of the node at a place.
 abbrev pub shown_at : List Shown → ℕ → Shown
-shown_at shown i = unwrap_or (slice_get shown i) (record { form = form.Single; text = [] })
+shown_at shown i = unwrap_or (slice_get shown i) (single [])
 
 -- A leaf: its letter, and its word where it has one.
 abbrev pub leaf_text : (letter word : List ℕ) → List ℕ
@@ -50,16 +54,20 @@ bound_text plain low (Some high) = if nat_eq low high then codes "=" ++ decimal 
 abbrev pub counted_text : (operator : List ℕ) → (plain : ℕ) → Range → (part : Shown) → List ℕ
 counted_text operator plain range part = operator ++ bound_text plain range.low range.high ++ bracketed part.text
 
+-- A union or a product: the texts of its parts with a separator between each two of them.
+abbrev pub joined : (kind : Form) → (separator : List ℕ) → (before : List Shown) → (parts : List ℕ) → Shown
+joined kind separator before parts = record { form = kind; text = separated separator (map (λ part. part_text kind (shown_at before part)) parts) }
+
 -- What is shown of a node, from what is shown of the nodes before it.
 abbrev pub node_shown : (names : List (List ℕ)) → (before : List Shown) → Node → Range → Shown
-node_shown names before (Node.Empty word) range = record { form = form.Single; text = leaf_text (codes "E") word }
-node_shown names before (Node.Atom word) range = record { form = form.Single; text = leaf_text (codes "Z") word }
-node_shown names before (Node.Class c) range = record { form = form.Single; text = unwrap_or (slice_get names c) [] }
-node_shown names before (Node.Union parts) range = record { form = form.Summed; text = separated (codes " + ") (map (λ p. part_text form.Summed (shown_at before p)) parts) }
-node_shown names before (Node.Product parts) range = record { form = form.Multiplied; text = separated (codes "*") (map (λ p. part_text form.Multiplied (shown_at before p)) parts) }
-node_shown names before (Node.Seq part) range = record { form = form.Single; text = counted_text (codes "Seq") 0 range (shown_at before part) }
-node_shown names before (Node.Set part) range = record { form = form.Single; text = counted_text (codes "Set") 0 range (shown_at before part) }
-node_shown names before (Node.Cyc part) range = record { form = form.Single; text = counted_text (codes "Cyc") 1 range (shown_at before part) }
+node_shown names before (Node.Empty word) range = single (leaf_text (codes "E") word)
+node_shown names before (Node.Atom word) range = single (leaf_text (codes "Z") word)
+node_shown names before (Node.Class c) range = single (unwrap_or (slice_get names c) [])
+node_shown names before (Node.Union parts) range = joined form.Summed (codes " + ") before parts
+node_shown names before (Node.Product parts) range = joined form.Multiplied (codes "*") before parts
+node_shown names before (Node.Seq part) range = single (counted_text (codes "Seq") 0 range (shown_at before part))
+node_shown names before (Node.Set part) range = single (counted_text (codes "Set") 0 range (shown_at before part))
+node_shown names before (Node.Cyc part) range = single (counted_text (codes "Cyc") 1 range (shown_at before part))
 
 -- What is shown of all nodes.
 abbrev pub all_shown : Spec → List Shown

@@ -4,7 +4,7 @@ ghost use Rattle.class_system.specs.Each.{Each};
 ghost use Rattle.class_system.specs.Views.{spec_node, spec_range, spec_mode, number};
 ghost use Rattle.class_system.specs.NodeOrder.{parts_of};
 ghost use Rattle.class_system.specs.Sound.{IsSound, RefersBelow};
-ghost use Rattle.class_system.specs.CanonicalText.{is_bracketed, part_text, separated, shown_at, leaf_text, bound_text, counted_text, bracketed, node_shown, all_shown, mode_word, class_text, canonical_text};
+ghost use Rattle.class_system.specs.CanonicalText.{single, is_bracketed, part_text, joined, leaf_text, bound_text, counted_text, bracketed, node_shown, all_shown, mode_word, class_text, canonical_text};
 
 use crate::draft::{Draft, Mode};
 use crate::expr::Expr;
@@ -101,69 +101,63 @@ fn show_node(
     ensures shown { IfOk result (λ text.
         text ≡ node_shown names.now before.now (spec_node item.now) (spec_range bounds)) }
 {
-    let (form, bytes) = match item {
-        Expr::Empty(word) => (Form::Single, leaf(alloc, b"E", word.bytes())?),
-        Expr::Atom(word) => (Form::Single, leaf(alloc, b"Z", word.bytes())?),
-        Expr::Class(c) => (
-            Form::Single,
-            Vec::from_slice(alloc, names.name(c.0 as usize).bytes())?,
-        ),
-        Expr::Union(parts) => (
-            Form::Summed,
-            joined(alloc, Form::Summed, b" + ", before, parts.items())?,
-        ),
-        Expr::Product(parts) => (
-            Form::Multiplied,
-            joined(alloc, Form::Multiplied, b"*", before, parts.items())?,
-        ),
-        Expr::Seq(part) => (
-            Form::Single,
-            counted(alloc, b"Seq", 0, bounds, &before[part.0 as usize])?,
-        ),
-        Expr::Set(part) => (
-            Form::Single,
-            counted(alloc, b"Set", 0, bounds, &before[part.0 as usize])?,
-        ),
-        Expr::Cyc(part) => (
-            Form::Single,
-            counted(alloc, b"Cyc", 1, bounds, &before[part.0 as usize])?,
-        ),
-    };
-    Ok(NodeText { form, bytes })
+    match item {
+        Expr::Empty(word) => leaf(alloc, b"E", word.bytes()),
+        Expr::Atom(word) => leaf(alloc, b"Z", word.bytes()),
+        Expr::Class(c) => reference(alloc, names.name(c.0 as usize).bytes()),
+        Expr::Union(parts) => joined(alloc, Form::Summed, b" + ", before, parts.items()),
+        Expr::Product(parts) => joined(alloc, Form::Multiplied, b"*", before, parts.items()),
+        Expr::Seq(part) => counted(alloc, b"Seq", 0, bounds, &before[part.0 as usize]),
+        Expr::Set(part) => counted(alloc, b"Set", 0, bounds, &before[part.0 as usize]),
+        Expr::Cyc(part) => counted(alloc, b"Cyc", 1, bounds, &before[part.0 as usize]),
+    }
 }
 
 /// A leaf: its letter, and its word where it has one.
-fn leaf(alloc: Global, letter: &[u8], word: &[u8]) -> Result<Vec<u8>, AllocError>
-    ensures text { IfOk result (λ text. text.items ≡ leaf_text letter.now word.now) }
+fn leaf(alloc: Global, letter: &[u8], word: &[u8]) -> Result<NodeText, AllocError>
+    ensures text { IfOk result (λ text. text ≡ single (leaf_text letter.now word.now)) }
 {
-    let mut text = Vec::from_slice(alloc, letter)?;
+    let mut bytes = Vec::from_slice(alloc, letter)?;
     if !word.is_empty() {
-        text.extend_from_slice(b":")?;
-        text.extend_from_slice(word)?;
+        bytes.extend_from_slice(b":")?;
+        bytes.extend_from_slice(word)?;
     }
-    Ok(text)
+    Ok(NodeText {
+        form: Form::Single,
+        bytes,
+    })
+}
+
+/// A reference: the name of its class.
+fn reference(alloc: Global, name: &[u8]) -> Result<NodeText, AllocError>
+    ensures text { IfOk result (λ text. text ≡ single name.now) }
+{
+    Ok(NodeText {
+        form: Form::Single,
+        bytes: Vec::from_slice(alloc, name)?,
+    })
 }
 
 /// The parts of a union or a product, with a separator between each two of them.
 fn joined(
     alloc: Global,
-    within: Form,
+    form: Form,
     separator: &[u8],
     before: &[NodeText],
     parts: &[ExprId],
-) -> Result<Vec<u8>, AllocError>
+) -> Result<NodeText, AllocError>
     requires parts { Each (λ part. part < length before.now) (map number parts.now) }
-    ensures text { IfOk result (λ text. text.items ≡ separated separator.now
-        (map (λ part. part_text within (shown_at before.now part)) (map number parts.now))) }
+    ensures text { IfOk result (λ text.
+        text ≡ joined form separator.now before.now (map number parts.now)) }
 {
-    let mut text: Vec<u8> = Vec::new(alloc);
+    let mut bytes: Vec<u8> = Vec::new(alloc);
     for (i, part) in parts.iter().enumerate() {
         if i > 0 {
-            text.extend_from_slice(separator)?;
+            bytes.extend_from_slice(separator)?;
         }
-        push_part(&mut text, within, &before[part.0 as usize])?;
+        push_part(&mut bytes, form, &before[part.0 as usize])?;
     }
-    Ok(text)
+    Ok(NodeText { form, bytes })
 }
 
 /// Appends a part of a union or a product, in parentheses where it needs them.
@@ -207,14 +201,17 @@ fn counted(
     plain_low: u32,
     bounds: Range,
     part: &NodeText,
-) -> Result<Vec<u8>, AllocError>
+) -> Result<NodeText, AllocError>
     ensures text { IfOk result (λ text.
-        text.items ≡ counted_text operator.now plain_low (spec_range bounds) part.now) }
+        text ≡ single (counted_text operator.now plain_low (spec_range bounds) part.now)) }
 {
-    let mut text = Vec::from_slice(alloc, operator)?;
-    push_bound(&mut text, plain_low, bounds)?;
-    push_bracketed(&mut text, &part.bytes)?;
-    Ok(text)
+    let mut bytes = Vec::from_slice(alloc, operator)?;
+    push_bound(&mut bytes, plain_low, bounds)?;
+    push_bracketed(&mut bytes, &part.bytes)?;
+    Ok(NodeText {
+        form: Form::Single,
+        bytes,
+    })
 }
 
 /// Appends the bound of a counted node: nothing for a plain range, else `=k` where low and high are
