@@ -1,0 +1,3 @@
+pub mod Foundedness
+pub mod Rounds
+pub mod EmptyObjects
