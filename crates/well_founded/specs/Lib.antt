@@ -1,3 +1,4 @@
 pub mod Foundedness
 pub mod Rounds
 pub mod EmptyObjects
+pub mod Ways
