@@ -8,7 +8,7 @@ use Rattle.bz_model.specs.Spec.{Spec, Node, Range, node_at, IsInRange, IsWithinH
 use Rattle.bz_model.specs.Object.{Object, Objects, none, more, count}
 use Rattle.bz_model.specs.Measures.{size, sizes, tree_nodes, all_nodes}
 use Rattle.bz_model.specs.WellFounded.{IsWellFounded}
-use Rattle.well_founded.specs.Foundedness.{Counts, IsCountedOf, IsPart, IsSound, IsFew, Least, HasEmpty, Under, IsAccepted}
+use Rattle.well_founded.specs.Foundedness.{Counts, IsCountedOf, IsPart, IsOrderly, IsFew, Least, HasEmpty, Under, IsAccepted}
 use Rattle.well_founded.proofs.Having.{Of, OfEach, OfAll, of-belongs}
 use Rattle.well_founded.proofs.Least.{size-form, tree_nodes-form, least, least-each, some-belongs, belongs-some}
 use Rattle.well_founded.proofs.Growth.{join, sizes-join, of-join}
@@ -77,7 +77,7 @@ alone-or {s} (OfAll.cons {o = o} k ks) l z = inr (least s ⊥ k (inr (omega arit
 alone-or {s} OfAll.nil (OfAll.cons {o = o} k ks) z = inr (least s ⊥ k (inr (omega arith)))
 
 -- The parts of an object of size n.
-module _ (s : Spec) (sound : IsSound s) (n : ℕ) (small : Cap s n) (e : ℕ) (cs : List ℕ) (ch : Chain s e cs) (B : ℕ) (deep : (p : ℕ) → p < e → (o : Object) → Chain s p cs → Of s p o → size o ≡ n → tree_nodes o ≤ B) where
+module _ (s : Spec) (sound : IsOrderly s) (n : ℕ) (small : Cap s n) (e : ℕ) (cs : List ℕ) (ch : Chain s e cs) (B : ℕ) (deep : (p : ℕ) → p < e → (o : Object) → Chain s p cs → Of s p o → size o ≡ n → tree_nodes o ≤ B) where
   each-cap : (parts : List ℕ) → node_at s e ≡ Some (Node.Product parts) → (xs : List ℕ) (ys : Objects) → OfEach s xs ys → {rest : List ℕ} {os : Objects} → OfEach s rest os → parts ≡ xs ++ rest → sizes ys + sizes os ≡ n → all_nodes os ≤ length rest * (B + small.bound)
   each-cap parts q xs ys l OfEach.done pe se = omega arith
   each-cap parts q xs ys l (OfEach.first {e = p} {es = ps} {o = o} {os = os} k ks) pe se =
@@ -107,7 +107,7 @@ module _ (s : Spec) (sound : IsSound s) (n : ℕ) (small : Cap s n) (e : ℕ) (c
       beside (inl z) = inl (omega arith)
       beside (inr y) = inr y
 
-module _ (s : Spec) (sound : IsSound s) (accepted : IsAccepted s) where
+module _ (s : Spec) (sound : IsOrderly s) (accepted : IsAccepted s) where
   counted-few : {e part : ℕ} {r : Range} {os : Objects} → Counts s e part r → IsInRange (count os) (Some r) → OfAll s part os → count os ≤ 64 + sizes os
   counted-few {e} {part} {r} {os} k i a = elim (few-parts (count os) r.high i.1 (sound.ranges e part r k).few) [
     | inl endless ↦ let h = as-many (λ zero. accepted.parts e (record { part = part; range = r; counts = k; endless = endless; zero = zero })) a in omega arith
@@ -176,14 +176,14 @@ module _ (s : Spec) (sound : IsSound s) (accepted : IsAccepted s) where
   cap (suc n) = cap-more n (cap n)
 
 -- Where nothing is refused, the specification is well founded.
-pub accepted-founded : (s : Spec) → IsSound s → IsAccepted s → IsWellFounded s
+pub accepted-founded : (s : Spec) → IsOrderly s → IsAccepted s → IsWellFounded s
 accepted-founded s sound accepted = record {
   inhabited = λ c body q. some-belongs s sound body (accepted.objects c body q);
   bounded = λ c body n q. let k = cap s sound accepted (suc n) in (k.bound, λ o b z. k.holds body o (of-belongs s body o b) (omega arith));
 }
 
 -- And the other way round.
-pub founded-accepted : (s : Spec) → IsSound s → IsWellFounded s → IsAccepted s
+pub founded-accepted : (s : Spec) → IsOrderly s → IsWellFounded s → IsAccepted s
 founded-accepted s sound w = record {
   objects = λ c body q. let o = w.inhabited c body q in belongs-some s body o.0 o.1;
   parts = λ e z. zero_part-unfounded s sound e z w;

@@ -2,7 +2,7 @@
 use Rattle.std.proofs.Common.{◌≡◌, ℕ, zero, suc, ◌<◌, ◌⊎◌, inl, inr, List, [], ◌∷◌, Some, None, arith, refl, sym, ◌∙◌, subst}
 use Rattle.std.specs.List.{slice_get}
 use Rattle.bz_model.specs.Spec.{Spec, Mode, Node, Range, node_at, range_at, body_of}
-use Rattle.well_founded.specs.Foundedness.{Counts, IsPart, IsSound, IsSoundRange, Least, LeastEach, HasSome, HasEmpty, Under, StepsTo, Leads, ZeroPart, ZeroLoop, IsAccepted}
+use Rattle.well_founded.specs.Foundedness.{Counts, IsPart, IsOrderly, IsSoundRange, Least, LeastEach, HasSome, HasEmpty, Under, StepsTo, Leads, ZeroPart, ZeroLoop, IsAccepted}
 use Rattle.bz_model.specs.WellFounded.{IsWellFounded}
 use Rattle.well_founded.proofs.Accepted.{accepted-founded}
 use Rattle.well_founded.specs.Rounds.{Gets}
@@ -140,7 +140,7 @@ stands (suc (suc zero)) n q = inr (3, Node.Product (0 ∷ 2 ∷ []), refl, (1, r
 stands (suc (suc (suc zero))) n q = inl (0, refl)
 stands (suc (suc (suc (suc e)))) n q = absurd (cc)
 
-set_of_itself-sound : IsSound set_of_itself
+set_of_itself-sound : IsOrderly set_of_itself
 set_of_itself-sound = record {
   below = parts-below;
   classes = class-there;

@@ -3,7 +3,7 @@ use Rattle.std.proofs.Common.{◌≡◌, ℕ, zero, suc, ◌+◌, ◌⊎◌, inl
 use Rattle.bz_model.specs.Spec.{Spec, Node, Range, IsInRange, IsWithinHigh}
 use Rattle.bz_model.specs.Object.{Object, Objects, none, more, count, Belongs}
 use Rattle.bz_model.specs.Measures.{size, sizes, tree_nodes, all_nodes, HasZero}
-use Rattle.well_founded.specs.Foundedness.{Counts, IsSound, Least, LeastEach, HasSome, HasEmpty}
+use Rattle.well_founded.specs.Foundedness.{Counts, IsOrderly, Least, LeastEach, HasSome, HasEmpty}
 use Rattle.well_founded.proofs.Having.{Of, OfEach, OfAll, form_of, of-belongs, belongs-of}
 
 pub size-form : (n : Node) (os : Objects) → size (form_of n os) ≡ sizes os
@@ -64,7 +64,7 @@ zero-within (Some h) = omega arith
 low-copies : (r : Range) → IsWithinHigh r.low r.high → (o : Object) → IsInRange (count (copies r.low o)) (Some r)
 low-copies r w o = subst (λ n. IsInRange n (Some r)) (sym (count-copies r.low o)) (omega arith, w)
 
-module _ (s : Spec) (A : Type 0) (sound : IsSound s) where
+module _ (s : Spec) (A : Type 0) (sound : IsOrderly s) where
   mutual
     pub found : {e : ℕ} → Least s A e → Found s A e
     found (Least.empty w q) = record { object = Object.Unit_; has = Of.empty w q refl; fits = inr refl }
@@ -121,7 +121,7 @@ module _ (s : Spec) (A : Type 0) where
     least-first (OfAll.cons {o = o} {os = os} k ks) f = inr (least k (fits-left (size o) (sizes os) f))
 
 -- By the rule a node has an object exactly where one belongs to it.
-pub some-belongs : (s : Spec) → IsSound s → (e : ℕ) → HasSome s e → (o : Object) × Belongs s e o
+pub some-belongs : (s : Spec) → IsOrderly s → (e : ℕ) → HasSome s e → (o : Object) × Belongs s e o
 some-belongs s sound e h = let f = found s (Unit {0}) sound h in (f.object, belongs-of s f.has)
 
 pub belongs-some : (s : Spec) (e : ℕ) (o : Object) → Belongs s e o → HasSome s e
@@ -132,7 +132,7 @@ no-atom (inl k) = elim k [ ]
 no-atom (inr p) = p
 
 -- By the rule a node has an object of size 0 exactly where one belongs to it.
-pub empty-belongs : (s : Spec) → IsSound s → (e : ℕ) → HasEmpty s e → HasZero s e
+pub empty-belongs : (s : Spec) → IsOrderly s → (e : ℕ) → HasEmpty s e → HasZero s e
 empty-belongs s sound e h = let f = found s ⊥ sound h in record { object = f.object; belongs = belongs-of s f.has; no_atom = no-atom f.fits }
 
 pub belongs-empty : (s : Spec) (e : ℕ) → HasZero s e → HasEmpty s e

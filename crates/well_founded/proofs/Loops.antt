@@ -4,7 +4,7 @@ use Rattle.bz_model.specs.Spec.{Spec, Node, Range, node_at, body_of}
 use Rattle.bz_model.specs.Object.{Object}
 use Rattle.bz_model.specs.Measures.{size, tree_nodes}
 use Rattle.bz_model.specs.WellFounded.{IsWellFounded}
-use Rattle.well_founded.specs.Foundedness.{Counts, IsCountedOf, IsSound, Least, LeastEach, Under, StepsTo, Leads, ZeroLoop}
+use Rattle.well_founded.specs.Foundedness.{Counts, IsCountedOf, IsOrderly, Least, LeastEach, Under, StepsTo, Leads, ZeroLoop}
 use Rattle.well_founded.proofs.Having.{Of, ClassOf, of-belongs}
 use Rattle.well_founded.proofs.Least.{sizes-copies, found, found-each, no-atom}
 use Rattle.well_founded.proofs.Growth.{Put, Plug, plug-union, plug-product, plug-copies, plug-alone, before_last, Grown, Unbounded, tree_nodes-pos}
@@ -37,7 +37,7 @@ raise-plug s d e f p h = record {
       record { object = b.object; has = b.has; sized = omega arith; grown = omega arith };
 }
 
-module _ (s : Spec) (sound : IsSound s) where
+module _ (s : Spec) (sound : IsOrderly s) where
   plug-low : (f part : ℕ) (r : Range) → Counts s f part r → (r.low ≤ 1) ⊎ Least s ⊥ part → Plug s part f 0
   plug-low f part r c (inl h) = plug-alone s f part r c (sound.ranges f part r c) h
   plug-low f part r c (inr l) = let z = found s ⊥ sound l in plug-along (plug-copies s f part r z.object c (sound.ranges f part r c) z.has) (sizes-copies (before_last r.low) z.object (no-atom z.fits))
@@ -129,7 +129,7 @@ through-all : {s : Spec} {c d : ℕ} → Bares s c d → (o : Object) → ClassO
 through-all (Bares.last b) o k = through b o k
 through-all (Bares.before b bs) o k = through b o (through-all bs o k)
 
-step-grows : (s : Spec) → IsSound s → (c d : ℕ) → StepsTo s c d → Grows s c d ⊎ Bare s c d
+step-grows : (s : Spec) → IsOrderly s → (c d : ℕ) → StepsTo s c d → Grows s c d ⊎ Bare s c d
 step-grows s sound c d st = elim (under-raises s sound st.under) [
   | inl q ↦ inr (record { body = st.body; is_body = st.is_body; is_class = q })
   | inr r ↦ inl (record { grow = λ o k. let p = r.raise o k in let a = p.sized in record { object = p.object; has = record { body = st.body; is_body = st.is_body; has = p.has }; sized = omega arith; grown = p.grown } })
@@ -145,7 +145,7 @@ to-bares : {s : Spec} {c d : ℕ} → Grows s c d ⊎ Bare s c d → Grows s c d
 to-bares (inl g) = inl g
 to-bares (inr b) = inr (Bares.last b)
 
-leads-grow : (s : Spec) → IsSound s → (c : ℕ) {d : ℕ} → Leads s c d → Grows s c d ⊎ Bares s c d
+leads-grow : (s : Spec) → IsOrderly s → (c : ℕ) {d : ℕ} → Leads s c d → Grows s c d ⊎ Bares s c d
 leads-grow s sound c {d} (Leads.one st) = to-bares (step-grows s sound c d st)
 leads-grow s sound c {d = e} (Leads.further {d = d} l st) = grows-then (leads-grow s sound c l) (step-grows s sound d e st)
 
@@ -167,12 +167,12 @@ leads-body : {s : Spec} {c d : ℕ} → Leads s c d → (body : ℕ) × (body_of
 leads-body (Leads.one st) = (st.body, st.is_body)
 leads-body (Leads.further l st) = leads-body l
 
-loop-unbounded : (s : Spec) → IsSound s → (c body : ℕ) → body_of s c ≡ Some body → (o : Object) → Of s body o → Grows s c c ⊎ Bares s c c → Unbounded s body
+loop-unbounded : (s : Spec) → IsOrderly s → (c body : ℕ) → body_of s c ≡ Some body → (o : Object) → Of s body o → Grows s c c ⊎ Bares s c c → Unbounded s body
 loop-unbounded s sound c body q o k (inl g) = record { at_size = size o; grows = λ h. round-in q (round g o (record { body = body; is_body = q; has = k }) h) }
 loop-unbounded s sound c body q o k (inr b) = absurd (no-loop s k c q b)
 
 -- A class that one or more steps lead to itself.
-pub zero_loop-unfounded : (s : Spec) → IsSound s → (c : ℕ) → ZeroLoop s c → ¬ (IsWellFounded s)
+pub zero_loop-unfounded : (s : Spec) → IsOrderly s → (c : ℕ) → ZeroLoop s c → ¬ (IsWellFounded s)
 zero_loop-unfounded s sound c l w =
     let b = leads-body l.leads in
     let o = w.inhabited c b.0 b.1 in

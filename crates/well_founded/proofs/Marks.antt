@@ -4,15 +4,12 @@ use Rattle.std.specs.List.{slice_get, list_any, list_all}
 use Rattle.std.proofs.lemmas.Bool.Decides.{eqb_tells}
 use Rattle.bz_model.specs.Spec.{Node, Range}
 use Rattle.well_founded.specs.Foundedness.{IsPart}
+use Rattle.well_founded.specs.Marking.{IsMarked}
 use Rattle.well_founded.specs.EmptyObjects.{answer_at, node_has_empty, counted_has_empty}
 
 pub two : (b : Bool) → (b ≡ true) ⊎ (b ≡ false)
 two true = inl refl
 two false = inr refl
-
--- a number is marked
-abbrev pub IsMarked : List Bool → ℕ → Type 0
-IsMarked marks i = answer_at marks i ≡ true
 
 any-later : (a b : Bool) → (a || b) ≡ true → a ≡ false → b ≡ true
 any-later true b h e = absurd (cc)
@@ -38,30 +35,30 @@ and-both : (a b : Bool) → a ≡ true → b ≡ true → (a && b) ≡ true
 and-both true b h k = k
 and-both false b h k = absurd (cc)
 
-record Passed (p : ℕ → Bool) (xs : List ℕ) : Type 0 where
-  i : ℕ
-  part : ℕ
-  is : slice_get xs i ≡ Some part
-  passes : p part ≡ true
+pub record Holding (p : ℕ → Bool) (xs : List ℕ) : Type 0 where
+  pub i : ℕ
+  pub part : ℕ
+  pub is : slice_get xs i ≡ Some part
+  pub passes : p part ≡ true
 
-any-down : (p : ℕ → Bool) (xs : List ℕ) → list_any p xs ≡ true → Passed p xs
+pub any-down : (p : ℕ → Bool) (xs : List ℕ) → list_any p xs ≡ true → Holding p xs
 any-down p [] h = absurd (cc)
 any-down p (x ∷ xs) h = elim (two (p x)) [
   | inl e ↦ record { i = 0; part = x; is = refl; passes = e }
   | inr e ↦ let k = any-down p xs (any-later (p x) (list_any p xs) h e) in record { i = suc k.i; part = k.part; is = k.is; passes = k.passes }
 ]
 
-any-up : (p : ℕ → Bool) (xs : List ℕ) (i part : ℕ) → slice_get xs i ≡ Some part → p part ≡ true → list_any p xs ≡ true
+pub any-up : (p : ℕ → Bool) (xs : List ℕ) (i part : ℕ) → slice_get xs i ≡ Some part → p part ≡ true → list_any p xs ≡ true
 any-up p [] i part g h = absurd (cc)
 any-up p (x ∷ xs) zero part g h = let same : part ≡ x = cc in or-left (p x) (list_any p xs) (subst (λ y. p y ≡ true) same h)
 any-up p (x ∷ xs) (suc i) part g h = or-right (p x) (list_any p xs) (any-up p xs i part g h)
 
-all-down : (p : ℕ → Bool) (xs : List ℕ) → list_all p xs ≡ true → (i part : ℕ) → slice_get xs i ≡ Some part → p part ≡ true
+pub all-down : (p : ℕ → Bool) (xs : List ℕ) → list_all p xs ≡ true → (i part : ℕ) → slice_get xs i ≡ Some part → p part ≡ true
 all-down p [] h i part g = absurd (cc)
 all-down p (x ∷ xs) h zero part g = let same : x ≡ part = cc in subst (λ y. p y ≡ true) same (and-left (p x) (list_all p xs) h)
 all-down p (x ∷ xs) h (suc i) part g = all-down p xs (and-right (p x) (list_all p xs) h) i part g
 
-all-up : (p : ℕ → Bool) (xs : List ℕ) → ((i part : ℕ) → slice_get xs i ≡ Some part → p part ≡ true) → list_all p xs ≡ true
+pub all-up : (p : ℕ → Bool) (xs : List ℕ) → ((i part : ℕ) → slice_get xs i ≡ Some part → p part ≡ true) → list_all p xs ≡ true
 all-up p [] f = refl
 all-up p (x ∷ xs) f = and-both (p x) (list_all p xs) (f 0 x refl) (all-up p xs (λ i part g. f (suc i) part g))
 

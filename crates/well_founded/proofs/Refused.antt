@@ -5,7 +5,7 @@ use Rattle.std.proofs.lemmas.Option.{slice_get_within, slice_get-get_or}
 use Rattle.bz_model.specs.Spec.{Spec, Node, node_at, body_of, IsInRange, IsWithinHigh}
 use Rattle.bz_model.specs.Measures.{tree_nodes}
 use Rattle.bz_model.specs.WellFounded.{IsWellFounded}
-use Rattle.well_founded.specs.Foundedness.{Counts, IsSound, IsCountedOf, IsPart, Least, LeastEach, HasSome, NoObject, ZeroPart}
+use Rattle.well_founded.specs.Foundedness.{Counts, IsOrderly, IsCountedOf, IsPart, Least, LeastEach, HasSome, NoObject, ZeroPart}
 use Rattle.well_founded.proofs.Having.{Of, form_of, belongs-of}
 use Rattle.well_founded.proofs.Least.{size-form, tree_nodes-form, copies, count-copies, of-copies, sizes-copies, Found, found, found-each, no-atom, belongs-some}
 use Rattle.well_founded.proofs.Growth.{plug-union, plug-product, plug-copies, Split, split, Grown, Unbounded, unbounded-plug, nodes-copies}
@@ -40,7 +40,7 @@ each-back [] ys l = l
 each-back (x ∷ xs) ys l = each-back xs ys (each-tail l)
 
 -- Where every class has an object, every node has one.
-module _ (s : Spec) (sound : IsSound s) (objects : (c body : ℕ) → body_of s c ≡ Some body → HasSome s body) where
+module _ (s : Spec) (sound : IsOrderly s) (objects : (c body : ℕ) → body_of s c ≡ Some body → HasSome s body) where
   counted-filled : (e part : ℕ) (n : Node) → node_at s e ≡ Some n → IsCountedOf n part → HasSome s part → HasSome s e
   counted-filled e part n q z l = let r = sound.ranged e n q in Least.counted {r = r.0} (record { node = n; is_node = q; of_part = z; is_range = r.1 }) l
 
@@ -110,7 +110,7 @@ bounded-not s c body q u w =
     let lt : b.0 < tree_nodes g.object = g.many in
     omega arith
 
-zero_part-grows : (s : Spec) → IsSound s → (e : ℕ) → ZeroPart s e → Unbounded s e
+zero_part-grows : (s : Spec) → IsOrderly s → (e : ℕ) → ZeroPart s e → Unbounded s e
 zero_part-grows s sound e k = record { at_size = 0; grows = λ h. grow h (found s ⊥ sound k.zero) }
   where
     grow : (h : ℕ) → Found s ⊥ k.part → Grown s e 0 h
@@ -127,7 +127,7 @@ zero_part-grows s sound e k = record { at_size = 0; grows = λ h. grow h (found 
         }
 
 -- A counted node without high, of a part with an object of size 0.
-pub zero_part-unfounded : (s : Spec) → IsSound s → (e : ℕ) → ZeroPart s e → ¬ (IsWellFounded s)
+pub zero_part-unfounded : (s : Spec) → IsOrderly s → (e : ℕ) → ZeroPart s e → ¬ (IsWellFounded s)
 zero_part-unfounded s sound e k w =
     let objects = λ (c body : ℕ) (q : body_of s c ≡ Some body). belongs-some s body (w.inhabited c body q).0 (w.inhabited c body q).1 in
     let u = climb s sound objects (length s.nodes) e k.counts.node k.counts.is_node (omega arith) (zero_part-grows s sound e k) in

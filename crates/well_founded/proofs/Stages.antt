@@ -5,12 +5,13 @@ use Rattle.std.specs.List.{slice_get}
 use Rattle.std.proofs.lemmas.Option.{slice_get_within}
 use Rattle.bz_model.specs.Spec.{Spec, Node, Range, node_at, range_at, body_of}
 use Rattle.bz_model.specs.Measures.{HasZero}
-use Rattle.well_founded.specs.Foundedness.{IsSound, HasEmpty}
+use Rattle.well_founded.specs.Foundedness.{IsOrderly, HasEmpty}
 use Rattle.well_founded.specs.Rounds.{Gets}
 use Rattle.well_founded.specs.EmptyObjects.{repeated, ranged_nodes, node_results, answer_at, node_has_empty, nodes_with_empty, more_with_empty, classes_with_empty, has_empty}
 use Rattle.well_founded.proofs.Least.{empty-belongs, belongs-empty}
 use Rattle.well_founded.proofs.Rounds.{least-round, in-closed}
-use Rattle.well_founded.proofs.Marks.{IsMarked, Holds, holds-more, mark-holds, holds-mark}
+use Rattle.well_founded.specs.Marking.{IsMarked}
+use Rattle.well_founded.proofs.Marks.{Holds, holds-more, mark-holds, holds-mark}
 
 get-front : {V : Type 0} (xs ys : List V) (p : ℕ) → p < length xs → slice_get (xs ++ ys) p ≡ slice_get xs p
 get-front [] ys p h = absurd (omega arith)
@@ -140,7 +141,7 @@ record Down (s : Spec) (cl : List Bool) (e : ℕ) : Type 0 where
   is_range : range_at s e ≡ Some range
   holds : Holds (IsMarked cl) (IsMarked (nodes_with_empty s cl)) range node
 
-module _ (s : Spec) (sound : IsSound s) where
+module _ (s : Spec) (sound : IsOrderly s) where
   marks_at : (cl : List Bool) (e : ℕ) (x : Node × Range) → slice_get (ranged_nodes s) e ≡ Some x → At (node_has_empty cl) (nodes_with_empty s cl) e x
   marks_at cl e x g = results-at (node_has_empty cl) [] (ranged_nodes s) e x g e (omega arith)
 
@@ -236,7 +237,7 @@ none-marked zero i h = absurd (cc)
 none-marked (suc n) zero h = absurd (cc)
 none-marked (suc n) (suc i) h = none-marked n i h
 
-module _ (s : Spec) (sound : IsSound s) where
+module _ (s : Spec) (sound : IsOrderly s) where
   -- the classes marked after k rounds
   abbrev stage : ℕ → List Bool
   stage k = repeated (more_with_empty s) k (replicate (length s.bodies) false)

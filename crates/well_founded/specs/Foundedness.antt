@@ -37,7 +37,7 @@ pub record IsSoundRange (r : Range) : Type 0 where
   pub few : IsFew r.high
 
 -- What foundedness needs of a sound specification: parts stand below their node, references and bodies are there, a union has two parts or more, each node has a range, a counted one that of the text rule, and each node is a body or a part.
-pub record IsSound (s : Spec) : Type 0 where
+pub record IsOrderly (s : Spec) : Type 0 where
   pub below : (e part : ℕ) (n : Node) → node_at s e ≡ Some n → IsPart n part → part < e
   pub classes : (e c : ℕ) → node_at s e ≡ Some (Node.Class c) → (body : ℕ) × (body_of s c ≡ Some body)
   pub bodies : (c body : ℕ) → body_of s c ≡ Some body → body < length s.nodes

@@ -2,3 +2,4 @@ pub mod Foundedness
 pub mod Rounds
 pub mod EmptyObjects
 pub mod Ways
+pub mod Marking

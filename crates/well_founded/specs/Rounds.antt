@@ -28,3 +28,15 @@ Passes s d P e (Node.Product parts) = (i : ℕ) × (part : ℕ) × (slice_get pa
 Passes s d P e (Node.Seq part) = (r : Range) × (range_at s e ≡ Some r) × ((r.low ≤ 1) ⊎ HasEmpty s part) × P part
 Passes s d P e (Node.Set part) = (r : Range) × (range_at s e ≡ Some r) × ((r.low ≤ 1) ⊎ HasEmpty s part) × P part
 Passes s d P e (Node.Cyc part) = (r : Range) × (range_at s e ≡ Some r) × ((r.low ≤ 1) ⊎ HasEmpty s part) × P part
+
+-- The node of this number gets an object.
+pub record GetsAt (s : Spec) (A : Type 0) (P : ℕ → Type 0) (e : ℕ) : Type 0 where
+  pub node : Node
+  pub is_node : node_at s e ≡ Some node
+  pub gets : Gets s A P e node
+
+-- The node of this number is or holds a reference to class d with objects of size 0 beside it.
+pub record PassesAt (s : Spec) (d : ℕ) (P : ℕ → Type 0) (e : ℕ) : Type 0 where
+  pub node : Node
+  pub is_node : node_at s e ≡ Some node
+  pub passes : Passes s d P e node

@@ -1,0 +1,14 @@
+use Rattle.std.proofs.Common.{◌≡◌, ℕ, List, length, take, drop, ◌++◌, Bool, IsTrue, arith, subst, sym, ◌∙◌, ap}
+use Rattle.std.proofs.lemmas.Grind.{common_steps}
+use Rattle.well_founded.specs.Marking.{AreMarked}
+use Rattle.well_founded.proofs.Marked.{are-marked}
+use Rattle.well_founded.proofs.marking.mark.Goals as goal
+
+-- a slice of all of a vector, written back
+written-back : (len : ℕ) (new items : List Bool) → length new ≡ length items → length items ≡ len → take len (new ++ drop (length new) items) ≡ new
+written-back len new items e h = grind (arith, common_steps)
+
+pub returns : goal.returns
+returns c =
+    let same_length : length c.mark_more.new.marks ≡ length c.loop.marks.items = c.mark_more.auto.marks ∙ ap length c.deref_mut.ensures.value in
+    subst (λ marks. AreMarked c.args.system.now (IsTrue c.args.atoms) marks) (sym (written-back _ _ _ same_length (omega (arith, c.deref_mut.ensures.len, ap length c.deref_mut.ensures.value)))) (are-marked _ _ _ (same_length ∙ c.loop.invariant.one_per_node) c.mark_more.ensures.right (c.mark_more.ensures.closed c.loop-test.false))
