@@ -14,7 +14,7 @@ use Rattle.well_founded.proofs.Growth.{plug-union, plug-product, plug-copies, Sp
 pub no_object-unfounded : (s : Spec) (c : ℕ) → NoObject s c → ¬ (IsWellFounded s)
 no_object-unfounded s c k w = let o = w.inhabited c k.body k.is_body in k.without (belongs-some s k.body o.0 o.1)
 
-node-there : (s : Spec) (e : ℕ) → e < length s.nodes → (n : Node) × (node_at s e ≡ Some n)
+pub node-there : (s : Spec) (e : ℕ) → e < length s.nodes → (n : Node) × (node_at s e ≡ Some n)
 node-there s e h = (get_or s.nodes e (Node.Empty []), slice_get-get_or s.nodes e (Node.Empty []) h)
 
 first-part : (parts : List ℕ) → 2 ≤ length parts → (part : ℕ) × (slice_get parts 0 ≡ Some part)

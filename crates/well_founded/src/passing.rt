@@ -1,8 +1,8 @@
 //! Which classes each node is on the way to with no atom beside.
-ghost use Rattle.std.specs.Prelude.{ℕ, ◌<◌, ◌≤◌, ◌↔◌, ◌⊎◌, false, length, map, IfOk, IsTrue};
+ghost use Rattle.std.specs.Prelude.{ℕ, ◌<◌, ◌≤◌, ◌↔◌, ◌⊎◌, length, map, IfOk, IsTrue};
 ghost use Rattle.class_system.specs.Views.{number};
 ghost use Rattle.well_founded.specs.Foundedness.{IsOrderly, Under};
-ghost use Rattle.well_founded.specs.Marking.{AreMarked};
+ghost use Rattle.well_founded.specs.Marking.{AreMarked, IsMarked};
 ghost use Rattle.well_founded.specs.Rounds.{PassesAt};
 ghost use Rattle.well_founded.specs.Ways.{IsIn, Points, SomePoints, OnePoints};
 
@@ -19,7 +19,7 @@ use std::alloc::{AllocError, Global};
 pub fn under(alloc: Global, system: &System, zero: &[bool]) -> Result<Vec<ClassSet>, AllocError>
     requires orderly { IsOrderly system.now }
     requires few { length system.now.bodies ≤ 64 }
-    requires zero { AreMarked system.now (IsTrue false) zero.now }
+    requires zero { AreMarked system.now ⊥ zero.now }
     ensures { IfOk result (λ sets. (e d : ℕ) → Points sets.items e d ↔ Under system.now d e) }
 {
     let mut sets = Vec::new(alloc);
@@ -33,7 +33,7 @@ pub fn under(alloc: Global, system: &System, zero: &[bool]) -> Result<Vec<ClassS
 fn passes(system: &System, zero: &[bool], sets: &[ClassSet], e: ExprId) -> ClassSet
     requires orderly { IsOrderly system.now }
     requires few { length system.now.bodies ≤ 64 }
-    requires zero { AreMarked system.now (IsTrue false) zero.now }
+    requires zero { AreMarked system.now ⊥ zero.now }
     requires in_range { e.0 < length system.now.nodes }
     ensures { (d : ℕ) → IsIn result d
         ↔ PassesAt system.now d (λ part. Points sets.now part d) e.0 }
@@ -44,11 +44,7 @@ fn passes(system: &System, zero: &[bool], sets: &[ClassSet], e: ExprId) -> Class
         Expr::Union(parts) => of_some(sets, parts.items()),
         Expr::Product(parts) => of_one(zero, sets, parts.items()),
         Expr::Seq(part) | Expr::Set(part) | Expr::Cyc(part) => {
-            if system.range(e).low <= 1 || is_marked(zero, *part) {
-                set_of(sets, *part)
-            } else {
-                ClassSet::empty()
-            }
+            of_counted(system.range(e).low, zero, sets, *part)
         }
     }
 }
@@ -81,10 +77,23 @@ fn of_one(zero: &[bool], sets: &[ClassSet], parts: &[ExprId]) -> ClassSet
     let mut set = ClassSet::empty();
     let mut all_zero = true;
     for part in parts {
-        set = beside(is_marked(zero, *part), set, all_zero, set_of(sets, *part));
-        all_zero = all_zero && is_marked(zero, *part);
+        let is_zero = is_marked(zero, *part);
+        set = beside(is_zero, set, all_zero, set_of(sets, *part));
+        all_zero = all_zero && is_zero;
     }
     set
+}
+
+/// The classes of the part's set, where the part may stand alone or with objects of size 0.
+fn of_counted(low: u32, zero: &[bool], sets: &[ClassSet], part: ExprId) -> ClassSet
+    ensures { (d : ℕ) → IsIn result d
+        ↔ (((low ≤ 1) ⊎ IsMarked zero.now part.0) × Points sets.now part.0 d) }
+{
+    if low <= 1 || is_marked(zero, part) {
+        set_of(sets, part)
+    } else {
+        ClassSet::empty()
+    }
 }
 
 /// The first set where the part has an object of size 0, with the second where all before it have.
