@@ -1,7 +1,7 @@
 use Rattle.std.proofs.Common.{◌∙◌, ap, Some}
 use Rattle.std.proofs.lemmas.Option.{slice_get_within}
 use Rattle.std.specs.List.{list_any, list_all}
-use Rattle.class_system.specs.Views.{node}
+use Rattle.class_system.specs.Views.{spec_node}
 use Rattle.well_founded.specs.EmptyObjects.{answer_at}
 use Rattle.well_founded.proofs.Marked.{gets-union, gets-product}
 use Rattle.well_founded.proofs.marking.gets.Goals as goal
@@ -9,13 +9,13 @@ use Rattle.well_founded.proofs.marking.gets.Goals as goal
 pub body-requires : goal.body-requires
 body-requires c =
     let s = c.args.system.now in
-    let b = c.requires.orderly.classes c.args.e.0 c.in-Class.class.0 (c.node.ensures ∙ ap (λ x. Some (node x)) c.in-Class.is) in
+    let b = c.requires.orderly.classes c.args.e.0 c.in-Class.class.0 (c.node.ensures.node ∙ ap (λ x. Some (spec_node x)) c.in-Class.is) in
     slice_get_within s.bodies c.in-Class.class.0 b.0 b.1
 
 pub returns-in-Union : goal.returns-in-Union
 returns-in-Union c =
-    gets-union _ _ _ _ c.in-Union.parts _ (c.node.ensures ∙ ap (λ x. Some (node x)) c.in-Union.is) (c.some_marked.ensures ∙ ap (λ xs. list_any (λ p. answer_at c.args.marks.now p.0) xs) c.items.ensures.items)
+    gets-union _ _ _ _ c.in-Union.parts _ (c.node.ensures.node ∙ ap (λ x. Some (spec_node x)) c.in-Union.is) (c.some_marked.ensures ∙ ap (λ xs. list_any (λ p. answer_at c.args.marks.now p.0) xs) c.items.ensures.items)
 
 pub returns-in-Product : goal.returns-in-Product
 returns-in-Product c =
-    gets-product _ _ _ _ c.in-Product.parts _ (c.node.ensures ∙ ap (λ x. Some (node x)) c.in-Product.is) (c.all_marked.ensures ∙ ap (λ xs. list_all (λ p. answer_at c.args.marks.now p.0) xs) c.items-in-Product.ensures.items)
+    gets-product _ _ _ _ c.in-Product.parts _ (c.node.ensures.node ∙ ap (λ x. Some (spec_node x)) c.in-Product.is) (c.all_marked.ensures ∙ ap (λ xs. list_all (λ p. answer_at c.args.marks.now p.0) xs) c.items-in-Product.ensures.items)
