@@ -8,7 +8,8 @@ use Rattle.bz_model.specs.Spec.{Spec, Node, Range, node_at, IsInRange, IsWithinH
 use Rattle.bz_model.specs.Object.{Object, Objects, none, more, count}
 use Rattle.bz_model.specs.Measures.{size, sizes, tree_nodes, all_nodes}
 use Rattle.bz_model.specs.WellFounded.{IsWellFounded}
-use Rattle.well_founded.specs.Foundedness.{Counts, IsCountedOf, IsPart, IsOrderly, IsFew, Least, HasEmpty, Under, IsAccepted}
+use Rattle.well_founded.specs.Foundedness.{Counts, IsCountedOf, IsPart, Least, HasEmpty, Under, IsAccepted}
+use Rattle.well_founded.proofs.Orderly.{IsOrderly, IsFew}
 use Rattle.well_founded.proofs.Having.{Of, OfEach, OfAll, of-belongs}
 use Rattle.well_founded.proofs.Least.{size-form, tree_nodes-form, least, least-each, some-belongs, belongs-some}
 use Rattle.well_founded.proofs.Growth.{join, sizes-join, of-join}

@@ -2,7 +2,8 @@
 use Rattle.std.proofs.Common.{◌≡◌, ℕ, zero, suc, ◌<◌, ◌⊎◌, inl, inr, List, [], ◌∷◌, Some, None, arith, refl, sym, ◌∙◌, subst}
 use Rattle.std.specs.List.{slice_get}
 use Rattle.bz_model.specs.Spec.{Spec, Mode, Node, Range, node_at, range_at, body_of}
-use Rattle.well_founded.specs.Foundedness.{Counts, IsPart, IsOrderly, IsSoundRange, Least, LeastEach, HasSome, HasEmpty, Under, StepsTo, Leads, ZeroPart, ZeroLoop, IsAccepted}
+use Rattle.well_founded.specs.Foundedness.{Counts, IsPart, Least, LeastEach, HasSome, HasEmpty, Under, StepsTo, Leads, ZeroPart, ZeroLoop, IsAccepted}
+use Rattle.well_founded.proofs.Orderly.{IsOrderly, IsSoundRange}
 use Rattle.bz_model.specs.WellFounded.{IsWellFounded}
 use Rattle.well_founded.proofs.Accepted.{accepted-founded}
 use Rattle.well_founded.specs.Rounds.{Gets}

@@ -4,7 +4,8 @@ use Rattle.std.specs.List.{slice_get}
 use Rattle.bz_model.specs.Spec.{Spec, Node, Range, node_at, IsInRange, IsWithinHigh}
 use Rattle.bz_model.specs.Object.{Object, Objects, none, more, count}
 use Rattle.bz_model.specs.Measures.{size, sizes, tree_nodes, all_nodes}
-use Rattle.well_founded.specs.Foundedness.{Counts, IsSoundRange}
+use Rattle.well_founded.specs.Foundedness.{Counts}
+use Rattle.well_founded.proofs.Orderly.{IsSoundRange}
 use Rattle.well_founded.proofs.Having.{Of, OfEach, OfAll, form_of}
 use Rattle.well_founded.proofs.Least.{size-form, tree_nodes-form, copies, count-copies, of-copies}
 

@@ -3,7 +3,8 @@ use Rattle.std.proofs.Common.{◌≡◌, ℕ, zero, suc, ◌+◌, ◌⊎◌, inl
 use Rattle.bz_model.specs.Spec.{Spec, Node, Range, IsInRange, IsWithinHigh}
 use Rattle.bz_model.specs.Object.{Object, Objects, none, more, count, Belongs}
 use Rattle.bz_model.specs.Measures.{size, sizes, tree_nodes, all_nodes, HasZero}
-use Rattle.well_founded.specs.Foundedness.{Counts, IsOrderly, Least, LeastEach, HasSome, HasEmpty}
+use Rattle.well_founded.specs.Foundedness.{Counts, Least, LeastEach, HasSome, HasEmpty}
+use Rattle.well_founded.proofs.Orderly.{IsOrderly}
 use Rattle.well_founded.proofs.Having.{Of, OfEach, OfAll, form_of, of-belongs, belongs-of}
 
 pub size-form : (n : Node) (os : Objects) → size (form_of n os) ≡ sizes os

@@ -4,7 +4,8 @@ use Rattle.bz_model.specs.Spec.{Spec, Node, Range, node_at, body_of}
 use Rattle.bz_model.specs.Object.{Object}
 use Rattle.bz_model.specs.Measures.{size, tree_nodes}
 use Rattle.bz_model.specs.WellFounded.{IsWellFounded}
-use Rattle.well_founded.specs.Foundedness.{Counts, IsCountedOf, IsOrderly, Least, LeastEach, Under, StepsTo, Leads, ZeroLoop}
+use Rattle.well_founded.specs.Foundedness.{Counts, IsCountedOf, Least, LeastEach, Under, StepsTo, Leads, ZeroLoop}
+use Rattle.well_founded.proofs.Orderly.{IsOrderly}
 use Rattle.well_founded.proofs.Having.{Of, ClassOf, of-belongs}
 use Rattle.well_founded.proofs.Least.{sizes-copies, found, found-each, no-atom}
 use Rattle.well_founded.proofs.Growth.{Put, Plug, plug-union, plug-product, plug-copies, plug-alone, before_last, Grown, Unbounded, tree_nodes-pos}

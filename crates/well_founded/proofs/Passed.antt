@@ -7,7 +7,8 @@ use Rattle.bz_model.specs.Spec.{Spec, Node, Range, node_at, range_at}
 use Rattle.class_system.specs.Views.{number}
 use Rattle.class_system.specs.declared.ids.ExprId.{ExprId}
 use Rattle.well_founded.specs.declared.class_set.ClassSet.{ClassSet}
-use Rattle.well_founded.specs.Foundedness.{IsOrderly, IsPart, Under, HasEmpty}
+use Rattle.well_founded.specs.Foundedness.{IsPart, Under, HasEmpty}
+use Rattle.well_founded.proofs.Orderly.{IsOrderly}
 use Rattle.well_founded.specs.Marking.{IsMarked, AreMarked}
 use Rattle.well_founded.specs.Rounds.{Passes, PassesAt}
 use Rattle.well_founded.specs.Ways.{IsIn, Points, OnePoints}

@@ -5,7 +5,8 @@ use Rattle.std.proofs.lemmas.Option.{slice_get_within, slice_get-get_or}
 use Rattle.bz_model.specs.Spec.{Spec, Node, node_at, body_of, IsInRange, IsWithinHigh}
 use Rattle.bz_model.specs.Measures.{tree_nodes}
 use Rattle.bz_model.specs.WellFounded.{IsWellFounded}
-use Rattle.well_founded.specs.Foundedness.{Counts, IsOrderly, IsCountedOf, IsPart, Least, LeastEach, HasSome, NoObject, ZeroPart}
+use Rattle.well_founded.specs.Foundedness.{Counts, IsCountedOf, IsPart, Least, LeastEach, HasSome, NoObject, ZeroPart}
+use Rattle.well_founded.proofs.Orderly.{IsOrderly}
 use Rattle.well_founded.proofs.Having.{Of, form_of, belongs-of}
 use Rattle.well_founded.proofs.Least.{size-form, tree_nodes-form, copies, count-copies, of-copies, sizes-copies, Found, found, found-each, no-atom, belongs-some}
 use Rattle.well_founded.proofs.Growth.{plug-union, plug-product, plug-copies, Split, split, Grown, Unbounded, unbounded-plug, nodes-copies}

@@ -5,7 +5,8 @@ use Rattle.std.specs.List.{slice_get}
 use Rattle.std.proofs.lemmas.Option.{slice_get_within}
 use Rattle.bz_model.specs.Spec.{Spec, Node, Range, node_at, range_at, body_of}
 use Rattle.bz_model.specs.Measures.{HasZero}
-use Rattle.well_founded.specs.Foundedness.{IsOrderly, HasEmpty}
+use Rattle.well_founded.specs.Foundedness.{HasEmpty}
+use Rattle.well_founded.proofs.Orderly.{IsOrderly}
 use Rattle.well_founded.specs.Rounds.{Gets}
 use Rattle.well_founded.specs.EmptyObjects.{repeated, ranged_nodes, node_results, answer_at, node_has_empty, nodes_with_empty, more_with_empty, classes_with_empty, has_empty}
 use Rattle.well_founded.proofs.Least.{empty-belongs, belongs-empty}

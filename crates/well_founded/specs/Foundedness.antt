@@ -25,27 +25,6 @@ pub record Counts (s : Spec) (e part : ℕ) (r : Range) : Type 0 where
   pub of_part : IsCountedOf node part
   pub is_range : range_at s e ≡ Some r
 
--- A high, where there is one, is at most 64.
-abbrev pub IsFew : Option ℕ → Type 0
-IsFew None = Unit {0}
-IsFew (Some high) = high ≤ 64
-
--- A range that the text rule gives: low and 1 are within the high, which is at most 64.
-pub record IsSoundRange (r : Range) : Type 0 where
-  pub low_within : IsWithinHigh r.low r.high
-  pub one_within : IsWithinHigh 1 r.high
-  pub few : IsFew r.high
-
--- What foundedness needs of a sound specification: parts stand below their node, references and bodies are there, a union has two parts or more, each node has a range, a counted one that of the text rule, and each node is a body or a part.
-pub record IsOrderly (s : Spec) : Type 0 where
-  pub below : (e part : ℕ) (n : Node) → node_at s e ≡ Some n → IsPart n part → part < e
-  pub classes : (e c : ℕ) → node_at s e ≡ Some (Node.Class c) → (body : ℕ) × (body_of s c ≡ Some body)
-  pub bodies : (c body : ℕ) → body_of s c ≡ Some body → body < length s.nodes
-  pub unions : (e : ℕ) (parts : List ℕ) → node_at s e ≡ Some (Node.Union parts) → 2 ≤ length parts
-  pub ranged : (e : ℕ) (n : Node) → node_at s e ≡ Some n → (r : Range) × (range_at s e ≡ Some r)
-  pub ranges : (e part : ℕ) (r : Range) → Counts s e part r → IsSoundRange r
-  pub placed : (e : ℕ) (n : Node) → node_at s e ≡ Some n → ((c : ℕ) × (body_of s c ≡ Some e)) ⊎ ((f : ℕ) × (m : Node) × (node_at s f ≡ Some m) × IsPart m e)
-
 -- The least relation that the rule's cases give, where an atom counts if A holds.
 mutual
   pub data Least (s : Spec) (A : Type 0) : ℕ → Type 0 where

@@ -2,7 +2,8 @@
 ghost use Rattle.std.specs.Prelude.{◌≡◌, ℕ, ◌<◌, ◌↔◌, false, length, IsTrue, IfOk};
 ghost use Rattle.std.specs.List.{list_any, list_all};
 ghost use Rattle.well_founded.specs.EmptyObjects.{answer_at};
-ghost use Rattle.well_founded.specs.Foundedness.{IsOrderly, Least};
+ghost use Rattle.class_system.specs.Sound.{IsSound};
+ghost use Rattle.well_founded.specs.Foundedness.{Least};
 ghost use Rattle.well_founded.specs.Rounds.{GetsAt, IsClosed};
 ghost use Rattle.well_founded.specs.Marking.{IsMarked, AreMarked, unmarked_count};
 
@@ -15,7 +16,7 @@ use std::alloc::{AllocError, Global};
 ///
 /// Takes one mark for each node. Rounds over all nodes go on until a round marks none.
 pub fn mark(alloc: Global, system: &System, atoms: bool) -> Result<Vec<bool>, AllocError>
-    requires orderly { IsOrderly system.now }
+    requires sound { IsSound system.now }
     ensures { IfOk result (λ marks. AreMarked system.now (IsTrue atoms) marks.items) }
 {
     let mut marks = vec![in alloc; false; system.node_count() as usize]?;
@@ -25,7 +26,7 @@ pub fn mark(alloc: Global, system: &System, atoms: bool) -> Result<Vec<bool>, Al
 
 /// One round over the nodes in order; whether it marked one.
 fn mark_more(system: &System, atoms: bool, marks: &mut [bool]) -> bool
-    requires orderly { IsOrderly system.now }
+    requires sound { IsSound system.now }
     requires one_per_node { length marks.old ≡ length system.now.nodes }
     requires all_right { (e : ℕ) → IsMarked marks.old e → Least system.now (IsTrue atoms) e }
     ensures right { (e : ℕ) → IsMarked marks.new e → Least system.now (IsTrue atoms) e }
@@ -44,7 +45,7 @@ fn mark_more(system: &System, atoms: bool, marks: &mut [bool]) -> bool
 
 /// Whether a node gets an object from the marks of its parts and of the classes' bodies.
 fn gets(system: &System, atoms: bool, marks: &[bool], e: ExprId) -> bool
-    requires orderly { IsOrderly system.now }
+    requires sound { IsSound system.now }
     requires in_range { e.0 < length system.now.nodes }
     ensures { IsTrue result ↔ GetsAt system.now (IsTrue atoms) (IsMarked marks.now) e.0 }
 {

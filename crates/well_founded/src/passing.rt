@@ -1,7 +1,8 @@
 //! Which classes each node is on the way to with no atom beside.
 ghost use Rattle.std.specs.Prelude.{ℕ, ◌<◌, ◌≤◌, ◌↔◌, ◌⊎◌, length, map, IfOk, IsTrue};
 ghost use Rattle.class_system.specs.Views.{number};
-ghost use Rattle.well_founded.specs.Foundedness.{IsOrderly, Under};
+ghost use Rattle.class_system.specs.Sound.{IsSound};
+ghost use Rattle.well_founded.specs.Foundedness.{Under};
 ghost use Rattle.well_founded.specs.Marking.{AreMarked, IsMarked};
 ghost use Rattle.well_founded.specs.Rounds.{PassesAt};
 ghost use Rattle.well_founded.specs.Ways.{IsIn, Points, SomePoints, OnePoints};
@@ -17,8 +18,8 @@ use std::alloc::{AllocError, Global};
 ///
 /// `zero` marks the nodes with an object of size 0. Takes one set for each node.
 pub fn under(alloc: Global, system: &System, zero: &[bool]) -> Result<Vec<ClassSet>, AllocError>
-    requires orderly { IsOrderly system.now }
-    requires few { length system.now.bodies ≤ 64 }
+    requires sound { IsSound system.now }
+    requires few { length system.now.names ≤ 64 }
     requires zero { AreMarked system.now ⊥ zero.now }
     ensures { IfOk result (λ sets. (e d : ℕ) → Points sets.items e d ↔ Under system.now d e) }
 {
@@ -31,8 +32,8 @@ pub fn under(alloc: Global, system: &System, zero: &[bool]) -> Result<Vec<ClassS
 
 /// The classes of one node, from those of its parts.
 fn passes(system: &System, zero: &[bool], sets: &[ClassSet], e: ExprId) -> ClassSet
-    requires orderly { IsOrderly system.now }
-    requires few { length system.now.bodies ≤ 64 }
+    requires sound { IsSound system.now }
+    requires few { length system.now.names ≤ 64 }
     requires zero { AreMarked system.now ⊥ zero.now }
     requires in_range { e.0 < length system.now.nodes }
     ensures { (d : ℕ) → IsIn result d

@@ -1,5 +1,5 @@
 use Rattle.std.proofs.Common.{◌∙◌, ap, Some}
-use Rattle.std.proofs.lemmas.Option.{slice_get_within}
+use Rattle.bz_model.specs.Spec.{Node}
 use Rattle.std.specs.List.{list_any, list_all}
 use Rattle.class_system.specs.Views.{spec_node}
 use Rattle.well_founded.specs.EmptyObjects.{answer_at}
@@ -7,10 +7,7 @@ use Rattle.well_founded.proofs.Marked.{gets-union, gets-product}
 use Rattle.well_founded.proofs.marking.gets.Goals as goal
 
 pub body-requires : goal.body-requires
-body-requires c =
-    let s = c.args.system.now in
-    let b = c.requires.orderly.classes c.args.e.0 c.in-Class.class.0 (c.node.ensures.node ∙ ap (λ x. Some (spec_node x)) c.in-Class.is) in
-    slice_get_within s.bodies c.in-Class.class.0 b.0 b.1
+body-requires c = record { in_range = c.requires.sound.references.at c.args.e.0 (Node.Class c.in-Class.class.0) (c.node.ensures.node ∙ ap (λ x. Some (spec_node x)) c.in-Class.is) }
 
 pub returns-in-Union : goal.returns-in-Union
 returns-in-Union c =
