@@ -2,7 +2,7 @@
 use Rattle.std.proofs.Common.{◌≡◌, ℕ, zero, suc, ◌<◌, ◌⊎◌, inl, inr, List, [], ◌∷◌, Some, None, arith, refl, sym, ◌∙◌, subst}
 use Rattle.std.specs.List.{slice_get}
 use Rattle.bz_model.specs.Spec.{Spec, Mode, Node, Range, node_at, range_at, body_of}
-use Rattle.well_founded.specs.Foundedness.{Counts, IsPart, Least, LeastEach, HasSome, HasEmpty, Under, StepsTo, Leads, ZeroPart, ZeroLoop, IsAccepted}
+use Rattle.well_founded.specs.Foundedness.{Counts, IsPart, Least, LeastEach, HasSome, HasEmpty, Under, StepsTo, Leads, RepeatsZero, LeadsRound, IsAccepted}
 use Rattle.well_founded.proofs.Orderly.{IsOrderly, IsSoundRange}
 use Rattle.bz_model.specs.WellFounded.{IsWellFounded}
 use Rattle.well_founded.proofs.Accepted.{accepted-founded}
@@ -19,14 +19,14 @@ from_1 = record { low = 1; high = None }
 abbrev cycle_of_itself : Spec
 cycle_of_itself = record { mode = Mode.Labelled; names = (67 ∷ []) ∷ []; bodies = 3 ∷ []; nodes = Node.Atom [] ∷ Node.Class 0 ∷ Node.Cyc 1 ∷ Node.Union (0 ∷ 2 ∷ []) ∷ []; ranges = from_0 ∷ from_0 ∷ from_1 ∷ from_0 ∷ [] }
 
-cycle_of_itself-refused : ZeroLoop cycle_of_itself 0
+cycle_of_itself-refused : LeadsRound cycle_of_itself 0
 cycle_of_itself-refused = record { leads = Leads.one (record { body = 3; is_body = refl; under = Under.in_union (0 ∷ 2 ∷ []) 1 2 refl refl (Under.in_counted {r = from_1} (record { node = Node.Cyc 1; is_node = refl; of_part = refl; is_range = refl }) (inl (omega arith)) (Under.here refl)) }) }
 
 -- C = Seq(E + Z)
 abbrev sequence_of_nothing : Spec
 sequence_of_nothing = record { mode = Mode.Unlabelled; names = (67 ∷ []) ∷ []; bodies = 3 ∷ []; nodes = Node.Empty [] ∷ Node.Atom [] ∷ Node.Union (0 ∷ 1 ∷ []) ∷ Node.Seq 2 ∷ []; ranges = from_0 ∷ from_0 ∷ from_0 ∷ from_0 ∷ [] }
 
-sequence_of_nothing-refused : ZeroPart sequence_of_nothing 3
+sequence_of_nothing-refused : RepeatsZero sequence_of_nothing 3
 sequence_of_nothing-refused = record { part = 2; range = from_0; counts = record { node = Node.Seq 2; is_node = refl; of_part = refl; is_range = refl }; endless = refl; zero = Least.union (0 ∷ 1 ∷ []) 0 0 refl refl (Least.empty [] refl) }
 
 -- C = Z*Set(C)

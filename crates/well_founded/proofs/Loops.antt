@@ -4,7 +4,7 @@ use Rattle.bz_model.specs.Spec.{Spec, Node, Range, node_at, body_of}
 use Rattle.bz_model.specs.Object.{Object}
 use Rattle.bz_model.specs.Measures.{size, tree_nodes}
 use Rattle.bz_model.specs.WellFounded.{IsWellFounded}
-use Rattle.well_founded.specs.Foundedness.{Counts, IsCountedOf, Least, LeastEach, Under, StepsTo, Leads, ZeroLoop}
+use Rattle.well_founded.specs.Foundedness.{Counts, IsCountedOf, Least, LeastEach, Under, StepsTo, Leads, LeadsRound}
 use Rattle.well_founded.proofs.Orderly.{IsOrderly}
 use Rattle.well_founded.proofs.Having.{Of, ClassOf, of-belongs}
 use Rattle.well_founded.proofs.Least.{sizes-copies, found, found-each, no-atom}
@@ -173,7 +173,7 @@ loop-unbounded s sound c body q o k (inl g) = record { at_size = size o; grows =
 loop-unbounded s sound c body q o k (inr b) = absurd (no-loop s k c q b)
 
 -- A class that one or more steps lead to itself.
-pub zero_loop-unfounded : (s : Spec) → IsOrderly s → (c : ℕ) → ZeroLoop s c → ¬ (IsWellFounded s)
+pub zero_loop-unfounded : (s : Spec) → IsOrderly s → (c : ℕ) → LeadsRound s c → ¬ (IsWellFounded s)
 zero_loop-unfounded s sound c l w =
     let b = leads-body l.leads in
     let o = w.inhabited c b.0 b.1 in

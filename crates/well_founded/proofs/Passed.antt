@@ -14,6 +14,7 @@ use Rattle.well_founded.specs.Rounds.{Passes, PassesAt}
 use Rattle.well_founded.specs.Ways.{IsIn, Points, OnePoints}
 use Rattle.well_founded.proofs.Rounds.{some-node, under-round, under-passes}
 use Rattle.well_founded.proofs.Refused.{node-there}
+use Rattle.well_founded.proofs.Rows.{set-count, points-last, points-earlier}
 
 -- A set for each node below e, of the classes that it is on the way to.
 pub record PassedTo (s : Spec) (sets : List ClassSet) (e : ℕ) : Type 0 where
@@ -40,19 +41,6 @@ passes-product s marks sets e parts are q d =
     ( λ k. record { node = Node.Product (map number parts); is_node = q; passes = (k.0, k.1, k.2, λ j p g ne. are.right p (k.3 j p g ne), k.4) }
     , λ g. let k = passes-at s d (λ part. Points sets part d) e (Node.Product (map number parts)) q g in (k.0, k.1, k.2, λ j p g ne. are.all p (k.3 j p g ne), k.4) )
 
-set-end : (xs : List ClassSet) (x : ClassSet) → slice_get (xs ++ (x ∷ [])) (length xs) ≡ Some x
-set-end [] x = refl
-set-end (y ∷ ys) x = set-end ys x
-
-set-front : (xs : List ClassSet) (x : ClassSet) (i : ℕ) → i < length xs → slice_get (xs ++ (x ∷ [])) i ≡ slice_get xs i
-set-front [] x i h = absurd (omega arith)
-set-front (y ∷ ys) x zero h = refl
-set-front (y ∷ ys) x (suc i) h = set-front ys x i (omega arith)
-
-set-count : (xs : List ClassSet) (x : ClassSet) → length (xs ++ (x ∷ [])) ≡ length xs + 1
-set-count [] x = refl
-set-count (y ∷ ys) x = let h = set-count ys x in omega arith
-
 -- One more node.
 module _ (s : Spec) (orderly : IsOrderly s) (sets : List ClassSet) (set : ClassSet) (e : ℕ) (h : PassedTo s sets e) (within : e < length s.nodes) (step : (d : ℕ) → IsIn set d ↔ PassesAt s d (λ part. Points sets part d) e) where
   under-here : (d : ℕ) → IsIn set d ↔ Under s d e
@@ -66,22 +54,10 @@ module _ (s : Spec) (orderly : IsOrderly s) (sets : List ClassSet) (set : ClassS
           (step d).1 (record { node = n.0; is_node = n.1; passes = passes-more s d (Under s d) (λ part. Points sets part d) e n.0 (λ part i v. (h.passed part d (orderly.below e part n.0 n.1 i)).1 v) (under-passes s d e n.0 n.1 u) })
 
   points-here : (d : ℕ) → Points (sets ++ (set ∷ [])) e d ↔ IsIn set d
-  points-here d = (down, up)
-    where
-      here : slice_get (sets ++ (set ∷ [])) e ≡ Some set
-      here = subst (λ i. slice_get (sets ++ (set ∷ [])) i ≡ Some set) h.one_each (set-end sets set)
-      some-set : {a b : ClassSet} → Some a ≡ Some b → a ≡ b
-      some-set q = cc
-      down : Points (sets ++ (set ∷ [])) e d → IsIn set d
-      down p = subst (λ x. IsIn x d) (some-set (sym p.is_row ∙ here)) p.has
-      up : IsIn set d → Points (sets ++ (set ∷ [])) e d
-      up k = record { row = set; is_row = here; has = k }
+  points-here d = subst (λ i. Points (sets ++ (set ∷ [])) i d ↔ IsIn set d) h.one_each (points-last sets set d)
 
   points-below : (f d : ℕ) → f < e → Points (sets ++ (set ∷ [])) f d ↔ Points sets f d
-  points-below f d lt =
-      let l = h.one_each in
-      let same : slice_get (sets ++ (set ∷ [])) f ≡ slice_get sets f = set-front sets set f (omega arith) in
-      (λ p. record { row = p.row; is_row = sym same ∙ p.is_row; has = p.has }, λ p. record { row = p.row; is_row = same ∙ p.is_row; has = p.has })
+  points-below f d lt = points-earlier sets set f d (let l = h.one_each in omega arith)
 
   pub passed-more : PassedTo s (sets ++ (set ∷ [])) (e + 1)
   passed-more = record {

@@ -6,6 +6,7 @@ use Rattle.std.proofs.lemmas.Bool.{cases_lt}
 use Rattle.std.proofs.lemmas.Option.{slice_get_within, slice_get-get_or}
 use Rattle.well_founded.specs.declared.class_set.ClassSet.{ClassSet}
 use Rattle.well_founded.specs.Ways.{IsIn, Points, Chain}
+use Rattle.well_founded.proofs.Rows.{set-same, set-other, points-along, row-has}
 
 -- The rows below i have got what the pivot has, where they have the pivot; the others are as they were.
 pub record Passed (old new : List ClassSet) (pivot : ℕ) (through : ClassSet) (i : ℕ) : Type 0 where
@@ -17,27 +18,6 @@ pub record ClosedTo (old new : List ClassSet) (k : ℕ) : Type 0 where
   pub kept : (c d : ℕ) → Points old c d → Points new c d
   pub led : (c d : ℕ) → Points new c d → Chain old c d
   pub closed : (c d e : ℕ) → d < k → Points new c d → Points new d e → Points new c e
-
-set-same : {X : Type 0} (xs : List X) (i : ℕ) (v : X) → i < length xs → slice_get (set xs i v) i ≡ Some v
-set-same [] i v h = absurd (omega arith)
-set-same (x ∷ xs) zero v h = refl
-set-same (x ∷ xs) (suc i) v h = set-same xs i v (omega arith)
-
-set-other : {X : Type 0} (xs : List X) (i : ℕ) (v : X) (c : ℕ) → c ≢ i → slice_get (set xs i v) c ≡ slice_get xs c
-set-other [] i v c ne = refl
-set-other (x ∷ xs) zero v zero ne = absurd (ne refl)
-set-other (x ∷ xs) zero v (suc c) ne = refl
-set-other (x ∷ xs) (suc i) v zero ne = refl
-set-other (x ∷ xs) (suc i) v (suc c) ne = set-other xs i v c (λ e. ne (ap suc e))
-
-points-along : (xs ys : List ClassSet) (c d : ℕ) → slice_get xs c ≡ slice_get ys c → Points xs c d → Points ys c d
-points-along xs ys c d e p = record { row = p.row; is_row = sym e ∙ p.is_row; has = p.has }
-
-row-has : (xs : List ClassSet) (c d : ℕ) (r : ClassSet) → slice_get xs c ≡ Some r → Points xs c d → IsIn r d
-row-has xs c d r e p = subst (λ x. IsIn x d) (some-row (sym p.is_row ∙ e)) p.has
-  where
-    some-row : {a b : ClassSet} → Some a ≡ Some b → a ≡ b
-    some-row q = cc
 
 pub passed-start : (old : List ClassSet) (pivot : ℕ) (through : ClassSet) → Passed old old pivot through 0
 passed-start old pivot through = record { done = λ c lt d. absurd (omega arith); rest = λ c le. refl }

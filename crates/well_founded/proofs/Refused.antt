@@ -5,14 +5,14 @@ use Rattle.std.proofs.lemmas.Option.{slice_get_within, slice_get-get_or}
 use Rattle.bz_model.specs.Spec.{Spec, Node, node_at, body_of, IsInRange, IsWithinHigh}
 use Rattle.bz_model.specs.Measures.{tree_nodes}
 use Rattle.bz_model.specs.WellFounded.{IsWellFounded}
-use Rattle.well_founded.specs.Foundedness.{Counts, IsCountedOf, IsPart, Least, LeastEach, HasSome, NoObject, ZeroPart}
+use Rattle.well_founded.specs.Foundedness.{Counts, IsCountedOf, IsPart, Least, LeastEach, HasSome, LacksObject, RepeatsZero}
 use Rattle.well_founded.proofs.Orderly.{IsOrderly}
 use Rattle.well_founded.proofs.Having.{Of, form_of, belongs-of}
 use Rattle.well_founded.proofs.Least.{size-form, tree_nodes-form, copies, count-copies, of-copies, sizes-copies, Found, found, found-each, no-atom, belongs-some}
 use Rattle.well_founded.proofs.Growth.{plug-union, plug-product, plug-copies, Split, split, Grown, Unbounded, unbounded-plug, nodes-copies}
 
 -- A class without an object.
-pub no_object-unfounded : (s : Spec) (c : ℕ) → NoObject s c → ¬ (IsWellFounded s)
+pub no_object-unfounded : (s : Spec) (c : ℕ) → LacksObject s c → ¬ (IsWellFounded s)
 no_object-unfounded s c k w = let o = w.inhabited c k.body k.is_body in k.without (belongs-some s k.body o.0 o.1)
 
 pub node-there : (s : Spec) (e : ℕ) → e < length s.nodes → (n : Node) × (node_at s e ≡ Some n)
@@ -55,7 +55,7 @@ module _ (s : Spec) (sound : IsOrderly s) (objects : (c body : ℕ) → body_of 
   filled-node e (Node.Set p) q ih = counted-filled e p (Node.Set p) q refl (ih p refl)
   filled-node e (Node.Cyc p) q ih = counted-filled e p (Node.Cyc p) q refl (ih p refl)
 
-  filled : (k e : ℕ) (n : Node) → e < k → node_at s e ≡ Some n → HasSome s e
+  pub filled : (k e : ℕ) (n : Node) → e < k → node_at s e ≡ Some n → HasSome s e
   filled zero e n h q = absurd (omega arith)
   filled (suc k) e n h q = filled-node e n q (λ part i.
       let b : part < e = sound.below e part n q i in
@@ -111,7 +111,7 @@ bounded-not s c body q u w =
     let lt : b.0 < tree_nodes g.object = g.many in
     omega arith
 
-zero_part-grows : (s : Spec) → IsOrderly s → (e : ℕ) → ZeroPart s e → Unbounded s e
+zero_part-grows : (s : Spec) → IsOrderly s → (e : ℕ) → RepeatsZero s e → Unbounded s e
 zero_part-grows s sound e k = record { at_size = 0; grows = λ h. grow h (found s ⊥ sound k.zero) }
   where
     grow : (h : ℕ) → Found s ⊥ k.part → Grown s e 0 h
@@ -128,7 +128,7 @@ zero_part-grows s sound e k = record { at_size = 0; grows = λ h. grow h (found 
         }
 
 -- A counted node without high, of a part with an object of size 0.
-pub zero_part-unfounded : (s : Spec) → IsOrderly s → (e : ℕ) → ZeroPart s e → ¬ (IsWellFounded s)
+pub zero_part-unfounded : (s : Spec) → IsOrderly s → (e : ℕ) → RepeatsZero s e → ¬ (IsWellFounded s)
 zero_part-unfounded s sound e k w =
     let objects = λ (c body : ℕ) (q : body_of s c ≡ Some body). belongs-some s body (w.inhabited c body q).0 (w.inhabited c body q).1 in
     let u = climb s sound objects (length s.nodes) e k.counts.node k.counts.is_node (omega arith) (zero_part-grows s sound e k) in

@@ -69,13 +69,13 @@ pub data Leads (s : Spec) (c : ℕ) : ℕ → Type 0 where
   further : {d e : ℕ} → Leads s c d → StepsTo s d e → Leads s c e
 
 -- Class c has no object.
-pub record NoObject (s : Spec) (c : ℕ) : Type 0 where
+pub record LacksObject (s : Spec) (c : ℕ) : Type 0 where
   pub body : ℕ
   pub is_body : body_of s c ≡ Some body
   pub without : ¬ (HasSome s body)
 
 -- A counted node without high has a part with an object of size 0.
-pub record ZeroPart (s : Spec) (e : ℕ) : Type 0 where
+pub record RepeatsZero (s : Spec) (e : ℕ) : Type 0 where
   pub part : ℕ
   pub range : Range
   pub counts : Counts s e part range
@@ -83,11 +83,11 @@ pub record ZeroPart (s : Spec) (e : ℕ) : Type 0 where
   pub zero : HasEmpty s part
 
 -- One or more steps lead from a class to itself.
-pub record ZeroLoop (s : Spec) (c : ℕ) : Type 0 where
+pub record LeadsRound (s : Spec) (c : ℕ) : Type 0 where
   pub leads : Leads s c c
 
 -- Nothing is refused: each class has an object by the rule, and there is no such node and no such loop.
 pub record IsAccepted (s : Spec) : Type 0 where
   pub objects : (c body : ℕ) → body_of s c ≡ Some body → HasSome s body
-  pub parts : (e : ℕ) → ¬ (ZeroPart s e)
-  pub loops : (c : ℕ) → ¬ (ZeroLoop s c)
+  pub parts : (e : ℕ) → ¬ (RepeatsZero s e)
+  pub loops : (c : ℕ) → ¬ (LeadsRound s c)

@@ -3,3 +3,4 @@ pub mod Rounds
 pub mod EmptyObjects
 pub mod Ways
 pub mod Marking
+pub mod Examination

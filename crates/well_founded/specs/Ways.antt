@@ -26,3 +26,13 @@ OnePoints marks rows parts d = (i : ℕ) × (part : ℕ) × (slice_get parts i �
 pub data Chain (rows : List ClassSet) (c : ℕ) : ℕ → Type 0 where
   one : {d : ℕ} → Points rows c d → Chain rows c d
   further : {d e : ℕ} → Chain rows c d → Points rows d e → Chain rows c e
+
+-- The row of the body of class c has d.
+pub record BodyPoints (rows : List ClassSet) (bodies : List ℕ) (c d : ℕ) : Type 0 where
+  pub body : ℕ
+  pub is_body : slice_get bodies c ≡ Some body
+  pub points : Points rows body d
+
+-- The row of class c has c itself.
+abbrev pub PointsRound : List ClassSet → ℕ → Type 0
+PointsRound rows c = Points rows c c

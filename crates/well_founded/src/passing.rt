@@ -51,7 +51,7 @@ fn passes(system: &System, zero: &[bool], sets: &[ClassSet], e: ExprId) -> Class
 }
 
 /// The set of a node; of none past the end.
-fn set_of(sets: &[ClassSet], e: ExprId) -> ClassSet
+pub fn set_of(sets: &[ClassSet], e: ExprId) -> ClassSet
     ensures { (d : ℕ) → IsIn result d ↔ Points sets.now e.0 d }
 {
     match sets.get(e.0 as usize) {

@@ -1,12 +1,8 @@
 use Rattle.std.proofs.Common.{◌≡◌, ℕ, List, length, take, drop, ◌++◌, Bool, IsTrue, arith, subst, sym, ◌∙◌, ap}
-use Rattle.std.proofs.lemmas.Grind.{common_steps}
 use Rattle.well_founded.specs.Marking.{AreMarked}
 use Rattle.well_founded.proofs.Marked.{are-marked}
+use Rattle.well_founded.proofs.Rows.{written-back}
 use Rattle.well_founded.proofs.marking.mark.Goals as goal
-
--- a slice of all of a vector, written back
-written-back : (len : ℕ) (new items : List Bool) → length new ≡ length items → length items ≡ len → take len (new ++ drop (length new) items) ≡ new
-written-back len new items e h = grind (arith, common_steps)
 
 pub returns : goal.returns
 returns c =

@@ -1,9 +1,15 @@
-use Rattle.std.proofs.Common.{◌↔◌, ◌∙◌, ap, map, subst, Some}
+use Rattle.std.proofs.Common.{◌↔◌, ◌<◌, length, arith, ◌∙◌, ap, map, subst, Some}
+use Rattle.bz_model.specs.Spec.{Node}
 use Rattle.class_system.specs.Views.{spec_node, number}
 use Rattle.well_founded.specs.Rounds.{PassesAt}
 use Rattle.well_founded.specs.Ways.{IsIn, Points, OnePoints}
 use Rattle.well_founded.proofs.Passed.{passes-product}
 use Rattle.well_founded.proofs.passing.passes.Goals as goal
+
+pub only-requires : goal.only-requires
+only-requires c =
+    let below : c.in-Class.class.0 < length c.args.system.now.names = c.requires.sound.references.at c.args.e.0 (Node.Class c.in-Class.class.0) (c.node.ensures.node ∙ ap (λ x. Some (spec_node x)) c.in-Class.is) in
+    omega arith
 
 pub returns-in-Product : goal.returns-in-Product
 returns-in-Product c = λ d.
