@@ -3,3 +3,4 @@ pub mod Order
 pub mod Results
 pub mod Depths
 pub mod Soundness
+pub mod Texts

@@ -1,7 +1,7 @@
 -- What the order of the nodes gives: parts stand below their node, and each node is placed.
-use Rattle.std.proofs.Common.{◌≡◌, ℕ, suc, ◌<◌, ◌≤◌, List, [], ◌∷◌, ◌++◌, length, arith, sym, ◌∙◌, ap, subst, refl, inl, inr, Some, slice_get, ◌⊎◌, zero}
+use Rattle.std.proofs.Common.{◌≡◌, ℕ, suc, ◌<◌, ◌≤◌, List, [], ◌∷◌, arith, sym, ◌∙◌, ap, subst, inl, inr, Some, slice_get, zero}
 use Rattle.std.proofs.lemmas.Option.{slice_get_within, same_Some}
-use Rattle.std.proofs.lemmas.Bool.{cases_lt, cases_order}
+use Rattle.std.proofs.lemmas.Bool.{cases_lt}
 use Rattle.bz_model.specs.Spec.{Node}
 use Rattle.class_system.specs.NodeOrder.{parts_of, HasPart, Spans, SpanEach}
 use Rattle.class_system.specs.NodeOrder.Spans.{tree}

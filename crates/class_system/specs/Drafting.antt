@@ -1,5 +1,5 @@
 -- What the calls of a draft do to it.
-use Rattle.std.specs.Prelude.{◌≡◌, ℕ, List, [], ◌∷◌, ◌++◌, length, Some, slice_get}
+use Rattle.std.specs.Prelude.{◌≡◌, ℕ, List, [], ◌∷◌, ◌++◌, Some, slice_get}
 use Rattle.bz_model.specs.Spec.{Spec, Node, Range}
 use Rattle.class_system.specs.Distinct.{IsMissing}
 use Rattle.class_system.specs.declared.draft.ClassFault.{ClassFault}
