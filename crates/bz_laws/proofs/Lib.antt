@@ -14,6 +14,7 @@ pub mod Leaves
 pub mod Tallest
 pub mod Lists
 pub mod Values
+pub mod Sweeps
 pub mod Inhabited
 pub mod Products
 pub mod Makings
@@ -22,5 +23,6 @@ pub mod Outcomes
 pub mod Texts
 pub mod Counted
 pub mod Runs
+pub mod Readings
 pub mod First
 pub mod Rooms

@@ -3,3 +3,4 @@ pub mod Lists
 pub mod Sound
 pub mod Values
 pub mod Orders
+pub mod Spelled

@@ -1,7 +1,7 @@
 //! Laws on numbers for all nodes: where they cover what the parts' numbers give they bound every
 //! total, and where they are reached by it they are reached.
-ghost use Rattle.std.specs.Prelude.{◌≡◌, ℕ, suc, ◌<◌, length, Some};
-ghost use Rattle.bz_model.specs.Fraction.{Fraction, AtMost};
+ghost use Rattle.std.specs.Prelude.{◌≡◌, ℕ, suc, ◌<◌, max, min, length, Some};
+ghost use Rattle.bz_model.specs.Fraction.{Fraction, AtMost, units};
 ghost use Rattle.bz_model.specs.Spec.{Spec, body_of};
 ghost use Rattle.bz_model.specs.Object.{HasWithin, Belongs};
 ghost use Rattle.bz_model.specs.Totals.{Above, Below};
@@ -44,4 +44,26 @@ pub fn post_fixed_entries_bound_every_total()
         → Covers s x entry value
         → ((c body : ℕ) → body_of s c ≡ Some body → AtMost (value body) (entry c)) → (e : ℕ)
         → Above x (value e) (Belongs s e) }
+{}
+
+/// Lower sweeps from zero are reached: where each sweep gives each class the greater of its entry
+/// and its body's number, and these numbers are reached by the nodes, each entry is reached.
+pub fn lower_sweeps_from_zero_are_reached()
+    ensures zero { (s : Spec) (x : Fraction) (F e : ℕ) → Below x (units F 0) (Belongs s e) }
+    ensures swept { (s : Spec) (x : Fraction) (F : ℕ) (entry value : ℕ → ℕ → ℕ) → IsLaidOut s
+        → ((c body : ℕ) → body_of s c ≡ Some body → body < length s.nodes) → ((c : ℕ)
+        → entry 0 c ≡ 0) → ((n : ℕ)
+        → AreReached s x (λ c. units F (entry n c)) (λ e. units F (value n e))) → ((n c body : ℕ)
+        → body_of s c ≡ Some body → entry (suc n) c ≡ max (entry n c) (value n body)) →
+        (n c body : ℕ) → body_of s c ≡ Some body
+        → Below x (units F (entry n c)) (Belongs s body) }
+{}
+
+/// An upper sweep keeps bounds: the lesser of a class's entry and its body's number bounds it.
+pub fn an_upper_sweep_keeps_bounds()
+    ensures { (s : Spec) (x : Fraction) (F : ℕ) (entry value : ℕ → ℕ) → IsLaidOut s
+        → Covers s x (λ c. units F (entry c)) (λ e. units F (value e))
+        → ((c body : ℕ) → body_of s c ≡ Some body → Above x (units F (entry c)) (Belongs s body))
+        → (c body : ℕ) → body_of s c ≡ Some body
+        → Above x (units F (min (entry c) (value body))) (Belongs s body) }
 {}
