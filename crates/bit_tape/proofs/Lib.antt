@@ -1,1 +1,2 @@
+pub mod NewTapes
 pub mod NextBits

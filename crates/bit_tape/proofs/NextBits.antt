@@ -1,5 +1,5 @@
 -- The next bit of the bytes read ahead is the source's, and the bytes left are still the source's.
-use Rattle.std.proofs.Common.{◌≡◌, ℕ, zero, suc, ◌+◌, ◌-◌, ◌*◌, ◌/◌, ◌%◌, ◌^◌, ◌<◌, ◌≤◌, List, length, get_or, take, drop, Bool, Option, Some, None, refl, sym, ap, subst, ◌∙◌, arith, rules, length-take, length-drop, inl, inr}
+use Rattle.std.proofs.Common.{◌≡◌, ℕ, zero, suc, ◌+◌, ◌-◌, ◌*◌, ◌/◌, ◌%◌, ◌^◌, ◌<◌, ◌≤◌, List, length, get_or, take, drop, Bool, Option, Some, None, refl, sym, ap, subst, ◌∙◌, arith, length-take, length-drop, inl, inr}
 use Rattle.std.specs.Prelude.{IfSome, slice_get, slice_index, nat_lt, nat_eq, cond, option_map, ◌⊎◌, true, false}
 use Rattle.std.specs.Int.{w32, to_be_bytes, bit_at}
 use Rattle.std.proofs.lemmas.Bool.{le-ltb, lt-ltb}
@@ -13,7 +13,7 @@ use Rattle.bit_tape.specs.Bits.{within_tape, byte_bit, word_bit, file_bit, seed_
 use Rattle.bit_tape.specs.Buffer.{Ahead, after_bit}
 use Rattle.bit_tape.specs.Source.{source_of, GoesOn, IsRestOfWord}
 use Rattle.bit_tape.specs.Refill.{HasEnded}
-use Rattle.bit_tape.specs.Tape.{TapeSource, TapeState, AreAt, ReadsAhead, Belongs, GivesBit, bits_of}
+use Rattle.bit_tape.specs.Tape.{TapeSource, TapeState, AreAt, GivesBit, bits_of}
 
 -- below the limit a bit stands, and from it on there is none
 within : (place : ℕ) (bit : Option Bool) → place < 2 ^ 63 → within_tape place bit ≡ bit

@@ -1,8 +1,8 @@
 -- What it means that a tape read on, or that it could not.
-use Rattle.std.specs.Prelude.{◌≡◌, ℕ, ◌/◌, ◌^◌, ◌<◌, ◌≤◌, List, length, Option, IfSome, ◌⊎◌}
+use Rattle.std.specs.Prelude.{◌≡◌, ℕ, ◌/◌, ◌^◌, ◌<◌, ◌≤◌, List, Option, ◌⊎◌}
 use Rattle.bit_tape.specs.declared.source.Refill.{Refill}
 use Rattle.bit_tape.specs.declared.source.Refill.TheVariants.{Bytes, Ended, ReadFault}
-use Rattle.bit_tape.specs.Tape.{TapeSource, TapeState, ReadsAhead, HasFault}
+use Rattle.bit_tape.specs.Tape.{TapeState, HasFault}
 use Rattle.bit_tape.specs.Refill.{HasBytes, HasEnded}
 
 -- What each answer says. But for bytes, the tape stays as it was.

@@ -1,5 +1,5 @@
 -- Tapes: where their bits come from, which bits they have, and how a tape fits a shelf.
-use Rattle.std.specs.Prelude.{◌≡◌, ℕ, ◌+◌, ◌/◌, List, [], length, take, drop, Bool, Option, Some, IfSome, option_map}
+use Rattle.std.specs.Prelude.{◌≡◌, ℕ, ◌+◌, ◌/◌, List, length, take, drop, Bool, Option, Some, IfSome, option_map}
 use Rattle.bz_outside.specs.Outside.{Rose}
 use Rattle.bit_tape.specs.Bits.{file_bit, seed_bit}
 

@@ -83,7 +83,12 @@ impl BitBuffer {
     }
 
     /// Reads a piece of the bytes of `name` from `place` on. The answer is its length.
-    pub fn fill<S: Shelf>(&mut self, shelf: &mut S, name: &Word, place: u64) -> Result<usize, Failed>
+    pub fn fill<S: Shelf>(
+        &mut self,
+        shelf: &mut S,
+        name: &Word,
+        place: u64,
+    ) -> Result<usize, Failed>
         requires empty { length self.old.bytes ≡ 0 }
         requires within { place < 2 ^ 60 }
         ensures content { S.content shelf.new ≡ S.content shelf.old }
@@ -97,7 +102,11 @@ impl BitBuffer {
         ensures cause { OnErr result (Rose (S.faults shelf.old name.now) (S.faults shelf.new name.now)) }
     {
         let left = MOST_BYTES - place;
-        let want = if left < ROOM as u64 { left as usize } else { ROOM };
+        let want = if left < ROOM as u64 {
+            left as usize
+        } else {
+            ROOM
+        };
         let n = shelf.piece(name, place, &mut self.bytes[..want])?;
         self.filled = n;
         self.at = 0;

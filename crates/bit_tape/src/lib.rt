@@ -9,4 +9,6 @@
 mod buffer;
 mod source;
 pub mod tape;
+#[cfg(test)]
+mod tests;
 mod words;

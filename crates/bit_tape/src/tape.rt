@@ -1,5 +1,5 @@
 //! A tape of bits.
-ghost use Rattle.std.specs.Prelude.{◌≡◌, ℕ, ◌+◌, ◌^◌, ◌<◌, ◌≤◌, [], List, length, IfSome, IsTrue, ◌↔◌};
+ghost use Rattle.std.specs.Prelude.{◌≡◌, ℕ, ◌+◌, ◌^◌, ◌<◌, ◌≤◌, [], List, length, Option, IfSome, IsTrue, ◌↔◌};
 ghost use Rattle.bit_tape.specs.Tape.{TapeSource, Belongs, bits_of, HasFault, GivesBit};
 
 use crate::buffer::{BitBuffer, MOST_BYTES};
@@ -49,8 +49,10 @@ impl Tape {
 
     /// The tape over the bytes under a name. Its bits are those of the bytes in order, each byte's
     /// highest bit first. Takes no memory.
+    #[tactic(auto, using(crate::proofs::NewTapes::belongs_new))]
     pub fn over(name: Word) -> Tape
-        ensures { result ≡ record { source = TapeSource.Named name; used = 0; ahead = [] } }
+        ensures new { result ≡ record { source = TapeSource.Named name; used = 0; ahead = [] } }
+        ensures belongs { (contents : List ℕ → Option (List ℕ)) → Belongs contents result }
     {
         Tape {
             source: Source::File(name),
@@ -62,8 +64,10 @@ impl Tape {
     /// The tape of a seed. Its bits are those of the words of ChaCha20 with stream 0 in order, each
     /// word's highest bit first, under the seed's 8 bytes, least first, and 24 zero bytes. Takes no
     /// memory.
+    #[tactic(auto, using(crate::proofs::NewTapes::belongs_new))]
     pub fn seeded(seed: u64) -> Tape
-        ensures { result ≡ record { source = TapeSource.Seeded seed; used = 0; ahead = [] } }
+        ensures new { result ≡ record { source = TapeSource.Seeded seed; used = 0; ahead = [] } }
+        ensures belongs { (contents : List ℕ → Option (List ℕ)) → Belongs contents result }
     {
         Tape {
             source: Source::Seed(Words::new(seed)),
