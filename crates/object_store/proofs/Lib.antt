@@ -6,3 +6,4 @@ pub mod Walked
 pub mod NextToken
 pub mod Taken
 pub mod Descent
+mod ExampleSound

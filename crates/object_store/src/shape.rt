@@ -41,6 +41,15 @@ impl Shape {
         }
     }
 
+    /// Forgets all tokens. Gives no memory back.
+    pub fn clear(&mut self)
+        ensures items { self.new.items ≡ [] }
+        ensures spare { self.old.spare ≤ self.new.spare }
+    {
+        self.content.clear();
+        self.dots = 0;
+    }
+
     /// Takes memory for at least `more` further tokens. The list stays as it was in any case.
     pub fn reserve(&mut self, more: usize) -> Result<(), AllocError>
         ensures items { self.new.items ≡ self.old.items }
