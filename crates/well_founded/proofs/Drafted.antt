@@ -46,13 +46,15 @@ pub fit-start : (classes : ℕ) (nodes : List Node) (ranges : List spec.Range) �
 fit-start classes nodes ranges = record { fit = λ k n r lt p q. absurd (omega arith) }
 
 pub fit-more : (classes : ℕ) (nodes : List Expr) (ranges : List Range) (i : ℕ) (item : Expr) (y : Range) → FitBelow classes (map spec_node nodes) (map spec_range ranges) i → item ≡ get_or nodes i item → i < length nodes → length ranges ≡ length nodes → Fits classes (spec_node item) (spec_range (get_or ranges i y)) → FitBelow classes (map spec_node nodes) (map spec_range ranges) (i + 1)
-fit-more classes nodes ranges i item y h is lt same f = record { fit = λ k n r less p q. elim (cases_lt k i) [
-  | inl below ↦ h.fit k n r below p q
-  | inr above ↦ (let here : i ≡ k = omega arith in
-      let a : spec_node item ≡ n = same_Some (spec_node item) n (sym (node_listed nodes (map spec_node nodes) i item refl is lt) ∙ subst (λ j. slice_get (map spec_node nodes) j ≡ Some n) (sym here) p) in
-      let b : spec_range (get_or ranges i y) ≡ r = same_Some (spec_range (get_or ranges i y)) r (sym (mapped-at spec_range ranges i y (omega arith)) ∙ subst (λ j. slice_get (map spec_range ranges) j ≡ Some r) (sym here) q) in
-      subst (λ m. Fits classes m r) a (subst (λ t. Fits classes (spec_node item) t) b f))
-] }
+fit-more classes nodes ranges i item y h is lt same f = record {
+  fit = λ k n r less p q. elim (cases_lt k i) [
+    | inl below ↦ h.fit k n r below p q
+    | inr above ↦ (let here : i ≡ k = omega arith in
+        let a : spec_node item ≡ n = same_Some (spec_node item) n (sym (node_listed nodes (map spec_node nodes) i item refl is lt) ∙ subst (λ j. slice_get (map spec_node nodes) j ≡ Some n) (sym here) p) in
+        let b : spec_range (get_or ranges i y) ≡ r = same_Some (spec_range (get_or ranges i y)) r (sym (mapped-at spec_range ranges i y (omega arith)) ∙ subst (λ j. slice_get (map spec_range ranges) j ≡ Some r) (sym here) q) in
+        subst (λ m. Fits classes m r) a (subst (λ t. Fits classes (spec_node item) t) b f))
+  ];
+}
 
 length-map : {X Y : Type 0} (f : X → Y) (xs : List X) → length (map f xs) ≡ length xs
 length-map f [] = refl
@@ -69,10 +71,12 @@ pub names-start : (names : List (List ℕ)) → NamesBelow names 0
 names-start names = record { each = λ k name lt g. absurd (omega arith) }
 
 pub names-more : (names : List (List ℕ)) (i : ℕ) (name : List ℕ) → NamesBelow names i → slice_get names i ≡ Some name → IsName name → NamesBelow names (i + 1)
-names-more names i name h q is = record { each = λ k x lt g. elim (cases_lt k i) [
-  | inl below ↦ h.each k x below g
-  | inr above ↦ (let here : i ≡ k = omega arith in subst IsName (same_Some name x (sym q ∙ subst (λ j. slice_get names j ≡ Some x) (sym here) g)) is)
-] }
+names-more names i name h q is = record {
+  each = λ k x lt g. elim (cases_lt k i) [
+    | inl below ↦ h.each k x below g
+    | inr above ↦ (let here : i ≡ k = omega arith in subst IsName (same_Some name x (sym q ∙ subst (λ j. slice_get names j ≡ Some x) (sym here) g)) is)
+  ];
+}
 
 pub names-all : (names : List (List ℕ)) (i : ℕ) → length names ≤ i → NamesBelow names i → Each IsName names
 names-all names i all h = record { at = λ k x g. h.each k x (let w = slice_get_within names k x g in omega arith) g }
@@ -83,6 +87,7 @@ same-more xs ys i none h p q e = rw add-one (more xs ys i h p q e)
   where
     heads : (x y : ExprId) (xs ys : List ExprId) → x ∷ xs ≡ y ∷ ys → (x ≡ y) × (xs ≡ ys)
     heads x y xs ys e = (cc, cc)
+
     more : (xs ys : List ExprId) (i : ℕ) → take i xs ≡ take i ys → i < length xs → i < length ys → (get_or xs i none).0 ≡ (get_or ys i none).0 → take (suc i) xs ≡ take (suc i) ys
     more [] ys i h p q e = absurd (omega arith)
     more (x ∷ xs) [] i h p q e = absurd (omega arith)
@@ -146,6 +151,7 @@ draft-sound s some bodies ranges mode names fit order = record {
   where
     none : spec.Range
     none = record { low = 0; high = None }
+
     at : (i : ℕ) (n : Node) → slice_get s.nodes i ≡ Some n → Fits (length s.names) n (get_or s.ranges i none)
     at i n g = fit i n (get_or s.ranges i none) g (slice_get-get_or s.ranges i none (let w = slice_get_within s.nodes i n g in omega arith))
 
@@ -157,9 +163,9 @@ draft-told s nodes ranges bodies names others classes is_nodes is_ranges is_bodi
     let count_ranges : length ranges ≡ length s.ranges = sym (length-map spec_range ranges) ∙ ap length is_ranges in
     let count_bodies : length bodies ≡ length s.bodies = sym (length-map number bodies) ∙ ap length is_bodies in
     draft-sound s (omega arith) (omega arith) (omega arith) (sym mode) (subst (λ xs. Each IsName xs) is_others each)
-      (subst (λ xs. (k : ℕ) (n : Node) (r : spec.Range) → slice_get xs k ≡ Some n → slice_get s.ranges k ≡ Some r → Fits (length s.names) n r) is_nodes
-        (subst (λ xs. (k : ℕ) (n : Node) (r : spec.Range) → slice_get (map spec_node nodes) k ≡ Some n → slice_get xs k ≡ Some r → Fits (length s.names) n r) is_ranges
-          (subst (λ c. (k : ℕ) (n : Node) (r : spec.Range) → slice_get (map spec_node nodes) k ≡ Some n → slice_get (map spec_range ranges) k ≡ Some r → Fits c n r) many fit)))
-      (subst (λ xs. SpanEach xs 0 s.bodies (length s.nodes)) is_nodes
-        (subst (λ xs. SpanEach (map spec_node nodes) 0 xs (length s.nodes)) is_bodies
-          (subst (λ c. SpanEach (map spec_node nodes) 0 (map number bodies) c) count_nodes order)))
+    (subst (λ xs. (k : ℕ) (n : Node) (r : spec.Range) → slice_get xs k ≡ Some n → slice_get s.ranges k ≡ Some r → Fits (length s.names) n r) is_nodes
+    (subst (λ xs. (k : ℕ) (n : Node) (r : spec.Range) → slice_get (map spec_node nodes) k ≡ Some n → slice_get xs k ≡ Some r → Fits (length s.names) n r) is_ranges
+    (subst (λ c. (k : ℕ) (n : Node) (r : spec.Range) → slice_get (map spec_node nodes) k ≡ Some n → slice_get (map spec_range ranges) k ≡ Some r → Fits c n r) many fit)))
+    (subst (λ xs. SpanEach xs 0 s.bodies (length s.nodes)) is_nodes
+    (subst (λ xs. SpanEach (map spec_node nodes) 0 xs (length s.nodes)) is_bodies
+    (subst (λ c. SpanEach (map spec_node nodes) 0 (map number bodies) c) count_nodes order)))
