@@ -16,10 +16,12 @@ pub each-start : (s : Spec) → EachBelow s 0
 each-start s = record { objects = λ c body lt q. absurd (omega arith) }
 
 pub each-more : (s : Spec) (marks : List Bool) (i body : ℕ) → AreMarked s (Unit {0}) marks → EachBelow s i → body_of s i ≡ Some body → answer_at marks body ≡ true → EachBelow s (i + 1)
-each-more s marks i body are h q m = record { objects = λ c b lt g. elim (cases_lt c i) [
-  | inl less ↦ h.objects c b less g
-  | inr more ↦ (let same : i ≡ c = omega arith in subst (λ x. HasSome s x) (same_Some body b (sym q ∙ subst (λ x. body_of s x ≡ Some b) (sym same) g)) (are.right body m))
-] }
+each-more s marks i body are h q m = record {
+  objects = λ c b lt g. elim (cases_lt c i) [
+    | inl less ↦ h.objects c b less g
+    | inr more ↦ (let same : i ≡ c = omega arith in subst (λ x. HasSome s x) (same_Some body b (sym q ∙ subst (λ x. body_of s x ≡ Some b) (sym same) g)) (are.right body m))
+  ];
+}
 
 pub each-all : (s : Spec) (i : ℕ) → length s.bodies ≤ i → EachBelow s i → EachHasObject s
 each-all s i all h = record { objects = λ c body q. let w = slice_get_within s.bodies c body q in h.objects c body (omega arith) q }

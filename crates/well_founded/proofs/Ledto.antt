@@ -26,9 +26,10 @@ module _ (sets : List ClassSet) (bodies : List ExprId) (rows : List ClassSet) (s
 
   row-here : (d : ℕ) → Points (rows ++ (set ∷ [])) i d ↔ BodyPoints sets (map number bodies) i d
   row-here d =
-      let last = subst (λ x. Points (rows ++ (set ∷ [])) x d ↔ IsIn set d) h.one_each (points-last rows set d) in
-      ( λ p. record { body = number (get_or bodies i none); is_body = here; points = (step d).0 (last.0 p) }
-      , λ b. last.1 ((step d).1 (subst (λ x. Points sets x d) (same_Some b.body (number (get_or bodies i none)) (sym b.is_body ∙ here)) b.points)) )
+      let last = subst (λ x. Points (rows ++ (set ∷ [])) x d ↔ IsIn set d) h.one_each (points-last rows set d) in (
+        λ p. record { body = number (get_or bodies i none); is_body = here; points = (step d).0 (last.0 p) },
+        λ b. last.1 ((step d).1 (subst (λ x. Points sets x d) (same_Some b.body (number (get_or bodies i none)) (sym b.is_body ∙ here)) b.points)),
+      )
 
   pub rows-more : RowsTo sets bodies (rows ++ (set ∷ [])) (i + 1)
   rows-more = record {
@@ -47,9 +48,10 @@ length-numbers [] = refl
 length-numbers (b ∷ bs) = ap suc (length-numbers bs)
 
 pub rows-all : (sets : List ClassSet) (bodies : List ExprId) (rows : List ClassSet) (i : ℕ) → length bodies ≤ i → RowsTo sets bodies rows i → (c d : ℕ) → Points rows c d ↔ BodyPoints sets (map number bodies) c d
-rows-all sets bodies rows i all h c d =
-    ( λ p. (let w = slice_get_within rows c p.row p.is_row in let l = h.one_each in (h.exact c d (omega arith)).0 p)
-    , λ b. (let w = slice_get_within (map number bodies) c b.body b.is_body in let l = length-numbers bodies in (h.exact c d (omega arith)).1 b) )
+rows-all sets bodies rows i all h c d = (
+  λ p. (let w = slice_get_within rows c p.row p.is_row in let l = h.one_each in (h.exact c d (omega arith)).0 p),
+  λ b. (let w = slice_get_within (map number bodies) c b.body b.is_body in let l = length-numbers bodies in (h.exact c d (omega arith)).1 b),
+)
 
 -- The rows are the steps, so that chains of rows are ways along steps.
 pub chain-leads : (s : Spec) (sets rows new : List ClassSet) (bodies : List ExprId) → ((e d : ℕ) → Points sets e d ↔ Under s d e) → map number bodies ≡ s.bodies → ((c d : ℕ) → Points rows c d ↔ BodyPoints sets (map number bodies) c d) → ((c d : ℕ) → Points new c d ↔ Chain rows c d) → (c d : ℕ) → Points new c d ↔ Leads s c d
@@ -57,11 +59,14 @@ chain-leads s sets rows new bodies f same g closed c d = (λ p. down ((closed c 
   where
     step : (c d : ℕ) → Points rows c d → StepsTo s c d
     step c d p = let b = (g c d).0 p in record { body = b.body; is_body = subst (λ xs. slice_get xs c ≡ Some b.body) same b.is_body; under = (f b.body d).0 b.points }
+
     row : (c d : ℕ) → StepsTo s c d → Points rows c d
     row c d t = (g c d).1 (record { body = t.body; is_body = subst (λ xs. slice_get xs c ≡ Some t.body) (sym same) t.is_body; points = (f t.body d).1 t.under })
+
     down : {d : ℕ} → Chain rows c d → Leads s c d
     down {d} (Chain.one p) = Leads.one (step c d p)
     down {d = e} (Chain.further {d = d} l p) = Leads.further (down l) (step d e p)
+
     up : {d : ℕ} → Leads s c d → Chain rows c d
     up {d} (Leads.one t) = Chain.one (row c d t)
     up {d = e} (Leads.further {d = d} l t) = Chain.further (up l) (row d e t)

@@ -97,6 +97,7 @@ gets-union s A marks e parts b q z = (down, up)
   where
     down : IsTrue b → GetsAt s A (IsMarked marks) e
     down h = let k = any-down (answer_at marks) (map number parts) (sym (any-number (answer_at marks) parts) ∙ (sym z ∙ h)) in record { node = Node.Union (map number parts); is_node = q; gets = (k.i, k.part, k.is, k.passes) }
+
     up : GetsAt s A (IsMarked marks) e → IsTrue b
     up g = let k = gets-at s A (IsMarked marks) e (Node.Union (map number parts)) q g in z ∙ (any-number (answer_at marks) parts ∙ any-up (answer_at marks) (map number parts) k.0 k.1 k.2 k.3)
 
@@ -105,5 +106,6 @@ gets-product s A marks e parts b q z = (down, up)
   where
     down : IsTrue b → GetsAt s A (IsMarked marks) e
     down h = record { node = Node.Product (map number parts); is_node = q; gets = all-down (answer_at marks) (map number parts) (sym (all-number (answer_at marks) parts) ∙ (sym z ∙ h)) }
+
     up : GetsAt s A (IsMarked marks) e → IsTrue b
     up g = z ∙ (all-number (answer_at marks) parts ∙ all-up (answer_at marks) (map number parts) (gets-at s A (IsMarked marks) e (Node.Product (map number parts)) q g))

@@ -71,9 +71,9 @@ mutual
   held-each nodes first (p ∷ parts) end (next here rest) k from to = elim (cases_lt k p) [
     | inl before ↦ inr (held-in nodes first p here k from before)
     | inr after ↦ elim (cases_lt p k) [
-        | inl more ↦ elim (held-each nodes (suc p) parts end rest k (omega arith) to) [ inl h ↦ inl (suc h.0, h.1) | inr h ↦ inr h ]
-        | inr most ↦ (let same : p ≡ k = omega arith in inl (0, ap Some same))
-      ]
+      | inl more ↦ elim (held-each nodes (suc p) parts end rest k (omega arith) to) [ inl h ↦ inl (suc h.0, h.1) | inr h ↦ inr h ]
+      | inr most ↦ (let same : p ≡ k = omega arith in inl (0, ap Some same))
+    ]
   ]
 
 range-sound : (low : ℕ) (r : Range) → low ≤ 1 → IsTextRange low r → IsSoundRange r
@@ -102,5 +102,6 @@ orderly s sound = record {
   where
     class-body : (c : ℕ) → c < length s.names → (body : ℕ) × (body_of s c ≡ Some body)
     class-body c h = (get_or s.bodies c 0, slice_get-get_or s.bodies c 0 (omega (arith, sound.bodies)))
+
     place : (e : ℕ) → e < length s.nodes → ((c : ℕ) × (body_of s c ≡ Some e)) ⊎ ((f : ℕ) × (m : Node) × (node_at s f ≡ Some m) × IsPart m e)
     place e h = elim (held-each s.nodes 0 s.bodies (length s.nodes) sound.order e (omega arith) h) [ inl k ↦ inl (k.0, k.1) | inr k ↦ inr k ]

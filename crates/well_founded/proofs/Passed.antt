@@ -37,9 +37,10 @@ passes-more s d P Q e (Node.Cyc p) f h = (h.0, h.1, h.2, f p refl h.3)
 
 -- What a product passes, by the marks of its parts.
 pub passes-product : (s : Spec) (marks : List Bool) (sets : List ClassSet) (e : ℕ) (parts : List ExprId) → AreMarked s ⊥ marks → node_at s e ≡ Some (Node.Product (map number parts)) → (d : ℕ) → OnePoints marks sets (map number parts) d ↔ PassesAt s d (λ part. Points sets part d) e
-passes-product s marks sets e parts are q d =
-    ( λ k. record { node = Node.Product (map number parts); is_node = q; passes = (k.0, k.1, k.2, λ j p g ne. are.right p (k.3 j p g ne), k.4) }
-    , λ g. let k = passes-at s d (λ part. Points sets part d) e (Node.Product (map number parts)) q g in (k.0, k.1, k.2, λ j p g ne. are.all p (k.3 j p g ne), k.4) )
+passes-product s marks sets e parts are q d = (
+  λ k. record { node = Node.Product (map number parts); is_node = q; passes = (k.0, k.1, k.2, λ j p g ne. are.right p (k.3 j p g ne), k.4) },
+  λ g. let k = passes-at s d (λ part. Points sets part d) e (Node.Product (map number parts)) q g in (k.0, k.1, k.2, λ j p g ne. are.all p (k.3 j p g ne), k.4),
+)
 
 -- One more node.
 module _ (s : Spec) (orderly : IsOrderly s) (sets : List ClassSet) (set : ClassSet) (e : ℕ) (h : PassedTo s sets e) (within : e < length s.nodes) (step : (d : ℕ) → IsIn set d ↔ PassesAt s d (λ part. Points sets part d) e) where
@@ -48,6 +49,7 @@ module _ (s : Spec) (orderly : IsOrderly s) (sets : List ClassSet) (set : ClassS
     where
       down : IsIn set d → Under s d e
       down k = let g = (step d).0 k in under-round s d e g.node g.is_node (passes-more s d (λ part. Points sets part d) (Under s d) e g.node (λ part i p. (h.passed part d (orderly.below e part g.node g.is_node i)).0 p) g.passes)
+
       up : Under s d e → IsIn set d
       up u =
           let n = node-there s e within in
@@ -82,6 +84,7 @@ under-there {s} {d} {e} (Under.in_counted k h u) = slice_get_within s.nodes e k.
 
 -- All nodes.
 pub passed-all : (s : Spec) (sets : List ClassSet) (e : ℕ) → length s.nodes ≤ e → PassedTo s sets e → (f d : ℕ) → Points sets f d ↔ Under s d f
-passed-all s sets e all h f d =
-    ( λ p. (let w = slice_get_within sets f p.row p.is_row in let l = h.one_each in (h.passed f d (omega arith)).0 p)
-    , λ u. (let w = under-there u in (h.passed f d (omega arith)).1 u) )
+passed-all s sets e all h f d = (
+  λ p. (let w = slice_get_within sets f p.row p.is_row in let l = h.one_each in (h.passed f d (omega arith)).0 p),
+  λ u. (let w = under-there u in (h.passed f d (omega arith)).1 u),
+)

@@ -35,6 +35,7 @@ module _ (old mid : List ClassSet) (pivot : ℕ) (through v none : ClassSet) (i 
         | inl q ↦ inl (record { row = get_or mid i none; is_row = here; has = q })
         | inr q ↦ inr (record { row = get_or mid i none; is_row = here; has = q.0 }, q.1)
       ]
+
       up : Points old i d ⊎ (Points old i pivot × IsIn through d) → Points (set mid i v) i d
       up (inl p) = record { row = v; is_row = set-same mid i v within; has = (step d).1 (inl (row-has old i d (get_or mid i none) here p)) }
       up (inr p) = record { row = v; is_row = set-same mid i v within; has = (step d).1 (inr (row-has old i pivot (get_or mid i none) here p.0, p.1)) }
@@ -61,6 +62,7 @@ passed-all old new pivot none i all within h len c d = (down, up)
   where
     here : slice_get old pivot ≡ Some (get_or old pivot none)
     here = slice_get-get_or old pivot none within
+
     down : Points new c d → Points old c d ⊎ (Points old c pivot × Points old pivot d)
     down p =
         let w = slice_get_within new c p.row p.is_row in
@@ -68,6 +70,7 @@ passed-all old new pivot none i all within h len c d = (down, up)
           | inl q ↦ inl q
           | inr q ↦ inr (q.0, record { row = get_or old pivot none; is_row = here; has = q.1 })
         ]
+
     up : Points old c d ⊎ (Points old c pivot × Points old pivot d) → Points new c d
     up (inl p) = let w = slice_get_within old c p.row p.is_row in (h.done c (omega arith) d).1 (inl p)
     up (inr p) = let w = slice_get_within old c p.0.row p.0.is_row in (h.done c (omega arith) d).1 (inr (p.0, row-has old pivot d (get_or old pivot none) here p.1))
@@ -87,21 +90,24 @@ closed-more old mid new k h step = record {
     -- a row has the pivot after the pass only if it had it before
     had : (c : ℕ) → Points new c k → Points mid c k
     had c p = elim ((step c k).0 p) [ inl q ↦ q | inr q ↦ q.0 ]
+
     -- and the pivot's row stays
     stays : (e : ℕ) → Points new k e → Points mid k e
     stays e p = elim ((step k e).0 p) [ inl q ↦ q | inr q ↦ q.1 ]
+
     at_pivot : (c e : ℕ) → Points new c k → Points new k e → Points new c e
     at_pivot c e p q = (step c e).1 (inr (had c p, stays e q))
+
     below : (c d e : ℕ) → d < k → Points new c d → Points new d e → Points new c e
     below c d e lt p q = elim ((step c d).0 p) [
       | inl a ↦ elim ((step d e).0 q) [
-          | inl b ↦ (step c e).1 (inl (h.closed c d e lt a b))
-          | inr b ↦ (step c e).1 (inr (h.closed c d k lt a b.0, b.1))
-        ]
+        | inl b ↦ (step c e).1 (inl (h.closed c d e lt a b))
+        | inr b ↦ (step c e).1 (inr (h.closed c d k lt a b.0, b.1))
+      ]
       | inr a ↦ elim ((step d e).0 q) [
-          | inl b ↦ (step c e).1 (inr (a.0, h.closed k d e lt a.1 b))
-          | inr b ↦ (step c e).1 (inr (a.0, b.1))
-        ]
+        | inl b ↦ (step c e).1 (inr (a.0, h.closed k d e lt a.1 b))
+        | inr b ↦ (step c e).1 (inr (a.0, b.1))
+      ]
     ]
 
 pub closed-start : (old : List ClassSet) → ClosedTo old old 0

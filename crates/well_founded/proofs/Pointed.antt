@@ -56,6 +56,7 @@ some-more rows xs p d = (down, up)
       | inl g ↦ inl (k.0, k.1, g, k.3)
       | inr g ↦ inr (subst (λ x. Points rows x d) (sym g.1) k.3)
     ]
+
     up : SomePoints rows xs d ⊎ Points rows p d → SomePoints rows (xs ++ (p ∷ [])) d
     up (inl k) = (k.0, k.1, front xs p k.0 k.1 k.2, k.3)
     up (inr k) = (length xs, p, end xs p, k)
@@ -80,10 +81,13 @@ one-more marks rows xs p d = (down, up)
       | inl g ↦ (let w = slice_get_within xs k.0 k.1 g in inl (k.3 (length xs) p (end xs p) (λ z. omega arith), (k.0, k.1, g, λ j q h ne. k.3 j q (front xs p j q h) ne, k.4)))
       | inr g ↦ inr (record { at = λ j q h. (let w = slice_get_within xs j q h in k.3 j q (front xs p j q h) (λ z. let e = g.0 in omega arith)) }, subst (λ x. Points rows x d) (sym g.1) k.4)
     ]
+
     others : (marked : IsMarked marks p) (i : ℕ) (f : (j q : ℕ) → slice_get xs j ≡ Some q → j ≢ i → IsMarked marks q) → (j q : ℕ) → slice_get (xs ++ (p ∷ [])) j ≡ Some q → j ≢ i → IsMarked marks q
     others marked i f j q g ne = elim (front-or-end xs p j q g) [ inl h ↦ f j q h ne | inr h ↦ subst (λ x. IsMarked marks x) h.1 marked ]
+
     before : AllMarked marks xs → (j q : ℕ) → slice_get (xs ++ (p ∷ [])) j ≡ Some q → j ≢ length xs → IsMarked marks q
     before k j q g ne = elim (front-or-end xs p j q g) [ inl h ↦ k.at j q h | inr h ↦ absurd (ne h.0) ]
+
     up : (IsMarked marks p × OnePoints marks rows xs d) ⊎ (AllMarked marks xs × Points rows p d) → OnePoints marks rows (xs ++ (p ∷ [])) d
     up (inl k) = (k.1.0, k.1.1, front xs p k.1.0 k.1.1 k.1.2, others k.0 k.1.0 k.1.3, k.1.4)
     up (inr k) = (length xs, p, end xs p, before k.0, k.1)
@@ -100,9 +104,10 @@ joins-more rows parts old own new i none h lt f step = record { joined = λ d. s
   where
     at : (d : ℕ) → IsIn new d ↔ SomePoints rows (map number (take i parts) ++ (number (get_or parts i none) ∷ [])) d
     at d =
-        let both = some-more rows (map number (take i parts)) (number (get_or parts i none)) d in
-        ( λ k. both.1 (elim ((step d).0 k) [ inl a ↦ inl ((h.joined d).0 a) | inr a ↦ inr ((f d).0 a) ])
-        , λ k. (step d).1 (elim (both.0 k) [ inl a ↦ inl ((h.joined d).1 a) | inr a ↦ inr ((f d).1 a) ]) )
+        let both = some-more rows (map number (take i parts)) (number (get_or parts i none)) d in (
+          λ k. both.1 (elim ((step d).0 k) [ inl a ↦ inl ((h.joined d).0 a) | inr a ↦ inr ((f d).0 a) ]),
+          λ k. (step d).1 (elim (both.0 k) [ inl a ↦ inl ((h.joined d).1 a) | inr a ↦ inr ((f d).1 a) ]),
+        )
 
 pub joins-all : (rows : List ClassSet) (parts : List ExprId) (set : ClassSet) (i : ℕ) → length parts ≤ i → JoinsSome rows parts set i → (d : ℕ) → IsIn set d ↔ SomePoints rows (map number parts) d
 joins-all rows parts set i all h d = subst (λ xs. IsIn set d ↔ SomePoints rows xs d) (numbers-all parts i all) (h.joined d)
@@ -124,15 +129,17 @@ module _ (marks : List Bool) (rows : List ClassSet) (parts : List ExprId) (old o
 
   marked-next : IsTrue next ↔ AllMarked marks (xs ++ (p ∷ []))
   marked-next =
-      let both = all-more marks xs p in
-      ( λ k. let a = is_next.0 k in both.1 (h.marked.0 a.0, sym z ∙ a.1)
-      , λ k. let a = both.0 k in is_next.1 (h.marked.1 a.0, z ∙ a.1) )
+      let both = all-more marks xs p in (
+        λ k. let a = is_next.0 k in both.1 (h.marked.0 a.0, sym z ∙ a.1),
+        λ k. let a = both.0 k in is_next.1 (h.marked.1 a.0, z ∙ a.1),
+      )
 
   joined-next : (d : ℕ) → IsIn new d ↔ OnePoints marks rows (xs ++ (p ∷ [])) d
   joined-next d =
-      let both = one-more marks rows xs p d in
-      ( λ k. both.1 (elim ((step d).0 k) [ inl a ↦ inl (sym z ∙ a.0, (h.joined d).0 a.1) | inr a ↦ inr (h.marked.0 a.0, (f d).0 a.1) ])
-      , λ k. (step d).1 (elim (both.0 k) [ inl a ↦ inl (z ∙ a.0, (h.joined d).1 a.1) | inr a ↦ inr (h.marked.1 a.0, (f d).1 a.1) ]) )
+      let both = one-more marks rows xs p d in (
+        λ k. both.1 (elim ((step d).0 k) [ inl a ↦ inl (sym z ∙ a.0, (h.joined d).0 a.1) | inr a ↦ inr (h.marked.0 a.0, (f d).0 a.1) ]),
+        λ k. (step d).1 (elim (both.0 k) [ inl a ↦ inl (z ∙ a.0, (h.joined d).1 a.1) | inr a ↦ inr (h.marked.1 a.0, (f d).1 a.1) ]),
+      )
 
   pub one-next : JoinsOne marks rows parts new next (i + 1)
   one-next = record {

@@ -23,6 +23,7 @@ in-union a b d = (down, up)
   where
     down : bit_at (bit_or a b) d ≡ 1 → (bit_at a d ≡ 1) ⊎ (bit_at b d ≡ 1)
     down h = elim (one-or-zero (bit_at a d) (bit_at-lt a d)) [ inl e ↦ inl e | inr e ↦ inr (one-of-max (bit_at a d) (bit_at b d) (sym (bit_at_or a b d) ∙ h) e) ]
+
     up : (bit_at a d ≡ 1) ⊎ (bit_at b d ≡ 1) → bit_at (bit_or a b) d ≡ 1
     up h = bit_at_or a b d ∙ max-one (bit_at a d) (bit_at b d) (bit_at-lt a d) (bit_at-lt b d) h
 
@@ -32,9 +33,12 @@ in-only k d within = (down, up)
   where
     same : bit_at (1 * 2 ^ k % 2 ^ 64) k ≡ 1
     same = sym (ap (λ n. bit_at n k) (or_zero_l (1 * 2 ^ k % 2 ^ 64))) ∙ bit_at_set_same w64 0 k within
+
     other : (d ≡ k → ⊥) → bit_at (1 * 2 ^ k % 2 ^ 64) d ≡ 0
     other ne = sym (ap (λ n. bit_at n d) (or_zero_l (1 * 2 ^ k % 2 ^ 64))) ∙ (bit_at_set_other w64 0 k within d ne ∙ bit_at-zero d)
+
     down : bit_at (1 * 2 ^ k % 2 ^ 64) d ≡ 1 → d ≡ k
     down h = elim (eqb_tells d k) [ inl e ↦ e.1 | inr e ↦ absurd (let z = other e.1 in omega arith) ]
+
     up : d ≡ k → bit_at (1 * 2 ^ k % 2 ^ 64) d ≡ 1
     up e = subst (λ x. bit_at (1 * 2 ^ k % 2 ^ 64) x ≡ 1) (sym e) same

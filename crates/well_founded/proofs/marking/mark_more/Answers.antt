@@ -10,9 +10,9 @@ pub loop-e-preserved : goal.loop-e-preserved
 loop-e-preserved c = elim c.if-not-is_marked.branch [
   | then-not-is_marked+then-gets w ↦ widened-set _ _ _ _ _ _ _ _ c.loop-e.invariant (omega (arith, c.node_count-e-end.ensures.count)) (sym c.is_marked.ensures ∙ w.if-not-is_marked.true) (w.gets.ensures.0 w.if-gets.true) w.marks-is w.marked-is
   | else-not-is_marked w ↦ elim w.else-not-is_marked.branch [
-      | else-not-is_marked-via-then-not-is_marked+else-gets v ↦ widened-keep _ _ _ _ _ _ _ _ c.loop-e.invariant (λ g. absurd (let k = v.gets.ensures.1 g in cc)) w.marks-is w.marked-is
-      | else-not-is_marked-via-else-not-is_marked v ↦ widened-keep _ _ _ _ _ _ _ _ c.loop-e.invariant (λ g. sym c.is_marked.ensures ∙ v.if-not-is_marked.false) w.marks-is w.marked-is
-    ]
+    | else-not-is_marked-via-then-not-is_marked+else-gets v ↦ widened-keep _ _ _ _ _ _ _ _ c.loop-e.invariant (λ g. absurd (let k = v.gets.ensures.1 g in cc)) w.marks-is w.marked-is
+    | else-not-is_marked-via-else-not-is_marked v ↦ widened-keep _ _ _ _ _ _ _ _ c.loop-e.invariant (λ g. sym c.is_marked.ensures ∙ v.if-not-is_marked.false) w.marks-is w.marked-is
+  ]
 ]
 
 pub returns : goal.returns
