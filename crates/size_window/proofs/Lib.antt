@@ -1,0 +1,4 @@
+pub mod Decided
+pub mod Visiting
+pub mod VisitCells
+pub mod Following
