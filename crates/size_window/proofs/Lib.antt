@@ -2,3 +2,4 @@ pub mod Decided
 pub mod Visiting
 pub mod VisitCells
 pub mod Following
+pub mod UnionsIdeally

@@ -72,7 +72,7 @@ module _ (c : Chooser) (x : Fraction) (ideal : DecidesIdeally c x) (whole : ℕ)
         goes-on c.spec x before (counted-turns c.spec x e i part a.room node form rest cell here counted (fits free is_free plain (ideal.within e room i cell k.decided part node form here counted)) (ideal.takes e room i cell k.is_cell k.decided))
       where
         fits : (b : Bool) → c.is_free part ≡ b → (b ≡ false → room ≡ a.room) → i ≤ room → (i ≤ a.room) ⊎ HasZero c.spec part
-        fits true free plain h = inr (ideal.free part free)
+        fits true free plain h = inr (ideal.free e part node form here counted free)
         fits false free plain h = inl (let e = plain refl in omega arith)
     counted-ideally node part form here counted true is_free room is_room plain (Draw.Decided Choice.Over cell) drawn =
         let k = draw-decided (c.decide e room) bit Choice.Over cell a.used drawn in
@@ -81,7 +81,7 @@ module _ (c : Chooser) (x : Fraction) (ideal : DecidesIdeally c x) (whole : ℕ)
     counted-ideally node part form here counted false is_free room is_room plain (Draw.Decided Choice.Over cell) drawn =
         let k = draw-decided (c.decide e room) bit Choice.Over cell a.used drawn in
         let same = plain refl in
-        is-over c.spec x before (counted-over c.spec x e part a.room node form rest cell here counted (ideal.taking part is_free) (λ u inside i h. ideal.over e room cell k.is_cell k.decided u inside i (omega arith)))
+        is-over c.spec x before (counted-over c.spec x e part a.room node form rest cell here counted (ideal.taking e part node form here counted is_free) (λ u inside i h. ideal.over e room cell k.is_cell k.decided u inside i (omega arith)))
     counted-ideally node part form here counted free is_free room is_room plain (Draw.Straddled cell) drawn = tt
     counted-ideally node part form here counted free is_free room is_room plain (Draw.Ended place) drawn = tt
     counted-ideally node part form here counted free is_free room is_room plain (Draw.Failed place) drawn = tt
