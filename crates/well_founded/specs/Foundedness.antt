@@ -85,9 +85,3 @@ pub record RepeatsZero (s : Spec) (e : ℕ) : Type 0 where
 -- One or more steps lead from a class to itself.
 pub record LeadsRound (s : Spec) (c : ℕ) : Type 0 where
   pub leads : Leads s c c
-
--- Nothing is refused: each class has an object by the rule, and there is no such node and no such loop.
-pub record IsAccepted (s : Spec) : Type 0 where
-  pub objects : (c body : ℕ) → body_of s c ≡ Some body → HasSome s body
-  pub parts : (e : ℕ) → ¬ (RepeatsZero s e)
-  pub loops : (c : ℕ) → ¬ (LeadsRound s c)
