@@ -4,3 +4,5 @@ pub mod Results
 pub mod Depths
 pub mod Soundness
 pub mod Texts
+pub mod Growth
+pub mod ExampleSound
