@@ -1,6 +1,6 @@
 -- What the examination's answers rest on.
-use Rattle.std.proofs.Common.{◌≡◌, ◌≢◌, ℕ, ◌+◌, ◌<◌, ◌⊎◌, ◌↔◌, inl, inr, List, length, Bool, true, false, IsTrue, Some, arith, refl, sym, ◌∙◌, subst}
-use Rattle.bz_model.specs.Spec.{Spec, Node, node_at, body_of}
+use Rattle.std.proofs.Common.{◌≡◌, ◌≢◌, ℕ, ◌+◌, ◌<◌, ◌⊎◌, ◌↔◌, inl, inr, List, length, Bool, true, false, IsTrue, Some, arith, refl, sym, ◌∙◌}
+use Rattle.bz_model.specs.Spec.{Spec, Node, body_of}
 use Rattle.bz_model.specs.Object.{Object, Belongs}
 use Rattle.bz_model.specs.Measures.{HasZero}
 use Rattle.bz_model.specs.WellFounded.{IsWellFounded}
@@ -9,10 +9,10 @@ use Rattle.well_founded.specs.declared.class_set.ClassSet.{ClassSet}
 use Rattle.well_founded.specs.declared.cause.UnfoundedCause.{UnfoundedCause}
 use Rattle.well_founded.specs.declared.cause.UnfoundedCause.TheVariants.{NoObject, ZeroPart, ZeroLoop, OutOfMemory}
 use Rattle.well_founded.specs.EmptyObjects.{answer_at, has_empty}
-use Rattle.well_founded.specs.Foundedness.{Least, HasSome, LacksObject, RepeatsZero, LeadsRound, Leads}
-use Rattle.well_founded.specs.Rounds.{Gets, IsClosed}
-use Rattle.well_founded.specs.Marking.{IsMarked, AreMarked}
-use Rattle.well_founded.specs.Examination.{IsLeast, EachHasObject, IsFirstRepeat, IsFirstRound, TellsCause, IsFoundedBy}
+use Rattle.well_founded.specs.Foundedness.{Least, RepeatsZero, LeadsRound, Leads}
+use Rattle.well_founded.specs.Rounds.{Gets}
+use Rattle.well_founded.specs.Marking.{AreMarked}
+use Rattle.well_founded.specs.Examination.{IsLeast, EachHasObject, TellsCause, IsFoundedBy}
 use Rattle.well_founded.specs.Ways.{Points, PointsRound}
 use Rattle.well_founded.proofs.Orderly.{orderly}
 use Rattle.well_founded.proofs.Least.{some-belongs, belongs-some, empty-belongs, belongs-empty}

@@ -1,5 +1,5 @@
 -- Which nodes have an object of size 0, computed: the least sets that the cases of the nodes give.
-use Rattle.std.specs.Prelude.{ℕ, zero, suc, Bool, true, false, ◌||◌, nat_eq, List, [], ◌∷◌, ◌++◌, map, zip, length, replicate, slice_get, unwrap_or}
+use Rattle.std.specs.Prelude.{ℕ, zero, suc, Bool, true, false, ◌||◌, nat_eq, List, [], map, length, replicate, slice_get, unwrap_or}
 use Rattle.std.specs.List.{list_all, list_any}
 use Rattle.bz_model.specs.Spec.{Node, Range, Spec}
 use Rattle.class_system.specs.NodeResults.{node_results, ranged_nodes}

@@ -1,6 +1,6 @@
 -- The foundedness rule: which nodes have an object, and what is refused.
-use Rattle.std.specs.Prelude.{◌≡◌, ℕ, ◌<◌, ◌≤◌, ◌⊎◌, List, [], ◌∷◌, ◌++◌, length, Option, Some, None, slice_get}
-use Rattle.bz_model.specs.Spec.{Spec, Node, Range, node_at, range_at, body_of, IsWithinHigh}
+use Rattle.std.specs.Prelude.{◌≡◌, ℕ, ◌≤◌, ◌⊎◌, List, [], ◌∷◌, ◌++◌, Some, None, slice_get}
+use Rattle.bz_model.specs.Spec.{Spec, Node, Range, node_at, range_at, body_of}
 
 -- The node is a sequence, set or cycle of this part.
 abbrev pub IsCountedOf : Node → ℕ → Type 0

@@ -1,4 +1,3 @@
-use Rattle.std.proofs.Common.{◌≡◌, ℕ, ◌<◌, ◌≤◌}
 use Rattle.well_founded.proofs.Pivots.{WidenedBelow}
 use Rattle.well_founded.proofs.closure.pass.Given as goal
 
