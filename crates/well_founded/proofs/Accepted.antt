@@ -4,18 +4,22 @@ use Rattle.std.specs.List.{slice_get}
 use Rattle.std.proofs.lemmas.Option.{slice_get_within}
 use Rattle.std.proofs.lemmas.Bool.{cases_lt}
 use Rattle.std.proofs.Math.Nat.{mul-le-mul_right}
-use Rattle.bz_model.specs.Spec.{Spec, Node, Range, node_at, IsInRange, IsWithinHigh}
+use Rattle.bz_model.specs.Spec.{Spec, Node, Range, node_at, body_of, IsInRange, IsWithinHigh}
 use Rattle.bz_model.specs.Object.{Object, Objects, none, more, count}
 use Rattle.bz_model.specs.Measures.{size, sizes, tree_nodes, all_nodes}
 use Rattle.bz_model.specs.WellFounded.{IsWellFounded}
-use Rattle.well_founded.specs.Foundedness.{Counts, IsCountedOf, IsPart, Least, HasEmpty, Under, IsAccepted}
+use Rattle.well_founded.specs.Foundedness.{Counts, IsCountedOf, IsPart, Least, HasEmpty, Under, HasSome, RepeatsZero, LeadsRound}
 use Rattle.well_founded.proofs.Orderly.{IsOrderly, IsFew}
 use Rattle.well_founded.proofs.Having.{Of, OfEach, OfAll, of-belongs}
-use Rattle.well_founded.proofs.Least.{size-form, tree_nodes-form, least, least-each, some-belongs, belongs-some}
+use Rattle.well_founded.proofs.Least.{size-form, tree_nodes-form, least, least-each, some-belongs}
 use Rattle.well_founded.proofs.Growth.{join, sizes-join, of-join}
-use Rattle.well_founded.proofs.Refused.{zero_part-unfounded}
-use Rattle.well_founded.proofs.Loops.{zero_loop-unfounded}
 use Rattle.well_founded.proofs.Chains.{Chain, chain-down, chain-into, chain-short}
+
+-- Nothing is refused: each class has an object by the rule, and there is no such node and no such loop.
+pub record IsAccepted (s : Spec) : Type 0 where
+  pub objects : (c body : ℕ) → body_of s c ≡ Some body → HasSome s body
+  pub parts : (e : ℕ) → ¬ (RepeatsZero s e)
+  pub loops : (c : ℕ) → ¬ (LeadsRound s c)
 
 -- all objects of size below n have at most so many nodes
 record Cap (s : Spec) (n : ℕ) : Type 0 where
@@ -181,12 +185,4 @@ pub accepted-founded : (s : Spec) → IsOrderly s → IsAccepted s → IsWellFou
 accepted-founded s sound accepted = record {
   inhabited = λ c body q. some-belongs s sound body (accepted.objects c body q);
   bounded = λ c body n q. let k = cap s sound accepted (suc n) in (k.bound, λ o b z. k.holds body o (of-belongs s body o b) (omega arith));
-}
-
--- And the other way round.
-pub founded-accepted : (s : Spec) → IsOrderly s → IsWellFounded s → IsAccepted s
-founded-accepted s sound w = record {
-  objects = λ c body q. let o = w.inhabited c body q in belongs-some s body o.0 o.1;
-  parts = λ e z. zero_part-unfounded s sound e z w;
-  loops = λ c l. zero_loop-unfounded s sound c l w;
 }

@@ -1,5 +1,5 @@
 -- The tests' drafts, one name, one node and one tree after the other.
-use Rattle.std.proofs.Common.{◌≡◌, ℕ, zero, suc, ◌+◌, ◌-◌, ◌<◌, ◌≤◌, ◌⊎◌, inl, inr, List, [], ◌∷◌, ◌++◌, length, map, take, drop, get_or, Bool, true, IsTrue, Option, Some, None, arith, refl, sym, ◌∙◌, subst, ap, add-one, length-drop}
+use Rattle.std.proofs.Common.{◌≡◌, ℕ, zero, suc, ◌+◌, ◌-◌, ◌<◌, ◌≤◌, inl, inr, List, [], ◌∷◌, ◌++◌, length, map, take, drop, get_or, true, Option, Some, None, arith, refl, sym, ◌∙◌, subst, ap, add-one, length-drop}
 use Rattle.std.specs.Prelude.{nat_eq}
 use Rattle.std.specs.List.{slice_get}
 use Rattle.std.proofs.lemmas.List.{take_all}
@@ -8,7 +8,7 @@ use Rattle.std.proofs.lemmas.Bool.Decides.{eqb_tells}
 use Rattle.std.proofs.lemmas.Option.{slice_get_within, slice_get-get_or, same_Some}
 use Rattle.bz_model.specs.Spec as spec
 use Rattle.bz_model.specs.Spec.{Spec, Mode, Node}
-use Rattle.class_system.specs.Each.{Each, EachPair}
+use Rattle.class_system.specs.Each.{Each}
 use Rattle.class_system.specs.NodeOrder.{parts_of, Spans, SpanEach}
 use Rattle.class_system.specs.Sound.{IsSound, HasTwoParts, RefersBelow, HasLeafWord, SuitsMode, HasTextRange, IsTextRange, IsBound}
 use Rattle.class_system.specs.Views.{spec_node, spec_range, number}

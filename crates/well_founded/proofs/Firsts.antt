@@ -1,11 +1,11 @@
 -- The first class without an object.
-use Rattle.std.proofs.Common.{◌≡◌, ℕ, ◌+◌, ◌<◌, ◌≤◌, ◌⊎◌, inl, inr, List, length, Bool, true, false, Some, arith, refl, sym, ◌∙◌, subst}
+use Rattle.std.proofs.Common.{◌≡◌, ℕ, ◌+◌, ◌<◌, ◌≤◌, inl, inr, List, length, Bool, true, false, Some, arith, sym, ◌∙◌, subst}
 use Rattle.std.proofs.lemmas.Bool.{cases_lt}
 use Rattle.std.proofs.lemmas.Option.{slice_get_within, same_Some}
 use Rattle.bz_model.specs.Spec.{Spec, body_of}
 use Rattle.well_founded.specs.EmptyObjects.{answer_at}
 use Rattle.well_founded.specs.Foundedness.{HasSome, LacksObject}
-use Rattle.well_founded.specs.Marking.{IsMarked, AreMarked}
+use Rattle.well_founded.specs.Marking.{AreMarked}
 use Rattle.well_founded.specs.Examination.{IsLeast, EachHasObject}
 
 -- The classes below i have an object.

@@ -1,6 +1,6 @@
 -- What the examination's answers rest on.
-use Rattle.std.proofs.Common.{◌≡◌, ◌≢◌, ℕ, ◌+◌, ◌<◌, ◌⊎◌, ◌↔◌, inl, inr, List, length, Bool, true, false, IsTrue, Some, arith, refl, sym, ◌∙◌, subst}
-use Rattle.bz_model.specs.Spec.{Spec, Node, node_at, body_of}
+use Rattle.std.proofs.Common.{◌≡◌, ◌≢◌, ℕ, ◌+◌, ◌<◌, ◌⊎◌, ◌↔◌, inl, inr, List, length, Bool, true, false, IsTrue, Some, arith, refl, sym, ◌∙◌}
+use Rattle.bz_model.specs.Spec.{Spec, Node, body_of}
 use Rattle.bz_model.specs.Object.{Object, Belongs}
 use Rattle.bz_model.specs.Measures.{HasZero}
 use Rattle.bz_model.specs.WellFounded.{IsWellFounded}
@@ -8,11 +8,11 @@ use Rattle.class_system.specs.Sound.{IsSound}
 use Rattle.well_founded.specs.declared.class_set.ClassSet.{ClassSet}
 use Rattle.well_founded.specs.declared.cause.UnfoundedCause.{UnfoundedCause}
 use Rattle.well_founded.specs.declared.cause.UnfoundedCause.TheVariants.{NoObject, ZeroPart, ZeroLoop, OutOfMemory}
-use Rattle.well_founded.specs.EmptyObjects.{answer_at}
-use Rattle.well_founded.specs.Foundedness.{Least, HasSome, LacksObject, RepeatsZero, LeadsRound, Leads, IsAccepted}
-use Rattle.well_founded.specs.Rounds.{Gets, IsClosed}
-use Rattle.well_founded.specs.Marking.{IsMarked, AreMarked}
-use Rattle.well_founded.specs.Examination.{IsLeast, EachHasObject, IsFirstRepeat, IsFirstRound, TellsCause, IsFoundedBy}
+use Rattle.well_founded.specs.EmptyObjects.{answer_at, has_empty}
+use Rattle.well_founded.specs.Foundedness.{Least, RepeatsZero, LeadsRound, Leads}
+use Rattle.well_founded.specs.Rounds.{Gets}
+use Rattle.well_founded.specs.Marking.{AreMarked}
+use Rattle.well_founded.specs.Examination.{IsLeast, EachHasObject, TellsCause, IsFoundedBy}
 use Rattle.well_founded.specs.Ways.{Points, PointsRound}
 use Rattle.well_founded.proofs.Orderly.{orderly}
 use Rattle.well_founded.proofs.Least.{some-belongs, belongs-some, empty-belongs, belongs-empty}
@@ -21,6 +21,7 @@ use Rattle.well_founded.proofs.Refused.{node-there, filled, no_object-unfounded,
 use Rattle.well_founded.proofs.Loops.{zero_loop-unfounded}
 use Rattle.well_founded.proofs.Accepted.{accepted-founded}
 use Rattle.well_founded.proofs.Marks.{two}
+use Rattle.well_founded.proofs.Stages.{marked-empty, empty-marked}
 
 -- The marks are the same where atoms count alike.
 least-along : (s : Spec) (A B : Type 0) → (A → B) → (e : ℕ) → Least s A e → Least s B e
@@ -63,6 +64,15 @@ tells-unfounded s OutOfMemory sound h ne = absurd (ne refl)
 -- The marks tell which nodes have an object of size 0.
 pub zero-told : (s : Spec) (zero : List Bool) (e : ℕ) (b : Bool) → IsSound s → AreMarked s ⊥ zero → b ≡ answer_at zero e → IsTrue b ↔ HasZero s e
 zero-told s marks e b sound are z = (λ k. empty-belongs s (orderly s sound) e (are.right e (sym z ∙ k)), λ k. z ∙ are.all e (belongs-empty s e k))
+
+-- The computed answer is the same.
+pub zero-computed : (s : Spec) (zero : List Bool) (e : ℕ) (b : Bool) → IsSound s → AreMarked s ⊥ zero → b ≡ answer_at zero e → b ≡ has_empty s e
+zero-computed s marks e b sound are z = same b (has_empty s e) (λ k. empty-marked s (orderly s sound) e (are.right e (sym z ∙ k))) (λ k. z ∙ are.all e (marked-empty s (orderly s sound) e k))
+  where
+    same : (a b : Bool) → (a ≡ true → b ≡ true) → (b ≡ true → a ≡ true) → a ≡ b
+    same true b f g = sym (f refl)
+    same false true f g = g refl
+    same false false f g = refl
 
 pub zero-decided : (s : Spec) (zero : List Bool) → IsSound s → AreMarked s ⊥ zero → (e : ℕ) → HasZero s e ⊎ (¬ (HasZero s e))
 zero-decided s marks sound are e = elim (two (answer_at marks e)) [

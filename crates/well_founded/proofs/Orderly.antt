@@ -1,5 +1,5 @@
 -- What the foundedness proofs use of a sound specification.
-use Rattle.std.proofs.Common.{◌≡◌, ℕ, zero, suc, ◌<◌, ◌≤◌, ◌⊎◌, inl, inr, List, [], ◌∷◌, length, Option, Some, None, get_or, arith, refl, sym, ◌∙◌, subst, ap}
+use Rattle.std.proofs.Common.{◌≡◌, ℕ, zero, suc, ◌<◌, ◌≤◌, ◌⊎◌, inl, inr, List, [], ◌∷◌, length, Option, Some, None, get_or, arith, sym, subst, ap}
 use Rattle.std.specs.List.{slice_get}
 use Rattle.std.proofs.lemmas.Bool.{cases_lt}
 use Rattle.std.proofs.lemmas.Option.{slice_get_within, slice_get-get_or}
@@ -7,7 +7,7 @@ use Rattle.bz_model.specs.Spec.{Spec, Node, Range, node_at, range_at, body_of, I
 use Rattle.class_system.specs.NodeOrder.{parts_of, HasPart, Spans, SpanEach}
 use Rattle.class_system.specs.NodeOrder.Spans.{tree}
 use Rattle.class_system.specs.NodeOrder.SpanEach.{done, next}
-use Rattle.class_system.specs.Sound.{IsSound, IsTextRange, HasTextRange, IsBound}
+use Rattle.class_system.specs.Sound.{IsSound, IsTextRange, HasTextRange}
 use Rattle.class_system.proofs.Soundness.{part_below, body_in_range, has_range}
 use Rattle.well_founded.specs.Foundedness.{IsCountedOf, IsPart, Counts}
 

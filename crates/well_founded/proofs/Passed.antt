@@ -1,15 +1,14 @@
 -- The ways to references, one node after the other.
-use Rattle.std.proofs.Common.{◌≡◌, ◌≢◌, ℕ, zero, suc, ◌+◌, ◌<◌, ◌≤◌, ◌⊎◌, ◌↔◌, inl, inr, List, [], ◌∷◌, ◌++◌, length, map, Bool, Option, Some, arith, refl, sym, ◌∙◌, subst, ap}
-use Rattle.std.specs.List.{slice_get}
+use Rattle.std.proofs.Common.{◌≡◌, ℕ, ◌+◌, ◌<◌, ◌≤◌, ◌↔◌, inl, inr, List, [], ◌∷◌, ◌++◌, length, map, Bool, Some, arith, refl, sym, ◌∙◌, subst, ap}
 use Rattle.std.proofs.lemmas.Bool.{cases_lt}
 use Rattle.std.proofs.lemmas.Option.{slice_get_within}
-use Rattle.bz_model.specs.Spec.{Spec, Node, Range, node_at, range_at}
+use Rattle.bz_model.specs.Spec.{Spec, Node, node_at}
 use Rattle.class_system.specs.Views.{number}
 use Rattle.class_system.specs.declared.ids.ExprId.{ExprId}
 use Rattle.well_founded.specs.declared.class_set.ClassSet.{ClassSet}
-use Rattle.well_founded.specs.Foundedness.{IsPart, Under, HasEmpty}
+use Rattle.well_founded.specs.Foundedness.{IsPart, Under}
 use Rattle.well_founded.proofs.Orderly.{IsOrderly}
-use Rattle.well_founded.specs.Marking.{IsMarked, AreMarked}
+use Rattle.well_founded.specs.Marking.{AreMarked}
 use Rattle.well_founded.specs.Rounds.{Passes, PassesAt}
 use Rattle.well_founded.specs.Ways.{IsIn, Points, OnePoints}
 use Rattle.well_founded.proofs.Rounds.{some-node, under-round, under-passes}

@@ -1,5 +1,5 @@
 -- Rows closed one pivot after the other.
-use Rattle.std.proofs.Common.{◌≡◌, ◌≢◌, ℕ, ◌+◌, get_or, zero, suc, ◌<◌, ◌≤◌, ◌⊎◌, ◌↔◌, inl, inr, List, [], ◌∷◌, length, Option, Some, arith, refl, sym, ◌∙◌, subst, ap}
+use Rattle.std.proofs.Common.{◌≡◌, ℕ, ◌+◌, get_or, ◌<◌, ◌≤◌, ◌⊎◌, ◌↔◌, inl, inr, List, length, Some, arith, refl, sym, ◌∙◌, subst}
 use Rattle.std.specs.List.{slice_get}
 use Rattle.std.proofs.Math.ListN.{set}
 use Rattle.std.proofs.lemmas.Bool.{cases_lt}
@@ -9,7 +9,7 @@ use Rattle.well_founded.specs.Ways.{IsIn, Points, Chain}
 use Rattle.well_founded.proofs.Rows.{set-same, set-other, points-along, row-has}
 
 -- The rows below i have got what the pivot has, where they have the pivot; the others are as they were.
-pub record Passed (old new : List ClassSet) (pivot : ℕ) (through : ClassSet) (i : ℕ) : Type 0 where
+pub record WidenedBelow (old new : List ClassSet) (pivot : ℕ) (through : ClassSet) (i : ℕ) : Type 0 where
   pub done : (c : ℕ) → c < i → (d : ℕ) → Points new c d ↔ (Points old c d ⊎ (Points old c pivot × IsIn through d))
   pub rest : (c : ℕ) → i ≤ c → slice_get new c ≡ slice_get old c
 
@@ -19,11 +19,11 @@ pub record ClosedTo (old new : List ClassSet) (k : ℕ) : Type 0 where
   pub led : (c d : ℕ) → Points new c d → Chain old c d
   pub closed : (c d e : ℕ) → d < k → Points new c d → Points new d e → Points new c e
 
-pub passed-start : (old : List ClassSet) (pivot : ℕ) (through : ClassSet) → Passed old old pivot through 0
+pub passed-start : (old : List ClassSet) (pivot : ℕ) (through : ClassSet) → WidenedBelow old old pivot through 0
 passed-start old pivot through = record { done = λ c lt d. absurd (omega arith); rest = λ c le. refl }
 
 -- One more row.
-module _ (old mid : List ClassSet) (pivot : ℕ) (through v none : ClassSet) (i : ℕ) (h : Passed old mid pivot through i) (within : i < length mid) (step : (d : ℕ) → IsIn v d ↔ (IsIn (get_or mid i none) d ⊎ (IsIn (get_or mid i none) pivot × IsIn through d))) where
+module _ (old mid : List ClassSet) (pivot : ℕ) (through v none : ClassSet) (i : ℕ) (h : WidenedBelow old mid pivot through i) (within : i < length mid) (step : (d : ℕ) → IsIn v d ↔ (IsIn (get_or mid i none) d ⊎ (IsIn (get_or mid i none) pivot × IsIn through d))) where
   here : slice_get old i ≡ Some (get_or mid i none)
   here = sym (h.rest i (omega arith)) ∙ slice_get-get_or mid i none within
 
@@ -45,7 +45,7 @@ module _ (old mid : List ClassSet) (pivot : ℕ) (through v none : ClassSet) (i 
       let same = set-other mid i v c (λ e. omega arith) in
       (λ p. (h.done c lt d).0 (points-along (set mid i v) mid c d same p), λ p. points-along mid (set mid i v) c d (sym same) ((h.done c lt d).1 p))
 
-  pub passed-more : Passed old (set mid i v) pivot through (i + 1)
+  pub passed-more : WidenedBelow old (set mid i v) pivot through (i + 1)
   passed-more = record {
     done = λ c lt d. elim (cases_lt c i) [
       | inl less ↦ earlier c less d
@@ -57,7 +57,7 @@ module _ (old mid : List ClassSet) (pivot : ℕ) (through v none : ClassSet) (i 
       same-number : (a b : ℕ) → a ≡ b → b ≡ a
       same-number a b e = sym e
 
-pub passed-all : (old new : List ClassSet) (pivot : ℕ) (none : ClassSet) (i : ℕ) → length new ≤ i → pivot < length old → Passed old new pivot (get_or old pivot none) i → (length new ≡ length old) → (c d : ℕ) → Points new c d ↔ (Points old c d ⊎ (Points old c pivot × Points old pivot d))
+pub passed-all : (old new : List ClassSet) (pivot : ℕ) (none : ClassSet) (i : ℕ) → length new ≤ i → pivot < length old → WidenedBelow old new pivot (get_or old pivot none) i → (length new ≡ length old) → (c d : ℕ) → Points new c d ↔ (Points old c d ⊎ (Points old c pivot × Points old pivot d))
 passed-all old new pivot none i all within h len c d = (down, up)
   where
     here : slice_get old pivot ≡ Some (get_or old pivot none)

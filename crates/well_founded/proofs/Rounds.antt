@@ -2,7 +2,7 @@
 use Rattle.std.proofs.Common.{◌≡◌, ◌≢◌, ℕ, zero, suc, ◌≤◌, ◌⊎◌, inl, inr, List, [], ◌∷◌, ◌++◌, length, Some, arith, refl, sym, ap, ◌∙◌, subst}
 use Rattle.std.specs.List.{slice_get}
 use Rattle.bz_model.specs.Spec.{Spec, Node, Range, node_at, range_at}
-use Rattle.well_founded.specs.Foundedness.{Counts, IsCountedOf, Least, LeastEach, HasEmpty, Under, StepsTo, Leads}
+use Rattle.well_founded.specs.Foundedness.{Counts, IsCountedOf, Least, LeastEach, HasEmpty, Under}
 use Rattle.well_founded.specs.Rounds.{Gets, IsClosed, Passes}
 use Rattle.well_founded.proofs.Refused.{each-from}
 
@@ -122,22 +122,3 @@ under-passes s d e n q (Under.here p) = along s d e (Node.Class d) n p q refl
 under-passes s d e n q (Under.in_union parts i part p g u) = along s d e (Node.Union parts) n p q (i, part, g, u)
 under-passes s d e n q (Under.in_product before part after p l r u) = along s d e (Node.Product (before ++ (part ∷ after))) n p q (length before, part, at-end before part after, others s part l r, u)
 under-passes s d e n q (Under.in_counted {part = part} {r = r} k h u) = counted-passes s d e n part r (as-node n k q) k.is_range h u
-
--- Where a property holds of the classes that c steps to, and passes along steps, it holds of all that c leads to.
-pub leads-closed : (s : Spec) (c : ℕ) (P : ℕ → Type 0) → ((d : ℕ) → StepsTo s c d → P d) → ((d e : ℕ) → P d → StepsTo s d e → P e) → {d : ℕ} → Leads s c d → P d
-leads-closed s c P from on {d} (Leads.one st) = from d st
-leads-closed s c P from on (Leads.further {d = d} {e = e} l st) = on d e (leads-closed s c P from on l) st
-
--- A step before a way is a way.
-pub step-leads : {s : Spec} {c d e : ℕ} → StepsTo s c d → Leads s d e → Leads s c e
-step-leads st (Leads.one l) = Leads.further (Leads.one st) l
-step-leads st (Leads.further l m) = Leads.further (step-leads st l) m
-
--- What holds of steps, and of a step before what it holds of, holds of all ways.
-pub leads-before : (s : Spec) (P : ℕ → ℕ → Type 0) → ((c d : ℕ) → StepsTo s c d → P c d) → ((c d e : ℕ) → StepsTo s c d → P d e → P c e) → {c d : ℕ} → Leads s c d → P c d
-leads-before s P from back {c} {d} (Leads.one st) = from c d st
-leads-before s P from back {c} {d = e} (Leads.further {d = d} l st) = grow l (from d e st)
-  where
-    grow : {d : ℕ} → Leads s c d → P d e → P c e
-    grow {d} (Leads.one k) h = back c d e k h
-    grow {d = y} (Leads.further {d = x} k m) h = grow k (back x y e m h)

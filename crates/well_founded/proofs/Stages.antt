@@ -8,7 +8,9 @@ use Rattle.bz_model.specs.Measures.{HasZero}
 use Rattle.well_founded.specs.Foundedness.{HasEmpty}
 use Rattle.well_founded.proofs.Orderly.{IsOrderly}
 use Rattle.well_founded.specs.Rounds.{Gets}
-use Rattle.well_founded.specs.EmptyObjects.{repeated, ranged_nodes, node_results, answer_at, node_has_empty, nodes_with_empty, more_with_empty, classes_with_empty, has_empty}
+use Rattle.class_system.specs.NodeResults.{node_results, ranged_nodes}
+use Rattle.class_system.proofs.Results.{zip-at, length-node_results}
+use Rattle.well_founded.specs.EmptyObjects.{repeated, answer_at, node_has_empty, nodes_with_empty, more_with_empty, classes_with_empty, has_empty}
 use Rattle.well_founded.proofs.Least.{empty-belongs, belongs-empty}
 use Rattle.well_founded.proofs.Rounds.{least-round, in-closed}
 use Rattle.well_founded.specs.Marking.{IsMarked}
@@ -41,13 +43,6 @@ module _ {V : Type 0} (result : List V → Node → Range → V) where
       let n = length-end before v in
       results-kept (before ++ (v ∷ [])) xs p (omega arith) ∙ get-front before (v ∷ []) p h
 
-  results-length : (before : List V) (rest : List (Node × Range)) → length (node_results result before rest) ≡ length before + length rest
-  results-length before [] = omega arith
-  results-length before (x ∷ xs) =
-      let v = result before x.0 x.1 in
-      let n = length-end before v in
-      let h = results-length (before ++ (v ∷ [])) xs in omega arith
-
   record At (final : List V) (e : ℕ) (x : Node × Range) : Type 0 where
     earlier : List V
     same : (p : ℕ) → p < e → slice_get final p ≡ slice_get earlier p
@@ -76,12 +71,6 @@ module _ {V : Type 0} (result : List V → Node → Range → V) where
       let v = result before y.0 y.1 in
       let n = length-end before v in
       results-at (before ++ (v ∷ [])) ys i x g e (omega arith)
-
-zip-get : (xs : List Node) (ys : List Range) (i : ℕ) (x : Node) (y : Range) → slice_get xs i ≡ Some x → slice_get ys i ≡ Some y → slice_get (zip xs ys) i ≡ Some (x, y)
-zip-get [] ys i x y p q = absurd (cc)
-zip-get (a ∷ xs) [] i x y p q = absurd (cc)
-zip-get (a ∷ xs) (b ∷ ys) zero x y p q = let e : a ≡ x = cc in let f : b ≡ y = cc in cc
-zip-get (a ∷ xs) (b ∷ ys) (suc i) x y p q = zip-get xs ys i x y p q
 
 zip-parts : (xs : List Node) (ys : List Range) (i : ℕ) (z : Node × Range) → slice_get (zip xs ys) i ≡ Some z → (slice_get xs i ≡ Some z.0) × (slice_get ys i ≡ Some z.1)
 zip-parts [] ys i z q = absurd (cc)
@@ -149,7 +138,7 @@ module _ (s : Spec) (sound : IsOrderly s) where
   down : (cl : List Bool) (e : ℕ) → IsMarked (nodes_with_empty s cl) e → Down s cl e
   down cl e m =
       let w = marked-within (nodes_with_empty s cl) e m in
-      let l = results-length (node_has_empty cl) [] (ranged_nodes s) in
+      let l = length-node_results (node_has_empty cl) [] (ranged_nodes s) in
       let x = get-there (ranged_nodes s) e (omega arith) in
       let at_e = marks_at cl e x.0 x.1 in
       let both = zip-parts s.nodes s.ranges e x.0 x.1 in
@@ -164,7 +153,7 @@ module _ (s : Spec) (sound : IsOrderly s) where
 
   upward : (cl : List Bool) (e : ℕ) (n : Node) (r : Range) → node_at s e ≡ Some n → range_at s e ≡ Some r → Holds (IsMarked cl) (IsMarked (nodes_with_empty s cl)) r n → IsMarked (nodes_with_empty s cl) e
   upward cl e n r p q h =
-      let at_e = marks_at cl e (n, r) (zip-get s.nodes s.ranges e n r p q) in
+      let at_e = marks_at cl e (n, r) (zip-at s.nodes s.ranges e n r p q) in
       ap (λ o. unwrap_or o false) at_e.here ∙ holds-mark cl at_e.earlier n r (holds-more (IsMarked cl) (IsMarked cl) (IsMarked (nodes_with_empty s cl)) (IsMarked at_e.earlier) r (λ c k. k) n (λ part i m. sym (ap (λ o. unwrap_or o false) (at_e.same part (sound.below e part n p i))) ∙ m) h)
 
   -- Marked nodes have an object of size 0, where marked classes do.

@@ -1,21 +1,13 @@
 -- Which nodes have an object of size 0, computed: the least sets that the cases of the nodes give.
-use Rattle.std.specs.Prelude.{ℕ, zero, suc, Bool, true, false, ◌||◌, nat_eq, List, [], ◌∷◌, ◌++◌, map, zip, length, replicate, slice_get, unwrap_or}
+use Rattle.std.specs.Prelude.{ℕ, zero, suc, Bool, true, false, ◌||◌, nat_eq, List, [], map, length, replicate, slice_get, unwrap_or}
 use Rattle.std.specs.List.{list_all, list_any}
 use Rattle.bz_model.specs.Spec.{Node, Range, Spec}
+use Rattle.class_system.specs.NodeResults.{node_results, ranged_nodes}
 
 -- The result of n steps.
 abbrev pub repeated : {V : Type 0} → (V → V) → ℕ → V → V
 repeated step zero v = v
 repeated step (suc n) v = step (repeated step n v)
-
--- Each node with its range.
-abbrev pub ranged_nodes : Spec → List (Node × Range)
-ranged_nodes s = zip s.nodes s.ranges
-
--- The results for all nodes in order, each from the results for the nodes before it, which are given first.
-abbrev pub node_results : {V : Type 0} → (List V → Node → Range → V) → List V → List (Node × Range) → List V
-node_results result before [] = before
-node_results result before (node ∷ nodes) = node_results result (before ++ result before node.0 node.1 ∷ []) nodes
 
 -- The answer at a place, no past the end.
 abbrev pub answer_at : List Bool → ℕ → Bool

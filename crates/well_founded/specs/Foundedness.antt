@@ -1,6 +1,6 @@
 -- The foundedness rule: which nodes have an object, and what is refused.
-use Rattle.std.specs.Prelude.{◌≡◌, ℕ, ◌<◌, ◌≤◌, ◌⊎◌, List, [], ◌∷◌, ◌++◌, length, Option, Some, None, slice_get}
-use Rattle.bz_model.specs.Spec.{Spec, Node, Range, node_at, range_at, body_of, IsWithinHigh}
+use Rattle.std.specs.Prelude.{◌≡◌, ℕ, ◌≤◌, ◌⊎◌, List, [], ◌∷◌, ◌++◌, Some, None, slice_get}
+use Rattle.bz_model.specs.Spec.{Spec, Node, Range, node_at, range_at, body_of}
 
 -- The node is a sequence, set or cycle of this part.
 abbrev pub IsCountedOf : Node → ℕ → Type 0
@@ -85,9 +85,3 @@ pub record RepeatsZero (s : Spec) (e : ℕ) : Type 0 where
 -- One or more steps lead from a class to itself.
 pub record LeadsRound (s : Spec) (c : ℕ) : Type 0 where
   pub leads : Leads s c c
-
--- Nothing is refused: each class has an object by the rule, and there is no such node and no such loop.
-pub record IsAccepted (s : Spec) : Type 0 where
-  pub objects : (c body : ℕ) → body_of s c ≡ Some body → HasSome s body
-  pub parts : (e : ℕ) → ¬ (RepeatsZero s e)
-  pub loops : (c : ℕ) → ¬ (LeadsRound s c)

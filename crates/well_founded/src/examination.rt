@@ -5,6 +5,7 @@ ghost use Rattle.bz_model.specs.Object.{Object, Belongs};
 ghost use Rattle.bz_model.specs.Measures.{HasZero};
 ghost use Rattle.bz_model.specs.WellFounded.{IsWellFounded};
 ghost use Rattle.class_system.specs.Sound.{IsSound};
+ghost use Rattle.well_founded.specs.EmptyObjects.{has_empty};
 ghost use Rattle.well_founded.specs.Foundedness.{LacksObject, RepeatsZero};
 ghost use Rattle.well_founded.specs.Marking.{AreMarked};
 ghost use Rattle.well_founded.specs.Examination.{IsLeast, EachHasObject, TellsCause, IsFoundedBy};
@@ -76,6 +77,7 @@ impl Founded {
     pub fn has_zero(&self, e: ExprId) -> bool
         requires in_range { e.0 < length self.now.nodes }
         ensures exact { IsTrue result ↔ HasZero self.now e.0 }
+        ensures computed { result ≡ has_empty self.now e.0 }
     {
         self.system.known();
         is_marked(&self.zero, e)

@@ -1,10 +1,13 @@
-//! Small specifications as tables of nodes, with answers found by hand from the rule.
+//! Small specifications as lists of nodes, with answers found by hand from the rule.
+//!
+//! A node is `E`, `Z`, a class `A` to `C`, a union `+`, a product `*`, a sequence `[`, a set `{` or
+//! a cycle `<`. After it stand the numbers of its parts, one letter each from `0` to `9` and `a`,
+//! `b`; a counted node's low and high follow, `-` for no high. The bodies are given likewise.
 ghost use Rattle.std.specs.Prelude.{◌<◌, ◌^◌, length};
 
 use crate::cause::UnfoundedCause;
 use crate::examination::{Founded, examine};
 use crate::soundness::is_sound;
-use Item::{A, B, C, Cyc, E, Product, Seq, Set, Union, Z};
 use bz_outside::word::Word;
 use class_system::draft::{Draft, Mode};
 use class_system::expr::Expr;
@@ -15,106 +18,131 @@ use std::alloc::{AllocError, Global};
 use std::process::Abort;
 use std::test::Fail;
 
-/// A node by its parts' numbers; a counted one by its part, its low and its high.
-#[derive(Clone, Copy)]
-enum Item<'a> {
-    E,
-    Z,
-    A,
-    B,
-    C,
-    Union(&'a [u32]),
-    Product(&'a [u32]),
-    Seq(u32, u32, Option<u32>),
-    Set(u32, u32, Option<u32>),
-    Cyc(u32, u32, Option<u32>),
+const NO_A: Option<UnfoundedCause> = Some(UnfoundedCause::NoObject(ClassId(0)));
+
+const NO_B: Option<UnfoundedCause> = Some(UnfoundedCause::NoObject(ClassId(1)));
+
+const LOOP_A: Option<UnfoundedCause> = Some(UnfoundedCause::ZeroLoop(ClassId(0)));
+
+const LOOP_B: Option<UnfoundedCause> = Some(UnfoundedCause::ZeroLoop(ClassId(1)));
+
+const PART_1: Option<UnfoundedCause> = Some(UnfoundedCause::ZeroPart(ExprId(1)));
+
+const PART_2: Option<UnfoundedCause> = Some(UnfoundedCause::ZeroPart(ExprId(2)));
+
+const PART_4: Option<UnfoundedCause> = Some(UnfoundedCause::ZeroPart(ExprId(4)));
+
+fn number_of(letter: u8) -> u32 {
+    match letter {
+        b'a' => 10,
+        b'b' => 11,
+        b'0'..=b'9' => u32::from(letter - b'0'),
+        _ => 12,
+    }
 }
 
-const NO_A: UnfoundedCause = UnfoundedCause::NoObject(ClassId(0));
-
-const NO_B: UnfoundedCause = UnfoundedCause::NoObject(ClassId(1));
-
-const LOOP_A: UnfoundedCause = UnfoundedCause::ZeroLoop(ClassId(0));
-
-const LOOP_B: UnfoundedCause = UnfoundedCause::ZeroLoop(ClassId(1));
-
-/// A specification, the bodies of its classes A, B and C, and the cause of its refusal.
-#[derive(Clone, Copy)]
-struct Case<'a> {
-    items: &'a [Item<'a>],
-    bodies: &'a [u32],
-    cause: Option<UnfoundedCause>,
+fn at(text: &[u8], place: usize) -> u32 {
+    match text.get(place) {
+        Some(letter) => number_of(*letter),
+        None => 12,
+    }
 }
 
-fn zero_part(node: u32) -> Option<UnfoundedCause> {
-    Some(UnfoundedCause::ZeroPart(ExprId(node)))
-}
-
-fn parts_of(alloc: Global, numbers: &[u32]) -> Result<Parts, AllocError> {
+fn parts_of(alloc: Global, letters: &[u8]) -> Result<Parts, AllocError> {
     let mut parts = Parts::new(alloc);
-    for number in numbers {
-        parts.push(ExprId(*number))?;
+    for letter in letters {
+        parts.push(ExprId(number_of(*letter)))?;
     }
     Ok(parts)
 }
 
-fn add(alloc: Global, draft: &mut Draft, item: Item) -> Result<ExprId, AllocError>
+fn plain(alloc: Global, kind: u8, parts: &[u8]) -> Result<Expr, AllocError> {
+    match kind {
+        b'E' => Ok(Expr::Empty(Word::from_bytes(alloc, parts)?)),
+        b'Z' => Ok(Expr::Atom(Word::from_bytes(alloc, parts)?)),
+        b'+' => Ok(Expr::Union(parts_of(alloc, parts)?)),
+        b'*' => Ok(Expr::Product(parts_of(alloc, parts)?)),
+        b'A' => Ok(Expr::Class(ClassId(0))),
+        b'B' => Ok(Expr::Class(ClassId(1))),
+        _ => Ok(Expr::Class(ClassId(2))),
+    }
+}
+
+fn add(alloc: Global, draft: &mut Draft, kind: u8, parts: &[u8]) -> Result<ExprId, AllocError>
     requires { length draft.old.nodes < 2 ^ 32 }
 {
-    match item {
-        Seq(part, low, high) => draft.add_counted(Expr::Seq(ExprId(part)), Range { low, high }),
-        Set(part, low, high) => draft.add_counted(Expr::Set(ExprId(part)), Range { low, high }),
-        Cyc(part, low, high) => draft.add_counted(Expr::Cyc(ExprId(part)), Range { low, high }),
-        _ => draft.add_node(plain(alloc, item)?),
+    let part = ExprId(at(parts, 0));
+    let high = at(parts, 2);
+    let range = Range {
+        low: at(parts, 1),
+        high: if high < 12 { Some(high) } else { None },
+    };
+    match kind {
+        b'[' => draft.add_counted(Expr::Seq(part), range),
+        b'{' => draft.add_counted(Expr::Set(part), range),
+        b'<' => draft.add_counted(Expr::Cyc(part), range),
+        _ => draft.add_node(plain(alloc, kind, parts)?),
     }
 }
 
-fn plain(alloc: Global, item: Item) -> Result<Expr, AllocError> {
-    match item {
-        E => Ok(Expr::Empty(Word::from_bytes(alloc, b"")?)),
-        Z => Ok(Expr::Atom(Word::from_bytes(alloc, b"")?)),
-        B => Ok(Expr::Class(ClassId(1))),
-        C => Ok(Expr::Class(ClassId(2))),
-        Union(parts) => Ok(Expr::Union(parts_of(alloc, parts)?)),
-        Product(parts) => Ok(Expr::Product(parts_of(alloc, parts)?)),
-        _ => Ok(Expr::Class(ClassId(0))),
+fn add_nodes(alloc: Global, draft: &mut Draft, nodes: &str) -> Result<(), AllocError> {
+    let mut node: Vec<u8> = Vec::new(alloc);
+    for byte in nodes.as_bytes() {
+        if *byte == b' ' {
+            add_text(alloc, draft, &node)?;
+            node.clear();
+        } else {
+            node.push(*byte)?;
+        }
     }
+    add_text(alloc, draft, &node)
 }
 
-fn draft_of(alloc: Global, items: &[Item], bodies: &[u32]) -> Result<Draft, AllocError> {
+fn add_text(alloc: Global, draft: &mut Draft, node: &[u8]) -> Result<(), AllocError> {
+    if node.is_empty() || draft.nodes().len() > 100 {
+        return Err(AllocError);
+    }
+    let _node = add(alloc, draft, node[0], &node[1..])?;
+    Ok(())
+}
+
+fn add_class(alloc: Global, draft: &mut Draft, place: usize, body: u32) -> Result<(), AllocError> {
+    if place > 2 || draft.names().len() > 100 {
+        return Err(AllocError);
+    }
+    let name = Word::from_bytes(alloc, &[b'A' + place as u8])?;
+    if draft.add_class(name).is_err() {
+        return Err(AllocError);
+    }
+    draft.set_body(ExprId(body))
+}
+
+fn draft_of(alloc: Global, nodes: &str, bodies: &str) -> Result<Draft, AllocError> {
     let mut draft = Draft::new(alloc, Mode::Labelled);
-    for item in items {
-        if draft.nodes().len() > 100 {
-            return Err(AllocError);
-        }
-        let _node = add(alloc, &mut draft, *item)?;
-    }
-    for (body, name) in bodies.iter().zip([b"A", b"B", b"C"]) {
-        if draft.names().len() > 100 {
-            return Err(AllocError);
-        }
-        let name = Word::from_bytes(alloc, name)?;
-        let _class = draft.add_class(name).map_err(|_fault| AllocError)?;
-        draft.set_body(ExprId(*body))?;
+    add_nodes(alloc, &mut draft, nodes)?;
+    for (place, letter) in bodies.as_bytes().iter().enumerate() {
+        add_class(alloc, &mut draft, place, number_of(*letter))?;
     }
     Ok(draft)
 }
 
-fn system_of(alloc: Global, items: &[Item], bodies: &[u32]) -> Result<System, Fail> {
-    let draft = draft_of(alloc, items, bodies)?;
+fn system_of(alloc: Global, nodes: &str, bodies: &str) -> Result<System, Fail> {
+    let draft = draft_of(alloc, nodes, bodies)?;
     if !is_sound(alloc, &draft)? {
         return Err(Fail::from("not sound"));
     }
     Ok(System::build(alloc, draft)?)
 }
 
+type Case = (&'static str, &'static str, Option<UnfoundedCause>);
+
 fn check(rt: &impl Abort, alloc: Global, cases: &[Case]) -> Result<(), Fail> {
-    for (number, case) in cases.iter().enumerate() {
-        let cause = match examine(alloc, system_of(alloc, case.items, case.bodies)?) {
+    for (nodes, bodies, expected) in cases {
+        let cause = match examine(alloc, system_of(alloc, nodes, bodies)?) {
             Ok(_founded) => None,
             Err(refusal) => Some(refusal.cause),
         };
-        assert_eq!(rt; cause, case.cause, "case {number}");
+        assert_eq!(rt; cause, *expected, "{nodes}");
     }
     Ok(())
 }
@@ -122,36 +150,12 @@ fn check(rt: &impl Abort, alloc: Global, cases: &[Case]) -> Result<(), Fail> {
 #[test]
 fn loops_and_repeated_parts_are_refused(rt: HostRuntime) -> Result<(), Fail> {
     let cases = [
-        // A = A
-        Case {
-            items: &[A],
-            bodies: &[0],
-            cause: Some(NO_A),
-        },
-        // A = Z + A
-        Case {
-            items: &[Z, A, Union(&[0, 1])],
-            bodies: &[2],
-            cause: Some(LOOP_A),
-        },
-        // A = Seq(E)
-        Case {
-            items: &[E, Seq(0, 0, None)],
-            bodies: &[1],
-            cause: zero_part(1),
-        },
-        // A = Z + Cyc(A)
-        Case {
-            items: &[Z, A, Cyc(1, 1, None), Union(&[0, 2])],
-            bodies: &[3],
-            cause: Some(LOOP_A),
-        },
-        // A = Z*Set(A)
-        Case {
-            items: &[Z, A, Set(1, 0, None), Product(&[0, 2])],
-            bodies: &[3],
-            cause: None,
-        },
+        // A = A; A = Z + A; A = Seq(E); A = Z + Cyc(A); A = Z*Set(A)
+        ("A", "0", NO_A),
+        ("Z A +01", "2", LOOP_A),
+        ("E [00-", "1", PART_1),
+        ("Z A <11- +02", "3", LOOP_A),
+        ("Z A {10- *02", "3", None),
     ];
     check(&rt, rt.alloc(), &cases)
 }
@@ -159,48 +163,15 @@ fn loops_and_repeated_parts_are_refused(rt: HostRuntime) -> Result<(), Fail> {
 #[test]
 fn ranges_decide_loops_and_repeats(rt: HostRuntime) -> Result<(), Fail> {
     let cases = [
-        // A = Seq<=3(E)
-        Case {
-            items: &[E, Seq(0, 0, Some(3))],
-            bodies: &[1],
-            cause: None,
-        },
-        // A = Z + Seq=2(A)
-        Case {
-            items: &[Z, A, Seq(1, 2, Some(2)), Union(&[0, 2])],
-            bodies: &[3],
-            cause: None,
-        },
-        // A = Z + Seq=1(A)
-        Case {
-            items: &[Z, A, Seq(1, 1, Some(1)), Union(&[0, 2])],
-            bodies: &[3],
-            cause: Some(LOOP_A),
-        },
-        // A = Seq>=2(E)
-        Case {
-            items: &[E, Seq(0, 2, None)],
-            bodies: &[1],
-            cause: zero_part(1),
-        },
-        // A = Cyc>=1(Z)
-        Case {
-            items: &[Z, Cyc(0, 1, None)],
-            bodies: &[1],
-            cause: None,
-        },
-        // A = E + Seq=2(A)
-        Case {
-            items: &[E, A, Seq(1, 2, Some(2)), Union(&[0, 2])],
-            bodies: &[3],
-            cause: Some(LOOP_A),
-        },
-        // A = Z + Set>=2(A)
-        Case {
-            items: &[Z, A, Set(1, 2, None), Union(&[0, 2])],
-            bodies: &[3],
-            cause: None,
-        },
+        // A = Seq<=3(E); A = Z + Seq=2(A); A = Z + Seq=1(A); A = Seq>=2(E); A = Cyc>=1(Z)
+        ("E [003", "1", None),
+        ("Z A [122 +02", "3", None),
+        ("Z A [111 +02", "3", LOOP_A),
+        ("E [02-", "1", PART_1),
+        ("Z <01-", "1", None),
+        // A = E + Seq=2(A); A = Z + Set>=2(A)
+        ("E A [122 +02", "3", LOOP_A),
+        ("Z A {12- +02", "3", None),
     ];
     check(&rt, rt.alloc(), &cases)
 }
@@ -209,55 +180,17 @@ fn ranges_decide_loops_and_repeats(rt: HostRuntime) -> Result<(), Fail> {
 fn parts_of_size_zero_behind_references(rt: HostRuntime) -> Result<(), Fail> {
     let cases = [
         // A = Set(B), B = E + Z
-        Case {
-            items: &[B, Set(0, 0, None), E, Z, Union(&[2, 3])],
-            bodies: &[1, 4],
-            cause: zero_part(1),
-        },
+        ("B {00- E Z +23", "14", PART_1),
         // A = Z*Seq(B), B = C, C = Set<=4(Z)
-        Case {
-            items: &[
-                Z,
-                B,
-                Seq(1, 0, None),
-                Product(&[0, 2]),
-                C,
-                Z,
-                Set(5, 0, Some(4)),
-            ],
-            bodies: &[3, 4, 6],
-            cause: zero_part(2),
-        },
+        ("Z B [10- *02 C Z {504", "346", PART_2),
         // A = Seq(B)*Set(E), B = E
-        Case {
-            items: &[B, Seq(0, 0, None), E, Set(2, 0, None), Product(&[1, 3]), E],
-            bodies: &[4, 5],
-            cause: zero_part(1),
-        },
-        // A = Cyc(B), B = E + Z
-        Case {
-            items: &[B, Cyc(0, 1, None), E, Z, Union(&[2, 3])],
-            bodies: &[1, 4],
-            cause: zero_part(1),
-        },
-        // A = Cyc<=3(B), B = E + Z
-        Case {
-            items: &[B, Cyc(0, 1, Some(3)), E, Z, Union(&[2, 3])],
-            bodies: &[1, 4],
-            cause: None,
-        },
-        // A = Seq(A)
-        Case {
-            items: &[A, Seq(0, 0, None)],
-            bodies: &[1],
-            cause: zero_part(1),
-        },
-        // A = Z*Seq(A)
-        Case {
-            items: &[Z, A, Seq(1, 0, None), Product(&[0, 2])],
-            bodies: &[3],
-            cause: None,
-        },
+        ("B [00- E {20- *13 E", "45", PART_1),
+        // A = Cyc(B), B = E + Z; A = Cyc<=3(B), B = E + Z
+        ("B <01- E Z +23", "14", PART_1),
+        ("B <013 E Z +23", "14", None),
+        // A = Seq(A); A = Z*Seq(A)
+        ("A [00-", "1", PART_1),
+        ("Z A [10- *02", "3", None),
     ];
     check(&rt, rt.alloc(), &cases)
 }
@@ -265,93 +198,19 @@ fn parts_of_size_zero_behind_references(rt: HostRuntime) -> Result<(), Fail> {
 #[test]
 fn loops_through_several_classes(rt: HostRuntime) -> Result<(), Fail> {
     let cases = [
-        // A = B, B = A
-        Case {
-            items: &[B, A],
-            bodies: &[0, 1],
-            cause: Some(NO_A),
-        },
-        // A = Z + B, B = A
-        Case {
-            items: &[Z, B, Union(&[0, 1]), A],
-            bodies: &[2, 3],
-            cause: Some(LOOP_A),
-        },
+        // A = B, B = A; A = Z + B, B = A
+        ("B A", "01", NO_A),
+        ("Z B +01 A", "23", LOOP_A),
         // A = Z, B = Z + C, C = E*B
-        Case {
-            items: &[Z, Z, C, Union(&[1, 2]), E, B, Product(&[4, 5])],
-            bodies: &[0, 3, 6],
-            cause: Some(LOOP_B),
-        },
+        ("Z Z C +12 E B *45", "036", LOOP_B),
         // A = Z + B*C, B = E + Z, C = Z + A
-        Case {
-            items: &[
-                Z,
-                B,
-                C,
-                Product(&[1, 2]),
-                Union(&[0, 3]),
-                E,
-                Z,
-                Union(&[5, 6]),
-                Z,
-                A,
-                Union(&[8, 9]),
-            ],
-            bodies: &[4, 7, 10],
-            cause: Some(LOOP_A),
-        },
+        ("Z B C *12 +03 E Z +56 Z A +89", "47a", LOOP_A),
         // A = Z + B*C, B = Z, C = Z + A
-        Case {
-            items: &[
-                Z,
-                B,
-                C,
-                Product(&[1, 2]),
-                Union(&[0, 3]),
-                Z,
-                Z,
-                A,
-                Union(&[6, 7]),
-            ],
-            bodies: &[4, 5, 8],
-            cause: None,
-        },
+        ("Z B C *12 +03 Z Z A +67", "458", None),
         // A = Z*B, B = Z + C, C = Z + B
-        Case {
-            items: &[
-                Z,
-                B,
-                Product(&[0, 1]),
-                Z,
-                C,
-                Union(&[3, 4]),
-                Z,
-                B,
-                Union(&[6, 7]),
-            ],
-            bodies: &[2, 5, 8],
-            cause: Some(LOOP_B),
-        },
+        ("Z B *01 Z C +34 Z B +67", "258", LOOP_B),
         // A = Z + B, B = Z + C, C = Z + E*Seq<=3(A)
-        Case {
-            items: &[
-                Z,
-                B,
-                Union(&[0, 1]),
-                Z,
-                C,
-                Union(&[3, 4]),
-                Z,
-                E,
-                A,
-                Seq(8, 0, Some(3)),
-                Product(&[7, 9]),
-                Union(&[6, 10]),
-            ],
-            bodies: &[2, 5, 11],
-            cause: Some(LOOP_A),
-        },
+        ("Z B +01 Z C +34 Z E A [803 *79 +6a", "25b", LOOP_A),
     ];
     check(&rt, rt.alloc(), &cases)
 }
@@ -359,57 +218,17 @@ fn loops_through_several_classes(rt: HostRuntime) -> Result<(), Fail> {
 #[test]
 fn the_first_cause_at_the_least_number(rt: HostRuntime) -> Result<(), Fail> {
     let cases = [
-        // A = Seq(E), B = B
-        Case {
-            items: &[E, Seq(0, 0, None), B],
-            bodies: &[1, 2],
-            cause: Some(NO_B),
-        },
-        // A = Z + A, B = Seq(E)
-        Case {
-            items: &[Z, A, Union(&[0, 1]), E, Seq(3, 0, None)],
-            bodies: &[2, 4],
-            cause: zero_part(4),
-        },
-        // A = Z + A, B = Z*B
-        Case {
-            items: &[Z, A, Union(&[0, 1]), Z, B, Product(&[3, 4])],
-            bodies: &[2, 5],
-            cause: Some(NO_B),
-        },
+        // A = Seq(E), B = B; A = Z + A, B = Seq(E); A = Z + A, B = Z*B
+        ("E [00- B", "12", NO_B),
+        ("Z A +01 E [30-", "24", PART_4),
+        ("Z A +01 Z B *34", "25", NO_B),
         // A = Z, B = B*C, C = Z*C
-        Case {
-            items: &[Z, B, C, Product(&[1, 2]), Z, C, Product(&[4, 5])],
-            bodies: &[0, 3, 6],
-            cause: Some(NO_B),
-        },
+        ("Z B C *12 Z C *45", "036", NO_B),
         // A = E + Z*B, B = B + B
-        Case {
-            items: &[
-                E,
-                Z,
-                B,
-                Product(&[1, 2]),
-                Union(&[0, 3]),
-                B,
-                B,
-                Union(&[5, 6]),
-            ],
-            bodies: &[4, 7],
-            cause: Some(NO_B),
-        },
-        // A = E + A*A
-        Case {
-            items: &[E, A, A, Product(&[1, 2]), Union(&[0, 3])],
-            bodies: &[4],
-            cause: Some(LOOP_A),
-        },
-        // A = Z + A*A
-        Case {
-            items: &[Z, A, A, Product(&[1, 2]), Union(&[0, 3])],
-            bodies: &[4],
-            cause: None,
-        },
+        ("E Z B *12 +03 B B +56", "47", NO_B),
+        // A = E + A*A; A = Z + A*A
+        ("E A A *12 +03", "4", LOOP_A),
+        ("Z A A *12 +03", "4", None),
     ];
     check(&rt, rt.alloc(), &cases)
 }
@@ -417,7 +236,7 @@ fn the_first_cause_at_the_least_number(rt: HostRuntime) -> Result<(), Fail> {
 #[test]
 fn a_refusal_hands_the_specification_back(rt: HostRuntime) -> Result<(), Fail> {
     // A = Z + A
-    let system = system_of(rt.alloc(), &[Z, A, Union(&[0, 1])], &[2])?;
+    let system = system_of(rt.alloc(), "Z A +01", "2")?;
     let refusal = examine(rt.alloc(), system).err().ok_or("taken")?;
     assert_eq!(rt; refusal.system.node_count(), 3);
     Ok(())
@@ -426,10 +245,8 @@ fn a_refusal_hands_the_specification_back(rt: HostRuntime) -> Result<(), Fail> {
 #[test]
 fn nodes_with_an_object_of_size_zero(rt: HostRuntime) -> Result<(), Fail> {
     // A = E + Z*A*A
-    let items = [E, Z, A, A, Product(&[1, 2, 3]), Union(&[0, 4])];
-    let founded = examine(rt.alloc(), system_of(rt.alloc(), &items, &[5])?)
-        .ok()
-        .ok_or("refused")?;
+    let system = system_of(rt.alloc(), "E Z A A *123 +04", "5")?;
+    let founded = examine(rt.alloc(), system).ok().ok_or("refused")?;
     founded.known();
     assert_eq!(rt; founded.system().node_count(), 6);
     for (node, zero) in [(0, true), (1, false), (2, true), (4, false), (5, true)] {

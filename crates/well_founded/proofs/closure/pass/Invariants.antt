@@ -1,6 +1,5 @@
-use Rattle.std.proofs.Common.{◌≡◌, ℕ, ◌<◌, ◌≤◌}
-use Rattle.well_founded.proofs.Pivots.{Passed}
+use Rattle.well_founded.proofs.Pivots.{WidenedBelow}
 use Rattle.well_founded.proofs.closure.pass.Given as goal
 
 abbrev pub invariant-loop-row : goal.invariant-loop-row
-invariant-loop-row l = Passed l.initial.rows l.rows l.pivot l.through l.row-index
+invariant-loop-row l = WidenedBelow l.initial.rows l.rows l.pivot l.through l.row-index

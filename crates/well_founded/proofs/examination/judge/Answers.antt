@@ -3,7 +3,7 @@ use Rattle.well_founded.specs.declared.class_set.ClassSet.{ClassSet}
 use Rattle.well_founded.specs.Foundedness.{Leads}
 use Rattle.well_founded.specs.Marking.{AreMarked}
 use Rattle.well_founded.specs.Ways.{Points}
-use Rattle.well_founded.proofs.Judged.{marked-some, marked-zero, founded-by, first-round}
+use Rattle.well_founded.proofs.Judged.{marked-some, marked-zero, founded-by}
 use Rattle.well_founded.proofs.examination.judge.Goals as goal
 
 pub first_without_object-requires-clause-some : goal.first_without_object-requires-clause-some

@@ -3,7 +3,7 @@ use Rattle.class_system.specs.Views.{number}
 use Rattle.well_founded.specs.Foundedness.{Under, Leads}
 use Rattle.well_founded.specs.Ways.{Points, BodyPoints}
 use Rattle.well_founded.proofs.Rows.{written-back}
-use Rattle.well_founded.proofs.Ledto.{chain-leads}
+use Rattle.well_founded.proofs.StepRows.{chain-leads}
 use Rattle.well_founded.proofs.leading.leads.Goals as goal
 
 pub returns-clause-exact : goal.returns-clause-exact

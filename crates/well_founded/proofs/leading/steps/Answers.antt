@@ -1,5 +1,5 @@
 use Rattle.std.proofs.Common.{◌+◌, arith, subst, sym}
-use Rattle.well_founded.proofs.Ledto.{RowsTo, rows-more, rows-all}
+use Rattle.well_founded.proofs.StepRows.{RowsTo, rows-more, rows-all}
 use Rattle.well_founded.proofs.leading.steps.Goals as goal
 
 pub loop-body-preserved : goal.loop-body-preserved

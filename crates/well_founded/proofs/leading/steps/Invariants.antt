@@ -1,4 +1,4 @@
-use Rattle.well_founded.proofs.Ledto.{RowsTo}
+use Rattle.well_founded.proofs.StepRows.{RowsTo}
 use Rattle.well_founded.proofs.leading.steps.Given as goal
 
 abbrev pub invariant-loop-body : goal.invariant-loop-body

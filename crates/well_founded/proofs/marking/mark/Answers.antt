@@ -1,4 +1,4 @@
-use Rattle.std.proofs.Common.{◌≡◌, ℕ, List, length, take, drop, ◌++◌, Bool, IsTrue, arith, subst, sym, ◌∙◌, ap}
+use Rattle.std.proofs.Common.{◌≡◌, length, IsTrue, arith, subst, sym, ◌∙◌, ap}
 use Rattle.well_founded.specs.Marking.{AreMarked}
 use Rattle.well_founded.proofs.Marked.{are-marked}
 use Rattle.well_founded.proofs.Rows.{written-back}

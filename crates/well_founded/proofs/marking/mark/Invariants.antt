@@ -1,4 +1,4 @@
-use Rattle.std.proofs.Common.{◌≡◌, ℕ, ◌<◌, ◌≤◌, length, IsTrue}
+use Rattle.std.proofs.Common.{◌≡◌, ℕ, length, IsTrue}
 use Rattle.well_founded.specs.Foundedness.{Least}
 use Rattle.well_founded.specs.Marking.{IsMarked, unmarked_count}
 use Rattle.well_founded.proofs.marking.mark.Given as goal

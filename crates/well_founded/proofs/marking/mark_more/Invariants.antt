@@ -1,4 +1,4 @@
-use Rattle.std.proofs.Common.{◌≡◌, ℕ, ◌<◌, ◌≤◌, false, IsTrue}
+use Rattle.std.proofs.Common.{IsTrue}
 use Rattle.well_founded.proofs.Marked.{Widened}
 use Rattle.well_founded.proofs.marking.mark_more.Given as goal
 

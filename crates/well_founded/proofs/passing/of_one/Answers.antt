@@ -1,4 +1,4 @@
-use Rattle.std.proofs.Common.{◌↔◌, IsTrue, arith, refl, sym, ◌∙◌}
+use Rattle.std.proofs.Common.{arith, sym, ◌∙◌}
 use Rattle.well_founded.proofs.Pointed.{one-start, one-next, one-all}
 use Rattle.well_founded.proofs.passing.of_one.Goals as goal
 use Rattle.well_founded.proofs.passing.of_one.Goals.{then-all_zero, else-all_zero}

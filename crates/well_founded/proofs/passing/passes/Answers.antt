@@ -1,8 +1,7 @@
 use Rattle.std.proofs.Common.{◌↔◌, ◌<◌, length, arith, ◌∙◌, ap, map, subst, Some}
 use Rattle.bz_model.specs.Spec.{Node}
 use Rattle.class_system.specs.Views.{spec_node, number}
-use Rattle.well_founded.specs.Rounds.{PassesAt}
-use Rattle.well_founded.specs.Ways.{IsIn, Points, OnePoints}
+use Rattle.well_founded.specs.Ways.{IsIn, OnePoints}
 use Rattle.well_founded.proofs.Passed.{passes-product}
 use Rattle.well_founded.proofs.passing.passes.Goals as goal
 

@@ -1,5 +1,3 @@
-use Rattle.std.proofs.Common.{subst}
-use Rattle.bz_model.specs.Spec.{Spec}
 use Rattle.well_founded.proofs.Judged.{node-inhabited, zero-decided}
 use Rattle.well_founded.proofs.examination.Founded.known.Goals as goal
 
