@@ -1,1 +1,3 @@
 pub mod MachineReads
+pub mod MachineAccepts
+pub mod Viable

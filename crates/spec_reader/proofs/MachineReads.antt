@@ -1,10 +1,10 @@
 -- What the grammar has, the machine reads.
-use Rattle.std.proofs.Common.{◌≡◌, ℕ, List, [], ◌∷◌, ◌++◌, refl, sym, ◌∙◌, ap, append_assoc, append-nil}
+use Rattle.std.proofs.Common.{◌≡◌, List, [], ◌∷◌, ◌++◌, refl, sym, ◌∙◌, ap, append_assoc, append-nil}
 use Rattle.bz_model.specs.Spec.{Mode, Range}
 use Rattle.spec_reader.specs.declared.tokens.Counting.{Counting}
 use Rattle.spec_reader.specs.declared.tokens.Token.{Token}
 use Rattle.spec_reader.specs.Grammar.{Term, Definition, sum_of, product_of, counted, Bound, no_bound, at_least, at_most, exactly, Sum, MoreProducts, Product, MoreFactors, Factor, summed, no_products, next_product, multiplied, no_factors, next_factor, empty_leaf, atom_leaf, named, group, counting, Definitions, text_end, defined, IsText, text, mode_word}
-use Rattle.spec_reader.specs.Machine.{Frame, Wrap, bare, over, wrapped, Outer, Before, Place, State, Start, Moded, Lines, Named, Want, Counts, Have, Done, Failed, with_factor, value, fresh, opened, with_frame, with_one_more, begun, step, run}
+use Rattle.spec_reader.specs.Machine.{Frame, bare, over, Before, Place, State, Start, Moded, Lines, Want, Counts, Have, Done, value, fresh, opened, with_frame, with_one_more, begun, run}
 
 abbrev pub frame : List Term → List Term → Frame
 frame ps us = record { products = ps; factors = us }

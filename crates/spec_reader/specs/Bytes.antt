@@ -1,6 +1,5 @@
 -- The bytes of a specification's text, by what they are for.
-use Rattle.std.specs.Prelude.{◌≡◌, ◌==◌, ◌&&◌, ◌||◌, ℕ, ◌≤◌, Bool, nat_le, List}
-use Rattle.std.specs.List.{AllPass}
+use Rattle.std.specs.Prelude.{◌==◌, ◌&&◌, ◌||◌, ℕ, Bool, nat_le}
 
 -- A byte is text where it is a tab, a line feed, a carriage return, or from space to ~.
 abbrev pub is_text : ℕ → Bool
