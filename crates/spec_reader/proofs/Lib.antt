@@ -1,3 +1,5 @@
 pub mod MachineReads
 pub mod MachineAccepts
 pub mod Viable
+pub mod Fronts
+pub mod Scanning

@@ -7,6 +7,7 @@ use Rattle.spec_reader.specs.declared.tokens.Counting.{Counting}
 use Rattle.spec_reader.specs.declared.tokens.Token.{Token}
 use Rattle.spec_reader.specs.declared.tokens.Front.{Front}
 use Rattle.spec_reader.specs.declared.tokens.Placed.{Placed}
+use Rattle.spec_reader.specs.declared.tokens.Spot.{Spot}
 
 -- Two texts are the same.
 abbrev pub is_same : List ℕ → List ℕ → Bool
@@ -53,54 +54,46 @@ abbrev pub word_after : List ℕ → List ℕ
 word_after [] = []
 word_after (b ∷ bs) = if b == 58 then take_while is_run_byte bs else []
 
--- What a run begins, by the bytes after it: a leaf with a word where the run is E or Z and a colon and a run follow at once, else a token of its own.
-abbrev pub run_front : List ℕ → List ℕ → Front
-run_front run [] = Front.Begins (run_token run) (length run)
-run_front run (b ∷ bs) =
-    if (is_same run (codes "E") || is_same run (codes "Z")) && not (length (word_after (b ∷ bs)) == 0)
-    then Front.Begins (leaf_token run (word_after (b ∷ bs))) (length run + 1 + length (word_after (b ∷ bs)))
-    else Front.Begins (run_token run) (length run)
+-- What a run begins, by how many bytes it has after the first and by the bytes behind it: a leaf with a word where the run is E or Z and a colon and a run follow at once, else a token of its own.
+abbrev pub run_front : List ℕ → ℕ → List ℕ → Front
+run_front run more after =
+    if (is_same run (codes "E") || is_same run (codes "Z")) && not (length (word_after after) == 0)
+    then Front.Begins (leaf_token run (word_after after)) (length (word_after after) + 1)
+    else Front.Begins (run_token run) more
 
 -- The bytes begin with an equals sign.
 abbrev pub begins_with_equals : List ℕ → Bool
 begins_with_equals [] = false
 begins_with_equals (b ∷ bs) = b == 61
 
--- What a byte of no run begins, by the bytes after it: = + * ( ) by themselves, > and < with an equals sign, and else a token that stands nowhere.
+-- What a byte of no run begins, by the bytes behind it: = + * ( ) by themselves, > and < with an equals sign, and else a token that stands nowhere.
 abbrev pub sign_front : ℕ → List ℕ → Front
 sign_front b bs =
-    if b == 61 then Front.Begins Token.Exactly 1
-    else if b == 43 then Front.Begins Token.Plus 1
-    else if b == 42 then Front.Begins Token.Star 1
-    else if b == 40 then Front.Begins Token.Open 1
-    else if b == 41 then Front.Begins Token.Close 1
-    else if b == 62 && begins_with_equals bs then Front.Begins Token.AtLeast 2
-    else if b == 60 && begins_with_equals bs then Front.Begins Token.AtMost 2
-    else Front.Begins Token.Bad 1
+    if b == 61 then Front.Begins Token.Exactly 0
+    else if b == 43 then Front.Begins Token.Plus 0
+    else if b == 42 then Front.Begins Token.Star 0
+    else if b == 40 then Front.Begins Token.Open 0
+    else if b == 41 then Front.Begins Token.Close 0
+    else if b == 62 && begins_with_equals bs then Front.Begins Token.AtLeast 1
+    else if b == 60 && begins_with_equals bs then Front.Begins Token.AtMost 1
+    else Front.Begins Token.Bad 0
 
 -- A comment's bytes go on to the end of the line.
 abbrev pub goes_on : ℕ → Bool
 goes_on b = not (b == 10)
 
--- What the bytes begin.
-abbrev pub front : List ℕ → Front
-front [] = Front.Blank
-front (b ∷ bs) =
+-- What a byte begins, by the bytes behind it.
+abbrev pub front : ℕ → List ℕ → Front
+front b bs =
     if b == 10 then Front.LineFeed
     else if is_blank b then Front.Blank
-    else if b == 35 then Front.Comment (prefix_len goes_on (b ∷ bs))
-    else if is_run_byte b then run_front (take_while is_run_byte (b ∷ bs)) (drop (prefix_len is_run_byte (b ∷ bs)) (b ∷ bs))
+    else if b == 35 then Front.Comment (prefix_len goes_on bs)
+    else if is_run_byte b then run_front (b ∷ take_while is_run_byte bs) (prefix_len is_run_byte bs) (drop (prefix_len is_run_byte bs) bs)
     else sign_front b bs
 
--- Where the reading stands: whether the line has a token so far, the line and the column, which count from 1.
-pub record Spot : Type 0 where
-  pub some : Bool
-  pub line : ℕ
-  pub column : ℕ
-
--- The spot one byte further on in the line.
-abbrev pub beside : Spot → Spot
-beside s = record { some = s.some; line = s.line; column = s.column + 1 }
+-- The spot so many bytes further on in the line.
+abbrev pub along : ℕ → Spot → Spot
+along n s = record { some = s.some; line = s.line; column = s.column + n }
 
 -- A token at a spot.
 abbrev pub placed : Token → Spot → Placed
@@ -114,28 +107,28 @@ line_end s = if s.some then placed Token.LineEnd s ∷ [] else []
 abbrev pub made : Spot → Front → List Placed
 made s Front.LineFeed = line_end s
 made s Front.Blank = []
-made s (Front.Comment len) = []
-made s (Front.Begins t len) = placed t s ∷ []
+made s (Front.Comment more) = []
+made s (Front.Begins t more) = placed t s ∷ []
 
 -- The spot after the first byte of what begins at a spot.
 abbrev pub moved : Spot → Front → Spot
 moved s Front.LineFeed = record { some = false; line = s.line + 1; column = 1 }
-moved s Front.Blank = beside s
-moved s (Front.Comment len) = beside s
-moved s (Front.Begins t len) = record { some = true; line = s.line; column = s.column + 1 }
+moved s Front.Blank = along 1 s
+moved s (Front.Comment more) = along 1 s
+moved s (Front.Begins t more) = record { some = true; line = s.line; column = s.column + 1 }
 
 -- How many bytes after the first belong to what begins at a spot.
 abbrev pub further : Front → ℕ
 further Front.LineFeed = 0
 further Front.Blank = 0
-further (Front.Comment len) = len - 1
-further (Front.Begins t len) = len - 1
+further (Front.Comment more) = more
+further (Front.Begins t more) = more
 
 -- The tokens of the bytes from a spot on, where so many bytes belong to what began before. The end of the text is a token, after the end of its last line.
 abbrev pub tokens_from : ℕ → Spot → List ℕ → List Placed
 tokens_from skip s [] = line_end s ++ placed Token.TextEnd s ∷ []
-tokens_from (suc skip) s (b ∷ bs) = tokens_from skip (beside s) bs
-tokens_from zero s (b ∷ bs) = made s (front (b ∷ bs)) ++ tokens_from (further (front (b ∷ bs))) (moved s (front (b ∷ bs))) bs
+tokens_from (suc skip) s (b ∷ bs) = tokens_from skip (along 1 s) bs
+tokens_from zero s (b ∷ bs) = made s (front b bs) ++ tokens_from (further (front b bs)) (moved s (front b bs)) bs
 
 -- A text begins at line 1 and column 1, with no token before.
 abbrev pub beginning : Spot

@@ -1,6 +1,7 @@
 //! Reads the text of a specification.
 //!
-//! From bytes to tokens (`specs/Tokens.antt`), from tokens to definitions.
+//! From bytes to tokens (`specs/Tokens.antt`), from tokens to definitions (`specs/Grammar.antt`).
 #![tactic(auto)]
 
+pub mod lexer;
 pub mod tokens;

@@ -40,11 +40,19 @@ pub struct Placed {
     pub column: u32,
 }
 
-/// What begins at a byte, with its length in bytes where that isn't 1.
+/// What begins at a byte, with how many bytes after this one belong to it.
 #[derive(Debug, Drop)]
 pub enum Front {
     LineFeed,
     Blank,
     Comment(usize),
     Begins(Token, usize),
+}
+
+/// Where the reading stands: whether the line has a token so far, the line and the column.
+#[derive(Clone, Copy, Debug)]
+pub struct Spot {
+    pub some: bool,
+    pub line: u32,
+    pub column: u32,
 }

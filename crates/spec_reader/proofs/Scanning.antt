@@ -1,0 +1,27 @@
+-- One step of the lexer: what begins at a byte, and the tokens after it.
+use Rattle.std.proofs.Common.{◌≡◌, ◌==◌, ℕ, zero, suc, ◌+◌, ◌-◌, ◌≤◌, ◌<◌, Bool, true, false, List, [], ◌∷◌, ◌++◌, length, take, drop, slice_index, refl, sym, ◌∙◌, ap, subst, add-one, add-zero, arith, drop-drop, append_assoc}
+use Rattle.spec_reader.specs.declared.tokens.Front.{Front}
+use Rattle.spec_reader.specs.declared.tokens.Placed.{Placed}
+use Rattle.spec_reader.specs.declared.tokens.Spot.{Spot}
+use Rattle.spec_reader.specs.Tokens.{front, made, moved, further, along, tokens_from}
+
+-- bytes that belong to what began before are passed over
+passes : (k : ℕ) (s : Spot) (bs : List ℕ) → k ≤ length bs → tokens_from k s bs ≡ tokens_from 0 (along k s) (drop k bs)
+passes zero s bs h = ap (λ n. tokens_from 0 (record { some = s.some; line = s.line; column = n }) bs) (sym (add-zero s.column))
+passes (suc k) s [] h = absurd (omega arith)
+passes (suc k) s (b ∷ bs) h =
+    let shorter : k ≤ length bs = omega arith in
+    let column_is : s.column + 1 + k ≡ s.column + suc k = omega arith in
+    passes k (along 1 s) bs shorter ∙ ap (λ n. tokens_from 0 (record { some = s.some; line = s.line; column = n }) (drop k bs)) column_is
+
+scan_rest : (rest : List ℕ) (s : Spot) (f : Front) → f ≡ front (slice_index rest 0) (drop 1 rest) → further f < length rest → tokens_from 0 s rest ≡ made s f ++ tokens_from 0 (along (further f) (moved s f)) (drop (suc (further f)) rest)
+scan_rest [] s f e h = absurd (omega arith)
+scan_rest (b ∷ bs) s f e h =
+    let within : further f ≤ length bs = omega arith in
+    ap (λ g. made s g ++ tokens_from (further g) (moved s g) bs) (sym e) ∙ ap (λ ts. made s f ++ ts) (passes (further f) (moved s f) bs within)
+
+-- what begins at the place i of the bytes, and the tokens after it
+pub scan_step : (bytes rest : List ℕ) (i : ℕ) (s : Spot) (f : Front) → rest ≡ drop i bytes → f ≡ front (slice_index rest 0) (drop 1 rest) → further f < length rest → tokens_from 0 s (drop i bytes) ≡ made s f ++ tokens_from 0 (along (further f) (moved s f)) (drop (i + (1 + further f)) bytes)
+scan_step bytes rest i s f rest_is e h =
+    let there : drop (suc (further f)) rest ≡ drop (i + (1 + further f)) bytes = ? in
+    ap (λ bs. tokens_from 0 s bs) (sym rest_is) ∙ scan_rest rest s f e h ∙ ap (λ bs. made s f ++ tokens_from 0 (along (further f) (moved s f)) bs) there
