@@ -20,8 +20,24 @@ scan_rest (b ∷ bs) s f e h =
     let within : further f ≤ length bs = omega arith in
     ap (λ g. made s g ++ tokens_from (further g) (moved s g) bs) (sym e) ∙ ap (λ ts. made s f ++ ts) (passes (further f) (moved s f) bs within)
 
+counted : (f : Front) (i : ℕ) → i + suc (further f) ≡ i + (1 + further f)
+counted f i = omega arith
+
+-- a spot stays as near to the beginning as its place is
+pub stays_near : (s : Spot) (f : Front) → 1 ≤ s.column → (along (further f) (moved s f)).line + (along (further f) (moved s f)).column ≤ s.line + s.column + (1 + further f)
+stays_near s Front.LineFeed h = omega arith
+stays_near s Front.Blank h = omega arith
+stays_near s (Front.Comment more) h = omega arith
+stays_near s (Front.Begins t more) h = omega arith
+
+pub from_one : (s : Spot) (f : Front) → 1 ≤ s.column → 1 ≤ (along (further f) (moved s f)).column
+from_one s Front.LineFeed h = omega arith
+from_one s Front.Blank h = omega arith
+from_one s (Front.Comment more) h = omega arith
+from_one s (Front.Begins t more) h = omega arith
+
 -- what begins at the place i of the bytes, and the tokens after it
 pub scan_step : (bytes rest : List ℕ) (i : ℕ) (s : Spot) (f : Front) → rest ≡ drop i bytes → f ≡ front (slice_index rest 0) (drop 1 rest) → further f < length rest → tokens_from 0 s (drop i bytes) ≡ made s f ++ tokens_from 0 (along (further f) (moved s f)) (drop (i + (1 + further f)) bytes)
 scan_step bytes rest i s f rest_is e h =
-    let there : drop (suc (further f)) rest ≡ drop (i + (1 + further f)) bytes = ? in
+    let there : drop (suc (further f)) rest ≡ drop (i + (1 + further f)) bytes = ap (λ bs. drop (suc (further f)) bs) rest_is ∙ drop-drop (suc (further f)) i bytes ∙ ap (λ n. drop n bytes) (counted f i) in
     ap (λ bs. tokens_from 0 s bs) (sym rest_is) ∙ scan_rest rest s f e h ∙ ap (λ bs. made s f ++ tokens_from 0 (along (further f) (moved s f)) bs) there

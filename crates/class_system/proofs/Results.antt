@@ -1,0 +1,35 @@
+-- Going through the nodes: the results found stay, and the nodes may be gone through in two parts.
+use Rattle.std.proofs.Common.{◌≡◌, ℕ, suc, zero, ◌+◌, ◌<◌, ◌≤◌, List, [], ◌∷◌, ◌++◌, take, length, refl, sym, ap, ◌∙◌, append_assoc, append-nil, arith, length-append, Some, slice_get}
+use Rattle.std.specs.Prelude.{zip}
+use Rattle.std.proofs.lemmas.Option.{same_Some, slice_get_within}
+use Rattle.bz_model.specs.Spec.{Node, Range}
+use Rattle.class_system.specs.NodeResults.{node_results}
+
+-- The results for nodes in two parts: those of the second part go on from those of the first.
+pub node_results-append : {V : Type 0} (result : List V → Node → Range → V) (before : List V) (first second : List (Node × Range)) → node_results result before (first ++ second) ≡ node_results result (node_results result before first) second
+node_results-append result before [] second = refl
+node_results-append result before (node ∷ first) second = node_results-append result (before ++ result before node.0 node.1 ∷ []) first second
+
+-- There is a result for each node.
+pub length-node_results : {V : Type 0} (result : List V → Node → Range → V) (before : List V) (nodes : List (Node × Range)) → length (node_results result before nodes) ≡ length before + length nodes
+length-node_results result before [] = omega arith
+length-node_results result before (node ∷ nodes) =
+    length-node_results result (before ++ result before node.0 node.1 ∷ []) nodes ∙ simp length-append (omega arith)
+
+-- One element more, where it is known.
+pub take-at : {X : Type 0} (xs : List X) (i : ℕ) (x : X) → slice_get xs i ≡ Some x → take (suc i) xs ≡ take i xs ++ x ∷ []
+take-at [] i x at = absurd (omega (arith, slice_get_within [] i x at))
+take-at (y ∷ ys) zero x at = ap (λ z. z ∷ []) (same_Some y x at)
+take-at (y ∷ ys) (suc i) x at = ap (λ zs. y ∷ zs) (take-at ys i x at)
+
+-- The pair at a place.
+pub zip-at : {X Y : Type 0} (xs : List X) (ys : List Y) (i : ℕ) (x : X) (y : Y) → slice_get xs i ≡ Some x → slice_get ys i ≡ Some y → slice_get (zip xs ys) i ≡ Some (x, y)
+zip-at [] ys i x y at_x at_y = absurd (omega (arith, slice_get_within [] i x at_x))
+zip-at (a ∷ xs) [] i x y at_x at_y = absurd (omega (arith, slice_get_within [] i y at_y))
+zip-at (a ∷ xs) (b ∷ ys) zero x y at_x at_y = ap Some (λ i. (same_Some a x at_x i, same_Some b y at_y i))
+zip-at (a ∷ xs) (b ∷ ys) (suc i) x y at_x at_y = zip-at xs ys i x y at_x at_y
+
+-- One node more: its result comes after those of the nodes before it.
+pub node_results-step : {V : Type 0} (result : List V → Node → Range → V) (nodes : List Node) (ranges : List Range) (i : ℕ) (n : Node) (r : Range) → slice_get nodes i ≡ Some n → slice_get ranges i ≡ Some r → node_results result [] (take (suc i) (zip nodes ranges)) ≡ node_results result [] (take i (zip nodes ranges)) ++ result (node_results result [] (take i (zip nodes ranges))) n r ∷ []
+node_results-step result nodes ranges i n r at_n at_r =
+    ap (node_results result []) (take-at (zip nodes ranges) i (n, r) (zip-at nodes ranges i n r at_n at_r)) ∙ node_results-append result [] (take i (zip nodes ranges)) ((n, r) ∷ [])

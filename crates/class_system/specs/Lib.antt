@@ -1,0 +1,10 @@
+pub mod Each
+pub mod Distinct
+pub mod Views
+pub mod NodeOrder
+pub mod Words
+pub mod Sound
+pub mod NodeResults
+pub mod Limits
+pub mod CanonicalText
+pub mod Drafting
