@@ -1,6 +1,6 @@
 -- What a run begins at the front of bytes.
-use Rattle.std.proofs.Common.{◌≡◌, ◌≢◌, ◌==◌, ℕ, ◌+◌, ◌-◌, ◌≤◌, ◌<◌, Bool, true, false, List, [], ◌∷◌, length, take, drop, slice_index, Result, IfOk, refl, sym, ◌∙◌, ap, subst, add-one, arith, length-drop, take_all, nat_eq}
-use Rattle.std.specs.List.{prefix_len, take_while}
+use Rattle.std.proofs.Common.{◌≡◌, ◌≢◌, ◌==◌, ℕ, ◌+◌, ◌<◌, true, false, List, [], ◌∷◌, length, take, drop, slice_index, Result, IfOk, refl, ap, add-one, arith}
+use Rattle.std.specs.List.{prefix_len}
 use Rattle.spec_reader.specs.Bytes.{is_blank, is_run_byte}
 use Rattle.spec_reader.specs.declared.tokens.Front.{Front}
 use Rattle.spec_reader.specs.Tokens.{front, run_front}

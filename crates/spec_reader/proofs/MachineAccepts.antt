@@ -149,17 +149,18 @@ back (Lines b) (Token.Name w) ts m ds h =
       some = e.lined.some;
     }
 back (Lines b) Token.TextEnd ts m ds h = text_ends b b.definitions refl ts m ds h
-  where text_ends : (b : Before) (es : List Definition) → es ≡ b.definitions → (ts : List Token) (m : Mode) (ds : List Definition) → Completes (text_over b es) ts m ds → Lined b (Token.TextEnd ∷ ts) m ds
-        text_ends b [] e ts m ds h = elim h [ ]
-        text_ends b (d ∷ es) e ts m ds h = record {
-          further = [];
-          reads = subst (λ rs. Definitions (Token.TextEnd ∷ rs) []) (sym h.0) text_end;
-          mode_is = ap (λ (c : Before). c.mode) h.1;
-          whole = append-nil b.definitions ∙ ap (λ (c : Before). c.definitions) h.1;
-          first = d;
-          others = es;
-          some = sym (ap (λ (c : Before). c.definitions) h.1) ∙ sym e;
-        }
+  where
+    text_ends : (b : Before) (es : List Definition) → es ≡ b.definitions → (ts : List Token) (m : Mode) (ds : List Definition) → Completes (text_over b es) ts m ds → Lined b (Token.TextEnd ∷ ts) m ds
+    text_ends b [] e ts m ds h = elim h [ ]
+    text_ends b (d ∷ es) e ts m ds h = record {
+      further = [];
+      reads = subst (λ rs. Definitions (Token.TextEnd ∷ rs) []) (sym h.0) text_end;
+      mode_is = ap (λ (c : Before). c.mode) h.1;
+      whole = append-nil b.definitions ∙ ap (λ (c : Before). c.definitions) h.1;
+      first = d;
+      others = es;
+      some = sym (ap (λ (c : Before). c.definitions) h.1) ∙ sym e;
+    }
 back (Named b w) Token.Exactly ts m ds h = (ts, refl, h)
 back (Want p) (Token.Empty w) ts m ds h = record { x = Term.empty w; next = ts; factor = empty_leaf; has = h }
 back (Want p) (Token.Atom w) ts m ds h = record { x = Term.atom w; next = ts; factor = atom_leaf; has = h }
@@ -223,18 +224,20 @@ back (Have p) Token.Plus ts m ds h =
       };
     }
 back (Have p) Token.Close ts m ds h = closes p p.outers ts m ds h
-  where closes : (p : Place) (os : List Outer) (ts : List Token) (m : Mode) (ds : List Definition) → Completes (closed p os) ts m ds → Has (record { before = p.before; name = p.name; frame = p.frame; outers = os }) (Token.Close ∷ ts) m ds
-        closes p [] ts m ds h = elim h [ ]
-        closes p (o ∷ os) ts m ds h = record {
-          qs = value p.frame;
-          last = Token.Close ∷ ts;
-          around = (ts, refl, h.qs, h.last, h.follows, h.around);
-          follows = over_here p.frame (Token.Close ∷ ts);
-        }
+  where
+    closes : (p : Place) (os : List Outer) (ts : List Token) (m : Mode) (ds : List Definition) → Completes (closed p os) ts m ds → Has (record { before = p.before; name = p.name; frame = p.frame; outers = os }) (Token.Close ∷ ts) m ds
+    closes p [] ts m ds h = elim h [ ]
+    closes p (o ∷ os) ts m ds h = record {
+      qs = value p.frame;
+      last = Token.Close ∷ ts;
+      around = (ts, refl, h.qs, h.last, h.follows, h.around);
+      follows = over_here p.frame (Token.Close ∷ ts);
+    }
 back (Have p) Token.LineEnd ts m ds h = ends p p.outers ts m ds h
-  where ends : (p : Place) (os : List Outer) (ts : List Token) (m : Mode) (ds : List Definition) → Completes (line_over p os) ts m ds → Has (record { before = p.before; name = p.name; frame = p.frame; outers = os }) (Token.LineEnd ∷ ts) m ds
-        ends p [] ts m ds h = record { qs = value p.frame; last = Token.LineEnd ∷ ts; around = (ts, refl, h); follows = over_here p.frame (Token.LineEnd ∷ ts) }
-        ends p (o ∷ os) ts m ds h = elim h [ ]
+  where
+    ends : (p : Place) (os : List Outer) (ts : List Token) (m : Mode) (ds : List Definition) → Completes (line_over p os) ts m ds → Has (record { before = p.before; name = p.name; frame = p.frame; outers = os }) (Token.LineEnd ∷ ts) m ds
+    ends p [] ts m ds h = record { qs = value p.frame; last = Token.LineEnd ∷ ts; around = (ts, refl, h); follows = over_here p.frame (Token.LineEnd ∷ ts) }
+    ends p (o ∷ os) ts m ds h = elim h [ ]
 back _ _ ts m ds h = elim h [ ]
 
 sound : (s : State) (ts : List Token) (m : Mode) (ds : List Definition) → run s ts ≡ Done (record { mode = m; definitions = ds }) → Completes s ts m ds

@@ -62,9 +62,10 @@ also b ds = record { mode = b.mode; definitions = b.definitions ++ ds }
 
 definitions_run : {ts : List Token} {ds : List Definition} → Definitions ts ds → (b : Before) (d : Definition) → run (Lines (also b (d ∷ []))) ts ≡ Done (also b (d ∷ ds))
 definitions_run text_end b d = over_more b.definitions b d
-  where over_more : (ds : List Definition) (b : Before) (d : Definition) → run (Lines (record { mode = b.mode; definitions = ds ++ d ∷ [] })) (Token.TextEnd ∷ []) ≡ Done (record { mode = b.mode; definitions = ds ++ d ∷ [] })
-        over_more [] b d = refl
-        over_more (e ∷ ds) b d = refl
+  where
+    over_more : (ds : List Definition) (b : Before) (d : Definition) → run (Lines (record { mode = b.mode; definitions = ds ++ d ∷ [] })) (Token.TextEnd ∷ []) ≡ Done (record { mode = b.mode; definitions = ds ++ d ∷ [] })
+    over_more [] b d = refl
+    over_more (e ∷ ds) b d = refl
 definitions_run (defined {rest = rest} {w = w} {ps = ps} {ds = ds} s more) b d =
     let from = also b (d ∷ []) in
     let r = sum_run s (begun from w) in
@@ -78,6 +79,7 @@ reads (text {m = m} (defined {ts = ts} {rest = rest} {w = w} {ps = ps} {ds = ds}
     let r = sum_run s (begun none w) in
     moded m (Token.LineEnd ∷ Token.Name w ∷ Token.Exactly ∷ ts) ∙ r.comes ∙ ap (λ qs. run (Lines (also none (record { name = w; body = sum_of qs } ∷ []))) rest) r.value_is
     ∙ definitions_run more none (record { name = w; body = sum_of ps })
-  where moded : (m : Mode) (ts : List Token) → run Start (Token.Name (mode_word m) ∷ ts) ≡ run (Moded m) ts
-        moded Mode.Unlabelled ts = refl
-        moded Mode.Labelled ts = refl
+  where
+    moded : (m : Mode) (ts : List Token) → run Start (Token.Name (mode_word m) ∷ ts) ≡ run (Moded m) ts
+    moded Mode.Unlabelled ts = refl
+    moded Mode.Labelled ts = refl

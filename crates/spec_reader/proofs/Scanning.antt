@@ -1,5 +1,5 @@
 -- One step of the lexer: what begins at a byte, and the tokens after it.
-use Rattle.std.proofs.Common.{◌≡◌, ◌==◌, ℕ, zero, suc, ◌+◌, ◌-◌, ◌≤◌, ◌<◌, Bool, true, false, List, [], ◌∷◌, ◌++◌, length, take, drop, slice_index, refl, sym, ◌∙◌, ap, subst, add-one, add-zero, arith, drop-drop, append_assoc}
+use Rattle.std.proofs.Common.{◌≡◌, ℕ, zero, suc, ◌+◌, ◌≤◌, ◌<◌, List, [], ◌∷◌, ◌++◌, length, drop, slice_index, sym, ◌∙◌, ap, add-zero, arith, drop-drop, append_assoc}
 use Rattle.spec_reader.specs.declared.tokens.Front.{Front}
 use Rattle.spec_reader.specs.declared.tokens.Placed.{Placed}
 use Rattle.spec_reader.specs.declared.tokens.Spot.{Spot}
@@ -41,3 +41,14 @@ pub scan_step : (bytes rest : List ℕ) (i : ℕ) (s : Spot) (f : Front) → res
 scan_step bytes rest i s f rest_is e h =
     let there : drop (suc (further f)) rest ≡ drop (i + (1 + further f)) bytes = ap (λ bs. drop (suc (further f)) bs) rest_is ∙ drop-drop (suc (further f)) i bytes ∙ ap (λ n. drop n bytes) (counted f i) in
     ap (λ bs. tokens_from 0 s bs) (sym rest_is) ∙ scan_rest rest s f e h ∙ ap (λ bs. made s f ++ tokens_from 0 (along (further f) (moved s f)) bs) there
+
+-- the tokens so far and those to come stay the tokens of the text
+pub so_far_kept : (bytes rest : List ℕ) (i n : ℕ) (s behind : Spot) (f : Front) (all old new : List Placed) → rest ≡ drop i bytes → f ≡ front (slice_index rest 0) (drop 1 rest) → further f < length rest → all ≡ old ++ tokens_from 0 s (drop i bytes) → new ≡ old ++ made s f → behind ≡ along (further f) (moved s f) → n ≡ further f → all ≡ new ++ tokens_from 0 behind (drop (i + (1 + n)) bytes)
+so_far_kept bytes rest i n s behind f all old new rest_is e h so_far new_is behind_is n_is =
+    rw (new_is, behind_is, n_is) (so_far ∙ ap (λ ts. old ++ ts) (scan_step bytes rest i s f rest_is e h) ∙ sym (append_assoc old (made s f) _))
+
+pub near_kept : (i n : ℕ) (s behind : Spot) (f : Front) → s.line + s.column ≤ i + 2 → 1 ≤ s.column → behind ≡ along (further f) (moved s f) → n ≡ further f → behind.line + behind.column ≤ i + (1 + n) + 2
+near_kept i n s behind f near one behind_is n_is = rw (behind_is, n_is) (omega (arith, stays_near s f one))
+
+pub from_one_kept : (s behind : Spot) (f : Front) → 1 ≤ s.column → behind ≡ along (further f) (moved s f) → 1 ≤ behind.column
+from_one_kept s behind f one behind_is = rw behind_is (from_one s f one)

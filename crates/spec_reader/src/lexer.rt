@@ -4,10 +4,9 @@ ghost use Rattle.std.specs.List.{list_all, prefix_len, take_while};
 ghost use Rattle.spec_reader.specs.Bytes as byte;
 ghost use Rattle.spec_reader.specs.Tokens as text;
 
+use crate::tokens::{Counting, Front, Placed, Spot, Token};
 use bz_outside::word::Word;
 use std::alloc::{AllocError, Global};
-
-use crate::tokens::{Counting, Front, Placed, Spot, Token};
 
 /// The offset of the first byte that isn't text. Takes no memory.
 pub fn first_not_text(bytes: &[u8]) -> Option<usize>

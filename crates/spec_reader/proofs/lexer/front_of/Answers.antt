@@ -1,4 +1,4 @@
-use Rattle.std.proofs.Common.{◌-◌, ◌≤◌, length, take, drop, sym, ◌∙◌, take_all, length-drop, arith}
+use Rattle.std.proofs.Common.{◌-◌, length, take, drop, sym, ◌∙◌, take_all, length-drop, arith}
 use Rattle.spec_reader.proofs.Fronts.{front_read}
 use Rattle.spec_reader.proofs.lexer.front_of.Goals as goal
 
