@@ -2,3 +2,4 @@ pub mod Bytes
 pub mod Tokens
 pub mod Grammar
 pub mod Machine
+pub mod Tables
