@@ -1,3 +1,5 @@
 pub mod NameLists
 pub mod Order
 pub mod Results
+pub mod Depths
+pub mod Soundness

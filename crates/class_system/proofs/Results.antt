@@ -1,7 +1,7 @@
 -- Going through the nodes: the results found stay, and the nodes may be gone through in two parts.
-use Rattle.std.proofs.Common.{◌≡◌, ℕ, suc, zero, ◌+◌, ◌<◌, ◌≤◌, List, [], ◌∷◌, ◌++◌, take, length, refl, sym, ap, ◌∙◌, append_assoc, append-nil, arith, length-append, Some, slice_get}
-use Rattle.std.specs.Prelude.{zip}
-use Rattle.std.proofs.lemmas.Option.{same_Some, slice_get_within}
+use Rattle.std.proofs.Common.{◌≡◌, ℕ, suc, zero, ◌+◌, ◌<◌, ◌≤◌, List, [], ◌∷◌, ◌++◌, take, length, refl, sym, ap, ◌∙◌, append_assoc, append-nil, arith, length-append, Some, slice_get, get_or, map, add-one}
+use Rattle.std.specs.Prelude.{zip, option_map}
+use Rattle.std.proofs.lemmas.Option.{same_Some, slice_get_within, slice_get-map, slice_get-get_or}
 use Rattle.bz_model.specs.Spec.{Node, Range}
 use Rattle.class_system.specs.NodeResults.{node_results}
 
@@ -17,10 +17,23 @@ length-node_results result before (node ∷ nodes) =
     length-node_results result (before ++ result before node.0 node.1 ∷ []) nodes ∙ simp length-append (omega arith)
 
 -- One element more, where it is known.
-pub take-at : {X : Type 0} (xs : List X) (i : ℕ) (x : X) → slice_get xs i ≡ Some x → take (suc i) xs ≡ take i xs ++ x ∷ []
-take-at [] i x at = absurd (omega (arith, slice_get_within [] i x at))
-take-at (y ∷ ys) zero x at = ap (λ z. z ∷ []) (same_Some y x at)
-take-at (y ∷ ys) (suc i) x at = ap (λ zs. y ∷ zs) (take-at ys i x at)
+take-at_suc : {X : Type 0} (xs : List X) (i : ℕ) (x : X) → slice_get xs i ≡ Some x → take (suc i) xs ≡ take i xs ++ x ∷ []
+take-at_suc [] i x at = absurd (omega (arith, slice_get_within [] i x at))
+take-at_suc (y ∷ ys) zero x at = ap (λ z. z ∷ []) (same_Some y x at)
+take-at_suc (y ∷ ys) (suc i) x at = ap (λ zs. y ∷ zs) (take-at_suc ys i x at)
+
+pub take-at : {X : Type 0} (xs : List X) (i : ℕ) (x : X) → slice_get xs i ≡ Some x → take (i + 1) xs ≡ take i xs ++ x ∷ []
+take-at xs i x at = rw add-one (take-at_suc xs i x at)
+
+-- The element at a place of a mapped list.
+pub mapped-at : {X Y : Type 0} (f : X → Y) (xs : List X) (i : ℕ) (d : X) → i < length xs → slice_get (map f xs) i ≡ Some (f (get_or xs i d))
+mapped-at f xs i d within = slice_get-map f xs i ∙ ap (option_map f) (slice_get-get_or xs i d within)
+
+-- There are at most as many pairs as first elements.
+pub length-zip_le : {X Y : Type 0} (xs : List X) (ys : List Y) → length (zip xs ys) ≤ length xs
+length-zip_le [] ys = omega arith
+length-zip_le (x ∷ xs) [] = omega arith
+length-zip_le (x ∷ xs) (y ∷ ys) = omega (arith, length-zip_le xs ys)
 
 -- The pair at a place.
 pub zip-at : {X Y : Type 0} (xs : List X) (ys : List Y) (i : ℕ) (x : X) (y : Y) → slice_get xs i ≡ Some x → slice_get ys i ≡ Some y → slice_get (zip xs ys) i ≡ Some (x, y)
@@ -30,6 +43,6 @@ zip-at (a ∷ xs) (b ∷ ys) zero x y at_x at_y = ap Some (λ i. (same_Some a x 
 zip-at (a ∷ xs) (b ∷ ys) (suc i) x y at_x at_y = zip-at xs ys i x y at_x at_y
 
 -- One node more: its result comes after those of the nodes before it.
-pub node_results-step : {V : Type 0} (result : List V → Node → Range → V) (nodes : List Node) (ranges : List Range) (i : ℕ) (n : Node) (r : Range) → slice_get nodes i ≡ Some n → slice_get ranges i ≡ Some r → node_results result [] (take (suc i) (zip nodes ranges)) ≡ node_results result [] (take i (zip nodes ranges)) ++ result (node_results result [] (take i (zip nodes ranges))) n r ∷ []
+pub node_results-step : {V : Type 0} (result : List V → Node → Range → V) (nodes : List Node) (ranges : List Range) (i : ℕ) (n : Node) (r : Range) → slice_get nodes i ≡ Some n → slice_get ranges i ≡ Some r → node_results result [] (take (i + 1) (zip nodes ranges)) ≡ node_results result [] (take i (zip nodes ranges)) ++ result (node_results result [] (take i (zip nodes ranges))) n r ∷ []
 node_results-step result nodes ranges i n r at_n at_r =
     ap (node_results result []) (take-at (zip nodes ranges) i (n, r) (zip-at nodes ranges i n r at_n at_r)) ∙ node_results-append result [] (take i (zip nodes ranges)) ((n, r) ∷ [])

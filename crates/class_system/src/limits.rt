@@ -87,7 +87,7 @@ fn greatest_depth(alloc: Global, draft: &Draft) -> Result<u64, AllocError>
     ensures depth { IfOk result (λ depth. depth ≡ depth_of draft.now) }
 {
     let mut depths: Vec<u64> = Vec::new(alloc);
-    let mut most = 0;
+    let mut most: u64 = 0;
     for item in draft.nodes() {
         let depth = depth_above(&depths, item.parts());
         depths.push(depth)?;
@@ -102,7 +102,7 @@ fn depth_above(depths: &[u64], parts: &[ExprId]) -> u64
     requires small { greatest depths.now < 2 ^ 64 - 1 }
     ensures exact { result ≡ suc (greatest (map (slice_index depths.now) (map number parts.now))) }
 {
-    let mut most = 0;
+    let mut most: u64 = 0;
     for part in parts {
         most = most.max(depths[part.0 as usize]);
     }
