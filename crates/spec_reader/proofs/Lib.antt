@@ -3,3 +3,5 @@ pub mod MachineAccepts
 pub mod Viable
 pub mod Fronts
 pub mod Scanning
+pub mod Numbering
+pub mod Standing

@@ -3,10 +3,11 @@ use Rattle.std.proofs.Common.{◌≡◌, ℕ, Bool, true, false, List, [], ◌�
 use Rattle.std.specs.Cmp.Lexicographic.{same_text}
 use Rattle.bz_model.specs.Spec.{Mode, Range}
 use Rattle.spec_reader.specs.declared.tokens.Counting.{Counting}
+use Rattle.spec_reader.specs.declared.tokens.Sign.{Sign}
 use Rattle.spec_reader.specs.declared.tokens.Token.{Token}
 use Rattle.spec_reader.specs.Tokens.{is_same}
 use Rattle.spec_reader.specs.Grammar.{Term, Definition, sum_of, product_of, counted, plain, Bound, no_bound, at_least, at_most, exactly, Sum, MoreProducts, MoreFactors, Factor, summed, no_products, next_product, multiplied, no_factors, next_factor, empty_leaf, atom_leaf, named, group, counting, Definitions, text_end, defined, IsText, text, mode_word}
-use Rattle.spec_reader.specs.Machine.{Frame, Wrap, bare, over, wrapped, Outer, Before, Place, State, Start, Moded, Lines, Named, Want, Counts, Signed, Bounded, Have, Done, Failed, least, most, exact, range_by, value, opened, with_one_more, begun, mode_read, closed, line_over, text_over, step, run}
+use Rattle.spec_reader.specs.Machine.{Frame, Wrap, bare, over, wrapped, Outer, Before, Place, State, Start, Moded, Lines, Named, Want, Counts, Signed, Bounded, Have, Done, Failed, range_by, value, opened, with_one_more, begun, mode_read, closed, line_over, text_over, step, run}
 
 -- what a frame becomes by what follows
 record Follows (ps us : List Term) (ts : List Token) (qs : List Term) (rest : List Token) : Type 0 where
@@ -173,21 +174,21 @@ back (Want p) (Token.Counted c) ts m ds h =
     record { x = counted c h.range (sum_of g.qs); next = g.mid; factor = counting h.bound g.reads; has = g.has }
 back (Counts p c) Token.Open ts m ds h = record { range = plain c; inner = ts; bound = no_bound; wants = h }
 back (Counts p c) Token.AtLeast ts m ds h = record {
-  range = range_by c least h.0;
+  range = range_by c Sign.Least h.0;
   inner = h.1;
-  bound = subst (λ rs. Bound c (Token.AtLeast ∷ rs) (range_by c least h.0) (Token.Open ∷ h.1)) (sym h.2) at_least;
+  bound = subst (λ rs. Bound c (Token.AtLeast ∷ rs) (range_by c Sign.Least h.0) (Token.Open ∷ h.1)) (sym h.2) at_least;
   wants = h.3;
 }
 back (Counts p c) Token.AtMost ts m ds h = record {
-  range = range_by c most h.0;
+  range = range_by c Sign.Most h.0;
   inner = h.1;
-  bound = subst (λ rs. Bound c (Token.AtMost ∷ rs) (range_by c most h.0) (Token.Open ∷ h.1)) (sym h.2) at_most;
+  bound = subst (λ rs. Bound c (Token.AtMost ∷ rs) (range_by c Sign.Most h.0) (Token.Open ∷ h.1)) (sym h.2) at_most;
   wants = h.3;
 }
 back (Counts p c) Token.Exactly ts m ds h = record {
-  range = range_by c exact h.0;
+  range = range_by c Sign.Exact h.0;
   inner = h.1;
-  bound = subst (λ rs. Bound c (Token.Exactly ∷ rs) (range_by c exact h.0) (Token.Open ∷ h.1)) (sym h.2) exactly;
+  bound = subst (λ rs. Bound c (Token.Exactly ∷ rs) (range_by c Sign.Exact h.0) (Token.Open ∷ h.1)) (sym h.2) exactly;
   wants = h.3;
 }
 back (Signed p c s) (Token.Number k) ts m ds h = (k, h.0, ap (λ rs. Token.Number k ∷ rs) h.1, h.2)

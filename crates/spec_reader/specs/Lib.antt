@@ -3,3 +3,4 @@ pub mod Tokens
 pub mod Grammar
 pub mod Machine
 pub mod Tables
+pub mod Building

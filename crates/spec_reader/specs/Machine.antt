@@ -2,6 +2,7 @@
 use Rattle.std.specs.Prelude.{ℕ, if◌then◌else◌, List, [], ◌∷◌, ◌++◌, codes}
 use Rattle.bz_model.specs.Spec.{Mode, Range}
 use Rattle.spec_reader.specs.declared.tokens.Counting.{Counting}
+use Rattle.spec_reader.specs.declared.tokens.Sign.{Sign}
 use Rattle.spec_reader.specs.declared.tokens.Token.{Token}
 use Rattle.spec_reader.specs.Tokens.{is_same}
 use Rattle.spec_reader.specs.Grammar.{Term, Definition, sum_of, product_of, plain, from_on, up_to, just, counted}
@@ -53,17 +54,11 @@ pub record Place : Type 0 where
   pub frame : Frame
   pub outers : List Outer
 
--- The sign of a bound.
-pub data Sign : Type 0 where
-  least : Sign
-  most : Sign
-  exact : Sign
-
 -- The range that a sign and a number give.
 abbrev pub range_by : Counting → Sign → ℕ → Range
-range_by c least k = from_on k
-range_by c most k = up_to c k
-range_by c exact k = just k
+range_by c Sign.Least k = from_on k
+range_by c Sign.Most k = up_to c k
+range_by c Sign.Exact k = just k
 
 -- What was read, and so what may come next.
 pub data State : Type 0 where
@@ -138,9 +133,9 @@ step (Want p) (Token.Name w) = Have (with_one_more p (Term.class w))
 step (Want p) Token.Open = Want (opened p bare)
 step (Want p) (Token.Counted c) = Counts p c
 step (Counts p c) Token.Open = Want (opened p (over c (plain c)))
-step (Counts p c) Token.AtLeast = Signed p c least
-step (Counts p c) Token.AtMost = Signed p c most
-step (Counts p c) Token.Exactly = Signed p c exact
+step (Counts p c) Token.AtLeast = Signed p c Sign.Least
+step (Counts p c) Token.AtMost = Signed p c Sign.Most
+step (Counts p c) Token.Exactly = Signed p c Sign.Exact
 step (Signed p c s) (Token.Number k) = Bounded p c (range_by c s k)
 step (Bounded p c r) Token.Open = Want (opened p (over c r))
 step (Have p) Token.Star = Want p

@@ -4,4 +4,5 @@
 #![tactic(auto)]
 
 pub mod lexer;
+pub mod sums;
 pub mod tokens;

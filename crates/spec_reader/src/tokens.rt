@@ -10,6 +10,14 @@ pub enum Counting {
     Cyc,
 }
 
+/// The sign of a bound on the number of parts: `>=`, `<=` or `=`.
+#[derive(Clone, Copy, Debug, PartialEq, Eq)]
+pub enum Sign {
+    Least,
+    Most,
+    Exact,
+}
+
 /// A token. `Empty` and `Atom` are the leaves, whose word is empty where the leaf is plain.
 ///
 /// `Bad` stands for a run, a leaf, a number or a byte that breaks a rule of the text: it stands nowhere.
