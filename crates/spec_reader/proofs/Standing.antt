@@ -1,6 +1,8 @@
 -- What is kept stays what was read, as the machine goes on.
-use Rattle.std.proofs.Common.{◌≡◌, ℕ, ◌+◌, ◌-◌, Bool, true, false, List, [], ◌∷◌, ◌++◌, length, map, None, refl, sym, ◌∙◌, ap, append_assoc, length-append, arith}
+use Rattle.std.proofs.Common.{◌≡◌, ◌==◌, ℕ, ◌+◌, ◌-◌, Bool, true, false, List, [], ◌∷◌, ◌++◌, length, map, None, refl, sym, ◌∙◌, ap, append_assoc, length-append, arith}
 use Rattle.bz_model.specs.Spec.{Spec, Node, Range}
+use Rattle.class_system.specs.Views.{number}
+use Rattle.class_system.specs.declared.ids.ExprId.{ExprId}
 use Rattle.class_system.specs.Drafting.{with_node, with_body}
 use Rattle.spec_reader.specs.declared.tokens.Counting.{Counting}
 use Rattle.spec_reader.specs.declared.sums.Expects.{Expects}
@@ -227,3 +229,17 @@ line_open names b w f (o ∷ os) k s e = refl
 
 pub line_none : (names : List (List ℕ)) (p : Place) (k now : Kept) → Stands names p k → ¬ (k.outers ≡ []) → Leads names (line_over p p.outers) false Expects.Line now
 line_none names p k now s e = line_open names p.before p.name p.frame p.outers k s e
+
+-- a node's number more
+pub pushed : (old new : List ExprId) (e : ExprId) (n : ℕ) → new ≡ old ++ e ∷ [] → e.0 ≡ n → map number new ≡ map number old ++ n ∷ []
+pushed old new e n new_is n_is = ap (λ es. map number es) new_is ∙ map-snoc number old e ∙ ap (λ m. map number old ++ m ∷ []) n_is
+
+-- no sum is around
+pub none_around : {A : Type 0} (xs ys : List A) → true ≡ (length xs == 0) → xs ≡ ys → ys ≡ []
+none_around [] ys e same = sym same
+none_around (x ∷ xs) ys e same = absurd (grind arith)
+
+-- a sum is around
+pub some_around : {A B : Type 0} (f : A → B) (xs ys : List A) → false ≡ (length xs == 0) → xs ≡ ys → ¬ (map f ys ≡ [])
+some_around f [] ys e same none = absurd (grind arith)
+some_around f (x ∷ xs) ys e same none = let e2 : map f (x ∷ xs) ≡ [] = ap (map f) same ∙ none in absurd (cc)
