@@ -5,3 +5,4 @@ pub mod Fronts
 pub mod Scanning
 pub mod Numbering
 pub mod Standing
+pub mod ClassNumbers

@@ -4,5 +4,6 @@
 #![tactic(auto)]
 
 pub mod lexer;
+pub mod reader;
 pub mod sums;
 pub mod tokens;
