@@ -6,3 +6,4 @@ pub mod Scanning
 pub mod Numbering
 pub mod Standing
 pub mod ClassNumbers
+pub mod Taking

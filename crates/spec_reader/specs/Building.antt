@@ -1,5 +1,5 @@
 -- What the reader of tokens keeps: the tables so far, and the numbers of the parts that are read.
-use Rattle.std.specs.Prelude.{◌≡◌, ℕ, Bool, true, false, List, [], ◌∷◌, ◌++◌, length, map, None}
+use Rattle.std.specs.Prelude.{◌≡◌, ◌≢◌, ℕ, ◌+◌, ◌<◌, take, Option, Some, Bool, true, false, List, [], ◌∷◌, ◌++◌, length, map, None}
 use Rattle.bz_model.specs.Spec.{Spec, Node, Range}
 use Rattle.class_system.specs.Drafting.{with_node}
 use Rattle.class_system.specs.Views.{number, spec_range}
@@ -9,8 +9,10 @@ use Rattle.spec_reader.specs.declared.sums.Outer as code_outer
 use Rattle.spec_reader.specs.declared.sums.Wrap as code_wrap
 use Rattle.spec_reader.specs.declared.sums.Sums as code_sums
 use Rattle.spec_reader.specs.declared.sums.Expects.{Expects}
+use Rattle.spec_reader.specs.declared.tokens.Token.{Token}
+use Rattle.spec_reader.specs.declared.tokens.Placed.{Placed}
 use Rattle.spec_reader.specs.Grammar.{Term, terms}
-use Rattle.spec_reader.specs.Machine.{Frame, Wrap, bare, over, Outer, Before, Place, State, Lines, Named, Want, Counts, Signed, Bounded, Have, Done, Failed}
+use Rattle.spec_reader.specs.Machine.{Frame, Wrap, bare, over, Outer, Before, Place, State, Lines, Named, Want, Counts, Signed, Bounded, Have, Done, Failed, run}
 use Rattle.spec_reader.specs.Tables.{Row, with_term, with_terms, numbers, bodies_of, class_number, counted_node}
 
 -- What is kept of a sum around the one that is read.
@@ -143,3 +145,12 @@ wrapped_number s (over c r) sum = length s.nodes
 pub record EndsSum (before : Spec) (products factors : List ℕ) (now : Spec) (sum : ℕ) : Type 0 where
   pub draft_is : now ≡ joined Node.Union (joined Node.Product before factors) (products ++ joined_number before factors ∷ [])
   pub number_is : sum ≡ joined_number (joined Node.Product before factors) (products ++ joined_number before factors ∷ [])
+
+-- The tokens without their places.
+abbrev pub plain_tokens : List Placed → List Token
+plain_tokens ts = map (λ t. t.token) ts
+
+-- The machine goes through the tokens up to the first that fails it, or through all of them.
+abbrev pub StopsAt : List (List ℕ) → State → List Placed → Option ℕ → Expects → Kept → Type 0
+StopsAt names s ts None e k = Represents names (run s (plain_tokens ts)) e k
+StopsAt names s ts (Some i) e k = (i < length ts) × (run s (plain_tokens (take i ts)) ≢ Failed) × (run s (plain_tokens (take (i + 1) ts)) ≡ Failed)

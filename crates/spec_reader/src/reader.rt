@@ -1,10 +1,10 @@
 //! The reader of tokens: one token after another, with a stack of its own.
-ghost use Rattle.std.specs.Prelude.{◌≡◌, ◌^◌, ◌<◌, ◌≤◌, ◌+◌, ℕ, List, length, OnOk, IfOk};
+ghost use Rattle.std.specs.Prelude.{◌≡◌, ◌^◌, ◌<◌, ◌≤◌, ◌+◌, ◌*◌, ℕ, List, length, OnOk, IfOk};
 ghost use Rattle.class_system.specs.Views.{spec_range};
 ghost use Rattle.spec_reader.specs.Grammar.{plain, least_count};
 ghost use Rattle.spec_reader.specs.Machine.{Before, Place, State, Lines, Named, Want, Counts, Signed, Bounded, Have, range_by, step};
 ghost use Rattle.spec_reader.specs.Tables.{class_number};
-ghost use Rattle.spec_reader.specs.Building.{kept, Stands, Rests, Represents, Leads};
+ghost use Rattle.spec_reader.specs.Building.{kept, Stands, Rests, Represents, Leads, StopsAt};
 
 use bz_outside::word::Word;
 use class_system::expr::Expr;
@@ -13,7 +13,7 @@ use class_system::ranges::Range;
 use std::alloc::{AllocError, Global};
 
 use crate::sums::{Expects, Sums, Wrap};
-use crate::tokens::{Counting, Sign, Token};
+use crate::tokens::{Counting, Placed, Sign, Token};
 
 /// What was read so far, and what may come next.
 #[derive(Drop)]
@@ -116,6 +116,7 @@ impl Reader {
                 → Leads names (step (Want p) token.now) stands self.new.expects (kept self.new.sums))
         }
         ensures few { OnOk result (length self.new.sums.draft.nodes ≤ length self.old.sums.draft.nodes + 1) }
+        ensures names { OnOk result (self.new.sums.draft.names ≡ self.old.sums.draft.names) }
     {
         match token {
             Token::Empty(word) => {
@@ -208,6 +209,7 @@ impl Reader {
                 → Leads names (step (Have p) token.now) stands self.new.expects (kept self.new.sums))
         }
         ensures few { OnOk result (length self.new.sums.draft.nodes ≤ length self.old.sums.draft.nodes + 3) }
+        ensures names { OnOk result (self.new.sums.draft.names ≡ self.old.sums.draft.names) }
     {
         match token {
             Token::Star => self.expects = Expects::Factor,
@@ -223,5 +225,47 @@ impl Reader {
             _ => return Ok(false),
         }
         Ok(true)
+    }
+
+    /// Takes a token; false where it can't stand here.
+    pub fn take(&mut self, alloc: Global, token: &Token) -> Result<bool, AllocError>
+        requires few_nodes { length self.old.sums.draft.nodes + 2 < 2 ^ 32 }
+        requires few_names { length self.old.sums.draft.names < 2 ^ 32 }
+        ensures read {
+            IfOk result (λ stands. (names : List (List ℕ)) (s : State)
+                → Represents names s self.old.expects (kept self.old.sums)
+                → Leads names (step s token.now) stands self.new.expects (kept self.new.sums))
+        }
+        ensures few { OnOk result (length self.new.sums.draft.nodes ≤ length self.old.sums.draft.nodes + 3) }
+        ensures names { OnOk result (self.new.sums.draft.names ≡ self.old.sums.draft.names) }
+    {
+        match self.expects {
+            Expects::Line => Ok(self.line(token)),
+            Expects::Equals => Ok(self.equals(token)),
+            Expects::Factor => self.factor(alloc, token),
+            Expects::Count(counting) => self.count(alloc, counting, token),
+            Expects::Number(counting, sign) => Ok(self.number(counting, sign, token)),
+            Expects::Open(counting, range) => self.parenthesis(alloc, counting, range, token),
+            Expects::Joint => self.joint(alloc, token),
+            Expects::Nothing => Ok(false),
+        }
+    }
+
+    /// Takes tokens one after another, up to the first that can't stand, whose place is answered.
+    pub fn take_all(&mut self, alloc: Global, tokens: &[Placed]) -> Result<Option<usize>, AllocError>
+        requires few_nodes { length self.old.sums.draft.nodes + 3 * length tokens.now < 2 ^ 32 }
+        requires few_names { length self.old.sums.draft.names < 2 ^ 32 }
+        ensures read {
+            IfOk result (λ stop. (names : List (List ℕ)) (s : State)
+                → Represents names s self.old.expects (kept self.old.sums)
+                → StopsAt names s tokens.now stop self.new.expects (kept self.new.sums))
+        }
+    {
+        for (i, placed) in tokens.iter().enumerate() {
+            if !self.take(alloc, &placed.token)? {
+                return Ok(Some(i));
+            }
+        }
+        Ok(None)
     }
 }

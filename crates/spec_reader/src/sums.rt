@@ -66,6 +66,7 @@ fn union_node(draft: &mut Draft, parts: Parts) -> Result<ExprId, AllocError>
     ensures joined { OnOk result (draft.new ≡ joined Node.Union draft.old (map number parts)) }
     ensures number { IfOk result (λ e. e.0 ≡ joined_number draft.old (map number parts)) }
     ensures few { OnOk result (length draft.new.nodes ≤ length draft.old.nodes + 1) }
+    ensures names { OnOk result (draft.new.names ≡ draft.old.names) }
 {
     if let [part] = parts.items() {
         return Ok(*part);
@@ -79,6 +80,7 @@ fn product_node(draft: &mut Draft, parts: Parts) -> Result<ExprId, AllocError>
     ensures joined { OnOk result (draft.new ≡ joined Node.Product draft.old (map number parts)) }
     ensures number { IfOk result (λ e. e.0 ≡ joined_number draft.old (map number parts)) }
     ensures few { OnOk result (length draft.new.nodes ≤ length draft.old.nodes + 1) }
+    ensures names { OnOk result (draft.new.names ≡ draft.old.names) }
 {
     if let [part] = parts.items() {
         return Ok(*part);
@@ -92,6 +94,7 @@ fn wrap_node(draft: &mut Draft, wrap: Wrap, sum: ExprId) -> Result<ExprId, Alloc
     ensures wrapped { OnOk result (draft.new ≡ wrapped_draft draft.old (wrap_kept wrap) sum.0) }
     ensures number { IfOk result (λ e. e.0 ≡ wrapped_number draft.old (wrap_kept wrap) sum.0) }
     ensures few { OnOk result (length draft.new.nodes ≤ length draft.old.nodes + 1) }
+    ensures names { OnOk result (draft.new.names ≡ draft.old.names) }
 {
     match wrap {
         Wrap::Bare => Ok(sum),
@@ -124,6 +127,7 @@ impl Sums {
                 → Stands names p (kept self.old) → Stands names (with_one_more p t) (kept self.new))
         }
         ensures few { OnOk result (length self.new.draft.nodes ≤ length self.old.draft.nodes + 1) }
+        ensures names { OnOk result (self.new.draft.names ≡ self.old.draft.names) }
     {
         let e = self.draft.add_node(node)?;
         self.frame.factors.push(e)?;
@@ -151,6 +155,7 @@ impl Sums {
                 → Stands names (with_frame p (next_product p.frame)) (kept self.new))
         }
         ensures few { OnOk result (length self.new.draft.nodes ≤ length self.old.draft.nodes + 1) }
+        ensures names { OnOk result (self.new.draft.names ≡ self.old.draft.names) }
     {
         let factors = mem::replace(&mut self.frame.factors, Parts::new(alloc));
         let e = product_node(&mut self.draft, factors)?;
@@ -168,6 +173,7 @@ impl Sums {
         ensures factors { OnOk result (self.new.frame.factors ≡ []) }
         ensures outers { self.new.outers.items ≡ self.old.outers.items }
         ensures few { OnOk result (length self.new.draft.nodes ≤ length self.old.draft.nodes + 2) }
+        ensures names { OnOk result (self.new.draft.names ≡ self.old.draft.names) }
     {
         let Frame { mut products, factors } = mem::replace(&mut self.frame, Frame::new(alloc));
         let e = product_node(&mut self.draft, factors)?;
@@ -184,6 +190,7 @@ impl Sums {
                 → Leads names (closed p p.outers) closes Expects.Joint (kept self.new))
         }
         ensures few { OnOk result (length self.new.draft.nodes ≤ length self.old.draft.nodes + 3) }
+        ensures names { OnOk result (self.new.draft.names ≡ self.old.draft.names) }
     {
         let Some(outer) = self.outers.pop() else {
             return Ok(false);
@@ -203,6 +210,7 @@ impl Sums {
                 → Leads names (line_over p p.outers) ends Expects.Line (kept self.new))
         }
         ensures few { OnOk result (length self.new.draft.nodes ≤ length self.old.draft.nodes + 2) }
+        ensures names { OnOk result (self.new.draft.names ≡ self.old.draft.names) }
     {
         if !self.outers.as_slice().is_empty() {
             return Ok(false);
