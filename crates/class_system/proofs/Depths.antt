@@ -1,12 +1,9 @@
 -- The greatest of some numbers, one more at a time.
-use Rattle.std.proofs.Common.{◌≡◌, ℕ, suc, zero, ◌+◌, ◌<◌, ◌≤◌, max, List, [], ◌∷◌, ◌++◌, map, take, length, slice_index, refl, sym, ap, ◌∙◌, arith, Some, slice_get}
-use Rattle.std.specs.Prelude.{zip}
-use Rattle.std.proofs.lemmas.List.{take_all}
-use Rattle.bz_model.specs.Spec.{Spec, Node, Range}
+use Rattle.std.proofs.Common.{◌≡◌, ℕ, suc, zero, ◌+◌, ◌≤◌, max, List, [], ◌∷◌, ◌++◌, map, take, slice_index, refl, ap, ◌∙◌, arith, Some, slice_get}
+use Rattle.bz_model.specs.Spec.{Node, Range}
 use Rattle.class_system.specs.NodeOrder.{parts_of}
-use Rattle.class_system.specs.NodeResults.{node_results, ranged_nodes}
-use Rattle.class_system.specs.Limits.{greatest, node_depth, depth_of}
-use Rattle.class_system.proofs.Results.{take-at, node_results-step, length-zip_le}
+use Rattle.class_system.specs.Limits.{greatest, node_depth}
+use Rattle.class_system.proofs.Results.{take-at}
 
 -- One number more at the end.
 pub greatest-append : (ns : List ℕ) (n : ℕ) → greatest (ns ++ n ∷ []) ≡ max (greatest ns) n
@@ -33,18 +30,8 @@ map-append_one f (y ∷ xs) x = ap (λ ys. f y ∷ ys) (map-append_one f xs x)
 pub greatest-more : {X : Type 0} (f : X → ℕ) (xs : List X) (i : ℕ) (x : X) → slice_get xs i ≡ Some x → greatest (map f (take (i + 1) xs)) ≡ max (greatest (map f (take i xs))) (f x)
 greatest-more f xs i x at = ap (λ ys. greatest (map f ys)) (take-at xs i x at) ∙ ap greatest (map-append_one f (take i xs) x) ∙ greatest-append (map f (take i xs)) (f x)
 
--- The depths found so far, and one more.
-pub depths-more : (s : Spec) (i : ℕ) (n : Node) (r : Range) (before after : List ℕ) (d : ℕ) → slice_get s.nodes i ≡ Some n → slice_get s.ranges i ≡ Some r → before ≡ node_results node_depth [] (take i (ranged_nodes s)) → d ≡ node_depth before n r → after ≡ before ++ d ∷ [] → after ≡ node_results node_depth [] (take (i + 1) (ranged_nodes s))
-depths-more s i n r before after d at_n at_r found is_depth pushed =
-    pushed ∙ rw (is_depth, found) (sym (node_results-step node_depth s.nodes s.ranges i n r at_n at_r))
-
--- The greatest of them grows with them, by at most one.
+-- The greatest of the depths so far grows with them, by at most one.
 pub greatest_so_far : (before after : List ℕ) (most new_most d i : ℕ) (n : Node) (r : Range) → most ≡ greatest before → most ≤ i → d ≡ node_depth before n r → after ≡ before ++ d ∷ [] → new_most ≡ max most d → (new_most ≡ greatest after) × (new_most ≤ i + 1)
 greatest_so_far before after most new_most d i n r most_is few is_depth pushed new_is =
     let grown : greatest after ≡ max (greatest before) d = ap greatest pushed ∙ greatest-append before d in
     (omega arith, omega (arith, picked_le before (parts_of n)))
-
--- All pairs were gone through.
-pub depths-all : (s : Spec) (i most : ℕ) (found : List ℕ) → found ≡ node_results node_depth [] (take i (ranged_nodes s)) → length s.nodes ≤ i → most ≡ greatest found → most ≡ depth_of s
-depths-all s i most found is_found all is_most =
-    is_most ∙ ap greatest (is_found ∙ ap (node_results node_depth []) (take_all i (ranged_nodes s) (omega (arith, length-zip_le s.nodes s.ranges))))

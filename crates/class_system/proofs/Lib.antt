@@ -3,3 +3,5 @@ pub mod Order
 pub mod Results
 pub mod Depths
 pub mod Soundness
+pub mod Texts
+pub mod Growth

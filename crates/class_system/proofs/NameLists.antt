@@ -1,5 +1,5 @@
 -- Lists of names: what a search by equality tells.
-use Rattle.std.proofs.Common.{◌≡◌, ◌≢◌, ℕ, ◌<◌, ◌≤◌, Bool, true, false, List, length, get_or, arith, sym, ◌∙◌, ap, subst, refl, inl, inr, Option, Some, None, slice_get, nat_eq, ◌⊎◌}
+use Rattle.std.proofs.Common.{◌≡◌, ℕ, ◌<◌, Bool, true, false, List, length, get_or, sym, ◌∙◌, ap, subst, refl, inl, inr, Option, Some, None, slice_get, nat_eq}
 use Rattle.std.specs.Prelude.{position, IfSome, IfNone, is_some}
 use Rattle.std.specs.List.{list_any, IsDistinct}
 use Rattle.std.specs.Cmp.Lexicographic.{pointwise, same_text}
@@ -28,12 +28,14 @@ found_at name names (Some i) e =
 
 -- Where no name passes the search for a name, it is missing.
 pub missing_if_none : (name : List ℕ) (names : List (List ℕ)) → list_any (pointwise nat_eq name) names ≡ false → IsMissing name names
-missing_if_none name names e = record { nowhere = λ i at.
-    let within : i < length names = slice_get_within names i name at in
-    let here : get_or names i name ≡ name = get_or_from_slice_get names i name name at in
-    let passes : pointwise nat_eq name (get_or names i name) ≡ true = rw here (same_name name) in
-    let any : list_any (pointwise nat_eq name) names ≡ true = list_any_at (pointwise nat_eq name) names i name within passes in
-    cc }
+missing_if_none name names e = record {
+  nowhere = λ i at.
+      let within : i < length names = slice_get_within names i name at in
+      let here : get_or names i name ≡ name = get_or_from_slice_get names i name name at in
+      let passes : pointwise nat_eq name (get_or names i name) ≡ true = rw here (same_name name) in
+      let any : list_any (pointwise nat_eq name) names ≡ true = list_any_at (pointwise nat_eq name) names i name within passes in
+      cc;
+}
 
 -- Where a search finds nothing, the name is missing.
 pub missing_at : (name : List ℕ) (names : List (List ℕ)) (o : Option ℕ) → is_some o ≡ list_any (pointwise nat_eq name) names → IfNone o (IsMissing name names)
@@ -67,9 +69,11 @@ not_twice names distinct i j name below at_i at_j =
 
 -- Names that are apart by a test stand at one place each.
 pub distinct_names : (names : List (List ℕ)) → IsDistinct (pointwise nat_eq) names → AreDistinct names
-distinct_names names distinct = record { once = λ i j name at_i at_j.
-    elim (cases_order i j) [
-      | inl same ↦ same
-      | inr (inl below) ↦ absurd (not_twice names distinct i j name below at_i at_j)
-      | inr (inr above) ↦ absurd (not_twice names distinct j i name above at_j at_i)
-    ] }
+distinct_names names distinct = record {
+  once = λ i j name at_i at_j.
+      elim (cases_order i j) [
+        | inl same ↦ same
+        | inr (inl below) ↦ absurd (not_twice names distinct i j name below at_i at_j)
+        | inr (inr above) ↦ absurd (not_twice names distinct j i name above at_j at_i)
+      ];
+}

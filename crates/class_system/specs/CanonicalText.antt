@@ -1,6 +1,5 @@
 -- The canonical text of a specification.
-use Rattle.std.specs.Prelude.{ℕ, nat_eq, List, [], ◌∷◌, ◌++◌, map, flat_map, zip, slice_get, Option, Some, None, unwrap_or, decimal, codes, if◌then◌else◌}
-use Rattle.std.specs.List.{join_with_byte}
+use Rattle.std.specs.Prelude.{ℕ, Bool, true, false, nat_eq, List, [], ◌∷◌, ◌++◌, map, flat_map, zip, slice_get, Option, Some, None, unwrap_or, decimal, codes, if◌then◌else◌}
 use Rattle.bz_model.specs.Spec.{Spec, Mode, Node, Range}
 use Rattle.class_system.specs.NodeResults.{node_results, ranged_nodes}
 use Rattle.class_system.specs.declared.canonical.Form.{Form}
@@ -11,29 +10,25 @@ pub record Shown : Type 0 where
   pub form : Form
   pub text : List ℕ
 
+-- A node that is neither a union nor a product.
+abbrev pub single : List ℕ → Shown
+single text = record { form = form.Single; text = text }
+
 -- A text in parentheses.
 abbrev pub bracketed : List ℕ → List ℕ
 bracketed text = codes "(" ++ text ++ codes ")"
 
--- A part of a union: a union stands in parentheses.
-abbrev pub union_part_from : Form → List ℕ → List ℕ
-union_part_from form.Single text = text
-union_part_from form.Summed text = bracketed text
-union_part_from form.Multiplied text = text
+-- Whether a part of a union or a product stands in parentheses: a union always, and a product in a product.
+abbrev pub is_bracketed : (within part : Form) → Bool
+is_bracketed within form.Single = false
+is_bracketed within form.Summed = true
+is_bracketed form.Single form.Multiplied = false
+is_bracketed form.Summed form.Multiplied = false
+is_bracketed form.Multiplied form.Multiplied = true
 
--- A part of a product: a union and a product stand in parentheses.
-abbrev pub product_part_from : Form → List ℕ → List ℕ
-product_part_from form.Single text = text
-product_part_from form.Summed text = bracketed text
-product_part_from form.Multiplied text = bracketed text
-
--- The text of a union's part.
-abbrev pub union_part : Shown → List ℕ
-union_part p = union_part_from p.form p.text
-
--- The text of a product's part.
-abbrev pub product_part : Shown → List ℕ
-product_part p = product_part_from p.form p.text
+-- The text of a part of a union or a product.
+abbrev pub part_text : (within : Form) → Shown → List ℕ
+part_text within part = if is_bracketed within part.form then bracketed part.text else part.text
 
 -- Texts with a separator between each two of them.
 abbrev pub separated : (by : List ℕ) → List (List ℕ) → List ℕ
@@ -43,7 +38,7 @@ separated by (t ∷ u ∷ ts) = t ++ by ++ separated by (u ∷ ts)
 
 -- What is shown of the node at a place.
 abbrev pub shown_at : List Shown → ℕ → Shown
-shown_at shown i = unwrap_or (slice_get shown i) (record { form = form.Single; text = [] })
+shown_at shown i = unwrap_or (slice_get shown i) (single [])
 
 -- A leaf: its letter, and its word where it has one.
 abbrev pub leaf_text : (letter word : List ℕ) → List ℕ
@@ -59,16 +54,20 @@ bound_text plain low (Some high) = if nat_eq low high then codes "=" ++ decimal 
 abbrev pub counted_text : (operator : List ℕ) → (plain : ℕ) → Range → (part : Shown) → List ℕ
 counted_text operator plain range part = operator ++ bound_text plain range.low range.high ++ bracketed part.text
 
+-- A union or a product: the texts of its parts with a separator between each two of them.
+abbrev pub joined : (kind : Form) → (separator : List ℕ) → (before : List Shown) → (parts : List ℕ) → Shown
+joined kind separator before parts = record { form = kind; text = separated separator (map (λ part. part_text kind (shown_at before part)) parts) }
+
 -- What is shown of a node, from what is shown of the nodes before it.
 abbrev pub node_shown : (names : List (List ℕ)) → (before : List Shown) → Node → Range → Shown
-node_shown names before (Node.Empty word) range = record { form = form.Single; text = leaf_text (codes "E") word }
-node_shown names before (Node.Atom word) range = record { form = form.Single; text = leaf_text (codes "Z") word }
-node_shown names before (Node.Class c) range = record { form = form.Single; text = unwrap_or (slice_get names c) [] }
-node_shown names before (Node.Union parts) range = record { form = form.Summed; text = separated (codes " + ") (map (λ p. union_part (shown_at before p)) parts) }
-node_shown names before (Node.Product parts) range = record { form = form.Multiplied; text = separated (codes "*") (map (λ p. product_part (shown_at before p)) parts) }
-node_shown names before (Node.Seq part) range = record { form = form.Single; text = counted_text (codes "Seq") 0 range (shown_at before part) }
-node_shown names before (Node.Set part) range = record { form = form.Single; text = counted_text (codes "Set") 0 range (shown_at before part) }
-node_shown names before (Node.Cyc part) range = record { form = form.Single; text = counted_text (codes "Cyc") 1 range (shown_at before part) }
+node_shown names before (Node.Empty word) range = single (leaf_text (codes "E") word)
+node_shown names before (Node.Atom word) range = single (leaf_text (codes "Z") word)
+node_shown names before (Node.Class c) range = single (unwrap_or (slice_get names c) [])
+node_shown names before (Node.Union parts) range = joined form.Summed (codes " + ") before parts
+node_shown names before (Node.Product parts) range = joined form.Multiplied (codes "*") before parts
+node_shown names before (Node.Seq part) range = single (counted_text (codes "Seq") 0 range (shown_at before part))
+node_shown names before (Node.Set part) range = single (counted_text (codes "Set") 0 range (shown_at before part))
+node_shown names before (Node.Cyc part) range = single (counted_text (codes "Cyc") 1 range (shown_at before part))
 
 -- What is shown of all nodes.
 abbrev pub all_shown : Spec → List Shown
@@ -80,9 +79,13 @@ mode_word Mode.Unlabelled = codes "unlabelled"
 mode_word Mode.Labelled = codes "labelled"
 
 -- A class's line: its name, `=`, the text of its body, and a line feed.
+abbrev pub class_text : (name : List ℕ) → (body : Shown) → List ℕ
+class_text name body = name ++ codes " = " ++ body.text ++ 10 ∷ []
+
+-- The line of a class, from its name and the number of its body.
 abbrev pub class_line : (shown : List Shown) → List ℕ × ℕ → List ℕ
-class_line shown p = p.0 ++ codes " = " ++ (shown_at shown p.1).text ++ codes "\n"
+class_line shown p = class_text p.0 (shown_at shown p.1)
 
 -- The canonical text: the mode's line, and a line for each class.
 abbrev pub canonical_text : Spec → List ℕ
-canonical_text s = mode_word s.mode ++ codes "\n" ++ flat_map (class_line (all_shown s)) (zip s.names s.bodies)
+canonical_text s = mode_word s.mode ++ 10 ∷ [] ++ flat_map (class_line (all_shown s)) (zip s.names s.bodies)

@@ -1,9 +1,13 @@
 -- What the calls of a draft do to it.
-use Rattle.std.specs.Prelude.{◌≡◌, ℕ, List, [], ◌∷◌, ◌++◌, length, Some, slice_get}
-use Rattle.bz_model.specs.Spec.{Spec, Node, Range}
+use Rattle.std.specs.Prelude.{◌≡◌, ℕ, List, [], ◌∷◌, ◌++◌, Some, slice_get}
+use Rattle.bz_model.specs.Spec.{Spec, Mode, Node, Range}
 use Rattle.class_system.specs.Distinct.{IsMissing}
 use Rattle.class_system.specs.declared.draft.ClassFault.{ClassFault}
 use Rattle.class_system.specs.declared.draft.ClassFault.TheVariants.{Twice, OutOfMemory}
+
+-- A specification without classes and nodes.
+abbrev pub empty_draft : Mode → Spec
+empty_draft mode = record { mode = mode; names = []; bodies = []; nodes = []; ranges = [] }
 
 -- The specification with one more class name.
 abbrev pub with_name : Spec → List ℕ → Spec

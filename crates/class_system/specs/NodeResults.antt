@@ -1,5 +1,5 @@
 -- Results for all nodes in order, each from the results for the nodes before it.
-use Rattle.std.specs.Prelude.{ℕ, List, [], ◌∷◌, ◌++◌, zip}
+use Rattle.std.specs.Prelude.{List, [], ◌∷◌, ◌++◌, zip}
 use Rattle.bz_model.specs.Spec.{Spec, Node, Range}
 
 -- Each node with its range.

@@ -1,5 +1,5 @@
 -- When a specification is sound: what a reader of text guarantees of the tables that it builds.
-use Rattle.std.specs.Prelude.{◌≡◌, ℕ, ◌<◌, ◌≤◌, List, length, Option, Some, None}
+use Rattle.std.specs.Prelude.{◌≡◌, ℕ, ◌<◌, ◌≤◌, length, Some, None}
 use Rattle.bz_model.specs.Spec.{Spec, Mode, Node, Range}
 use Rattle.class_system.specs.Each.{Each, EachPair}
 use Rattle.class_system.specs.NodeOrder.{SpanEach}

@@ -3,7 +3,7 @@ ghost use Rattle.std.specs.Prelude.{◌≡◌, ◌<◌, ◌≤◌, ◌^◌, [], 
 ghost use Rattle.bz_model.specs.Spec.{Spec, node_at, range_at, body_of, plain_range};
 ghost use Rattle.class_system.specs.Views.{spec_node, number, spec_range, spec_mode};
 ghost use Rattle.class_system.specs.Distinct.{IsMissing, AreDistinct};
-ghost use Rattle.class_system.specs.Drafting.{with_name, with_node, with_body, IsCountedNode, IsNameFault};
+ghost use Rattle.class_system.specs.Drafting.{empty_draft, with_name, with_node, with_body, IsCountedNode, IsNameFault};
 
 use crate::expr::{Expr, Nodes};
 use crate::ids::{ClassId, ExprId, Parts};
@@ -58,11 +58,7 @@ impl Model for Draft {
 impl Draft {
     /// A draft without classes and nodes. Takes no memory.
     pub fn new(alloc: Global, mode: Mode) -> Draft
-        ensures mode { result.mode ≡ spec_mode mode }
-        ensures names { result.names ≡ [] }
-        ensures bodies { result.bodies ≡ [] }
-        ensures nodes { result.nodes ≡ [] }
-        ensures ranges { result.ranges ≡ [] }
+        ensures empty { result ≡ empty_draft (spec_mode mode) }
     {
         Draft {
             mode,

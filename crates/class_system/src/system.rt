@@ -4,15 +4,17 @@ ghost use Rattle.bz_model.specs.Spec.{Spec, node_at, range_at, body_of};
 ghost use Rattle.class_system.specs.Views.{spec_node, number, spec_range, spec_mode};
 ghost use Rattle.class_system.specs.Distinct.{IsMissing, AreDistinct};
 ghost use Rattle.class_system.specs.Sound.{IsSound};
+ghost use Rattle.class_system.specs.CanonicalText.{canonical_text};
 ghost use Rattle.class_system.specs.Limits.{IsWithinLimits, TellsLimit};
 
+use crate::canonical;
 use crate::draft::{Draft, Mode};
 use crate::expr::Expr;
 use crate::ids::{ClassId, ExprId};
 use crate::limits::{BuildFault, test_limits};
 use crate::ranges::Range;
 use bz_outside::word::Word;
-use std::alloc::Global;
+use std::alloc::{AllocError, Global};
 use std::marker::Model;
 
 /// A sound specification within the limits, seen as plain data.
@@ -137,5 +139,15 @@ impl System {
         ensures ranges { map spec_range result.now ≡ self.now.ranges }
     {
         self.content.ranges()
+    }
+
+    /// The canonical text: the mode, and a line for each class with its sum.
+    ///
+    /// Parentheses stand exactly round a union that is a part of a union or product, and round a
+    /// product that is a part of a product.
+    pub fn to_text(&self) -> Result<Vec<u8>, AllocError>
+        ensures text { IfOk result (λ text. text.items ≡ canonical_text self.now) }
+    {
+        canonical::print(self.content.allocator(), &self.content)
     }
 }

@@ -1,4 +1,4 @@
-use Rattle.std.proofs.Common.{◌<◌, ◌≡◌, arith, length, map, slice_index, slice_get, get_or}
+use Rattle.std.proofs.Common.{◌<◌, arith, length, map, slice_index, get_or}
 use Rattle.class_system.specs.Views.{number}
 use Rattle.class_system.proofs.Results.{mapped-at}
 use Rattle.class_system.proofs.Depths.{greatest-more, index_le}
