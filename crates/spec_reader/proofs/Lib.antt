@@ -7,3 +7,4 @@ pub mod Numbering
 pub mod Standing
 pub mod ClassNumbers
 pub mod Taking
+pub mod NamesSeen

@@ -4,7 +4,8 @@ use Rattle.spec_reader.specs.declared.tokens.Token.{Token}
 use Rattle.spec_reader.specs.declared.tokens.Placed.{Placed}
 use Rattle.spec_reader.specs.declared.sums.Expects.{Expects}
 use Rattle.spec_reader.specs.Machine.{State, Lines, Named, Want, Counts, Signed, Bounded, Have, Done, Failed, Before, step, run}
-use Rattle.spec_reader.specs.Building.{Kept, Represents, Leads, StopsAt, plain_tokens}
+use Rattle.spec_reader.specs.Reading.{plain_tokens}
+use Rattle.spec_reader.specs.Building.{Kept, Represents, Leads, StopsAt}
 use Rattle.spec_reader.proofs.Viable.{run-append}
 
 -- a state that another is stands for it

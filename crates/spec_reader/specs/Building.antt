@@ -11,6 +11,7 @@ use Rattle.spec_reader.specs.declared.sums.Sums as code_sums
 use Rattle.spec_reader.specs.declared.sums.Expects.{Expects}
 use Rattle.spec_reader.specs.declared.tokens.Token.{Token}
 use Rattle.spec_reader.specs.declared.tokens.Placed.{Placed}
+use Rattle.spec_reader.specs.Reading.{plain_tokens}
 use Rattle.spec_reader.specs.Grammar.{Term, terms}
 use Rattle.spec_reader.specs.Machine.{Frame, Wrap, bare, over, Outer, Before, Place, State, Lines, Named, Want, Counts, Signed, Bounded, Have, Done, Failed, run}
 use Rattle.spec_reader.specs.Tables.{Row, with_term, with_terms, numbers, bodies_of, class_number, counted_node}
@@ -145,10 +146,6 @@ wrapped_number s (over c r) sum = length s.nodes
 pub record EndsSum (before : Spec) (products factors : List ℕ) (now : Spec) (sum : ℕ) : Type 0 where
   pub draft_is : now ≡ joined Node.Union (joined Node.Product before factors) (products ++ joined_number before factors ∷ [])
   pub number_is : sum ≡ joined_number (joined Node.Product before factors) (products ++ joined_number before factors ∷ [])
-
--- The tokens without their places.
-abbrev pub plain_tokens : List Placed → List Token
-plain_tokens ts = map (λ t. t.token) ts
 
 -- The machine goes through the tokens up to the first that fails it, or through all of them.
 abbrev pub StopsAt : List (List ℕ) → State → List Placed → Option ℕ → Expects → Kept → Type 0

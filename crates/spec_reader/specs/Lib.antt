@@ -3,4 +3,6 @@ pub mod Tokens
 pub mod Grammar
 pub mod Machine
 pub mod Tables
+pub mod Faults
+pub mod Reading
 pub mod Building

@@ -3,7 +3,9 @@
 //! From bytes to tokens (`specs/Tokens.antt`), from tokens to definitions (`specs/Grammar.antt`).
 #![tactic(auto)]
 
+pub mod fault;
 pub mod lexer;
+pub mod names;
 pub mod reader;
 pub mod sums;
 pub mod tokens;

@@ -1,6 +1,7 @@
 use Rattle.std.proofs.Common.{◌≡◌, ◌+◌, ◌*◌, ◌≤◌, ℕ, List, length, take, subst, sym, ◌∙◌, arith}
 use Rattle.spec_reader.specs.Machine.{State, run, step}
-use Rattle.spec_reader.specs.Building.{kept, Represents, Leads, plain_tokens}
+use Rattle.spec_reader.specs.Reading.{plain_tokens}
+use Rattle.spec_reader.specs.Building.{kept, Represents, Leads}
 use Rattle.spec_reader.proofs.Taking.{represented, run_one_more}
 use Rattle.spec_reader.proofs.reader.Reader.take_all.Goals as goal
 

@@ -1,6 +1,7 @@
 use Rattle.std.proofs.Common.{◌≡◌, ◌≤◌, ◌+◌, ◌*◌, ℕ, List, length, take}
 use Rattle.spec_reader.specs.Machine.{State, run}
-use Rattle.spec_reader.specs.Building.{kept, Represents, plain_tokens}
+use Rattle.spec_reader.specs.Reading.{plain_tokens}
+use Rattle.spec_reader.specs.Building.{kept, Represents}
 use Rattle.spec_reader.proofs.reader.Reader.take_all.Given as goal
 
 abbrev pub invariant-loop-i : goal.invariant-loop-i
