@@ -1,6 +1,6 @@
 -- What the reader of tokens keeps: the tables so far, and the numbers of the parts that are read.
 use Rattle.std.specs.Prelude.{◌≡◌, ◌≢◌, ℕ, ◌+◌, ◌<◌, take, Option, Some, Bool, true, false, List, [], ◌∷◌, ◌++◌, length, map, None}
-use Rattle.bz_model.specs.Spec.{Spec, Node, Range}
+use Rattle.bz_model.specs.Spec.{Spec, Mode, Node, Range}
 use Rattle.class_system.specs.Drafting.{with_node}
 use Rattle.class_system.specs.Views.{number, spec_range}
 use Rattle.spec_reader.specs.declared.tokens.Counting.{Counting}
@@ -9,10 +9,12 @@ use Rattle.spec_reader.specs.declared.sums.Outer as code_outer
 use Rattle.spec_reader.specs.declared.sums.Wrap as code_wrap
 use Rattle.spec_reader.specs.declared.sums.Sums as code_sums
 use Rattle.spec_reader.specs.declared.sums.Expects.{Expects}
+use Rattle.spec_reader.specs.declared.reading.Stop.{Stop}
 use Rattle.spec_reader.specs.declared.tokens.Token.{Token}
 use Rattle.spec_reader.specs.declared.tokens.Placed.{Placed}
 use Rattle.spec_reader.specs.Reading.{plain_tokens}
-use Rattle.spec_reader.specs.Grammar.{Term, terms}
+use Rattle.spec_reader.specs.Faults.{with_names, line_names}
+use Rattle.spec_reader.specs.Grammar.{Term, Definition, terms}
 use Rattle.spec_reader.specs.Machine.{Frame, Wrap, bare, over, Outer, Before, Place, State, Lines, Named, Want, Counts, Signed, Bounded, Have, Done, Failed, run}
 use Rattle.spec_reader.specs.Tables.{Row, with_term, with_terms, numbers, bodies_of, class_number, counted_node}
 
@@ -147,7 +149,37 @@ pub record EndsSum (before : Spec) (products factors : List ℕ) (now : Spec) (s
   pub draft_is : now ≡ joined Node.Union (joined Node.Product before factors) (products ++ joined_number before factors ∷ [])
   pub number_is : sum ≡ joined_number (joined Node.Product before factors) (products ++ joined_number before factors ∷ [])
 
+-- The machine has not failed before the token at a place, and has failed behind it.
+pub record FailsAt (s : State) (ts : List Placed) (place : ℕ) : Type 0 where
+  pub within : place < length ts
+  pub goes_on : run s (plain_tokens (take place ts)) ≢ Failed
+  pub fails : run s (plain_tokens (take (place + 1) ts)) ≡ Failed
+
 -- The machine goes through the tokens up to the first that fails it, or through all of them.
 abbrev pub StopsAt : List (List ℕ) → State → List Placed → Option ℕ → Expects → Kept → Type 0
 StopsAt names s ts None e k = Represents names (run s (plain_tokens ts)) e k
-StopsAt names s ts (Some i) e k = (i < length ts) × (run s (plain_tokens (take i ts)) ≢ Failed) × (run s (plain_tokens (take (i + 1) ts)) ≡ Failed)
+StopsAt names s ts (Some place) e k = FailsAt s ts place
+
+-- The last token is the end of the text.
+pub record IsEnded (ts : List Placed) : Type 0 where
+  pub front : List Placed
+  pub last : Placed
+  pub is : ts ≡ front ++ last ∷ []
+  pub ends : last.token ≡ Token.TextEnd
+
+-- The machine reads tokens to the end, and these are the tables.
+pub record IsParsed (mode : Mode) (ts : List Placed) (draft : Spec) : Type 0 where
+  pub names : List (List ℕ)
+  pub names_are : names ≡ with_names [] (line_names true (plain_tokens ts))
+  pub definitions : List Definition
+  pub read : run (Lines (record { mode = mode; definitions = [] })) (plain_tokens ts) ≡ Done (record { mode = mode; definitions = definitions })
+  pub draft_is : draft ≡ drafted names (record { mode = mode; definitions = definitions }) (line_rows names (record { mode = mode; definitions = definitions }))
+
+-- A draft has the names that begin lines, each once, and nothing else.
+abbrev pub IsNamed : Mode → List Placed → Spec → Type 0
+IsNamed mode ts draft = draft ≡ record { mode = mode; names = with_names [] (line_names true (plain_tokens ts)); bodies = []; nodes = []; ranges = [] }
+
+-- Why lines give no tables.
+abbrev pub IsStop : Mode → List Placed → Stop → Type 0
+IsStop mode ts (Stop.At place) = FailsAt (Lines (record { mode = mode; definitions = [] })) ts place
+IsStop mode ts Stop.OutOfMemory = Unit {0}

@@ -7,5 +7,6 @@ pub mod fault;
 pub mod lexer;
 pub mod names;
 pub mod reader;
+pub mod reading;
 pub mod sums;
 pub mod tokens;

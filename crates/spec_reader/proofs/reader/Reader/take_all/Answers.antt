@@ -15,7 +15,7 @@ returns-then-not-branch c = record {
       let led = c.in_ok-take.ensures.read names before here in
       let token = c.index-tokens-i.result in
       let fails = subst (λ b. Leads names (step before token.token) b c.take.new.self.expects (kept c.take.new.self.sums)) c.if-not-branch.true led in
-      (c.loop-i-test.true, represented names before c.loop-i.self.expects (kept c.loop-i.self.sums) here, run_one_more s tokens i token c.loop-i-test.true c.index-tokens-i.is ∙ fails);
+      record { within = c.loop-i-test.true; goes_on = represented names before c.loop-i.self.expects (kept c.loop-i.self.sums) here; fails = run_one_more s tokens i token c.loop-i-test.true c.index-tokens-i.is ∙ fails };
 }
 
 pub loop-i-preserved : goal.loop-i-preserved
