@@ -8,3 +8,5 @@ pub mod Standing
 pub mod ClassNumbers
 pub mod Taking
 pub mod NamesSeen
+pub mod Parsing
+pub mod Faulting

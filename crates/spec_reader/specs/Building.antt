@@ -14,8 +14,8 @@ use Rattle.spec_reader.specs.declared.tokens.Token.{Token}
 use Rattle.spec_reader.specs.declared.tokens.Placed.{Placed}
 use Rattle.spec_reader.specs.Reading.{plain_tokens}
 use Rattle.spec_reader.specs.Faults.{with_names, line_names}
-use Rattle.spec_reader.specs.Grammar.{Term, Definition, terms}
-use Rattle.spec_reader.specs.Machine.{Frame, Wrap, bare, over, Outer, Before, Place, State, Lines, Named, Want, Counts, Signed, Bounded, Have, Done, Failed, run}
+use Rattle.spec_reader.specs.Grammar.{Term, terms}
+use Rattle.spec_reader.specs.Machine.{Frame, Wrap, bare, over, Outer, Before, Place, State, Start, Lines, Named, Want, Counts, Signed, Bounded, Have, Done, Failed, run}
 use Rattle.spec_reader.specs.Tables.{Row, with_term, with_terms, numbers, bodies_of, class_number, counted_node}
 
 -- What is kept of a sum around the one that is read.
@@ -167,13 +167,13 @@ pub record IsEnded (ts : List Placed) : Type 0 where
   pub is : ts ≡ front ++ last ∷ []
   pub ends : last.token ≡ Token.TextEnd
 
--- The machine reads tokens to the end, and these are the tables.
+-- The machine reads lines to the end, and these are the tables.
 pub record IsParsed (mode : Mode) (ts : List Placed) (draft : Spec) : Type 0 where
   pub names : List (List ℕ)
   pub names_are : names ≡ with_names [] (line_names true (plain_tokens ts))
-  pub definitions : List Definition
-  pub read : run (Lines (record { mode = mode; definitions = [] })) (plain_tokens ts) ≡ Done (record { mode = mode; definitions = definitions })
-  pub draft_is : draft ≡ drafted names (record { mode = mode; definitions = definitions }) (line_rows names (record { mode = mode; definitions = definitions }))
+  pub before : Before
+  pub read : run (Lines (record { mode = mode; definitions = [] })) (plain_tokens ts) ≡ Done before
+  pub draft_is : draft ≡ drafted names before (line_rows names before)
 
 -- A draft has the names that begin lines, each once, and nothing else.
 abbrev pub IsNamed : Mode → List Placed → Spec → Type 0
@@ -183,3 +183,8 @@ IsNamed mode ts draft = draft ≡ record { mode = mode; names = with_names [] (l
 abbrev pub IsStop : Mode → List Placed → Stop → Type 0
 IsStop mode ts (Stop.At place) = FailsAt (Lines (record { mode = mode; definitions = [] })) ts place
 IsStop mode ts Stop.OutOfMemory = Unit {0}
+
+-- Why a text gives no tables, where its lines begin behind two tokens.
+abbrev pub IsStopOf : List Placed → Stop → Type 0
+IsStopOf ts (Stop.At place) = FailsAt Start ts (place + 2)
+IsStopOf ts Stop.OutOfMemory = Unit {0}

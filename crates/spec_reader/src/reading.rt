@@ -3,7 +3,7 @@ ghost use Rattle.std.specs.Prelude.{◌≡◌, ◌^◌, ◌<◌, ◌≤◌, ◌+
 ghost use Rattle.class_system.specs.Views.{spec_mode};
 ghost use Rattle.spec_reader.specs.Machine.{Start, Moded, Lines, Failed, step, run, mode_read};
 ghost use Rattle.spec_reader.specs.Reading.{plain_tokens, StandFor, TokensFault};
-ghost use Rattle.spec_reader.specs.Building.{FailsAt, IsEnded, IsParsed, IsNamed, IsStop};
+ghost use Rattle.spec_reader.specs.Building.{FailsAt, IsEnded, IsParsed, IsNamed, IsStop, IsStopOf};
 
 use class_system::draft::{Draft, Mode};
 use std::alloc::{AllocError, Global};
@@ -80,6 +80,18 @@ enum Stop {
     OutOfMemory,
 }
 
+/// The fault of a stop in the lines, which begin behind two tokens.
+fn stop_fault(tokens: &[Placed], stop: Stop) -> SpecFault
+    requires few { length tokens.now < 2 ^ 24 }
+    requires stops { IsStopOf tokens.now stop }
+    ensures fault { TokensFault tokens.now result }
+{
+    match stop {
+        Stop::At(place) => syntax_at(tokens, place + 2),
+        Stop::OutOfMemory => SpecFault::OutOfMemory,
+    }
+}
+
 /// A draft with the names that begin lines.
 fn named_draft(alloc: Global, mode: Mode, lines: &[Placed]) -> Result<Draft, AllocError>
     requires few { length lines.now < 2 ^ 24 }
@@ -129,8 +141,7 @@ fn read_tokens(alloc: Global, tokens: &[Placed]) -> Result<Draft, SpecFault>
     let lines = &tokens[2..];
     let draft = match parse(alloc, mode, lines) {
         Ok(draft) => draft,
-        Err(Stop::At(place)) => return Err(syntax_at(tokens, place + 2)),
-        Err(Stop::OutOfMemory) => return Err(SpecFault::OutOfMemory),
+        Err(stop) => return Err(stop_fault(tokens, stop)),
     };
     match names::first_fault(alloc, &draft, lines) {
         Ok(None) => Ok(draft),
