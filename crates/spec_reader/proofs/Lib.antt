@@ -10,3 +10,4 @@ pub mod Taking
 pub mod NamesSeen
 pub mod Parsing
 pub mod Faulting
+pub mod Texts
