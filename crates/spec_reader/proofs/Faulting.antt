@@ -69,7 +69,7 @@ pub fault_same : (m : Mode) (defined others before : List (List ℕ)) → ((w : 
 fault_same m defined others before same starts [] = refl
 fault_same m defined others before same starts (p ∷ ps) = rw (at_same m defined others before same starts p.token p.line p.column, fault_same m defined others (with_names before (defined_by starts p.token)) same (ends_line p.token) ps) refl
 
-none_both : (a b : Option SpecFault) → first_of a b ≡ None → (a ≡ None) × (b ≡ None)
+pub none_both : (a b : Option SpecFault) → first_of a b ≡ None → (a ≡ None) × (b ≡ None)
 none_both (Some f) b e = absurd (cc)
 none_both None b e = (refl, e)
 

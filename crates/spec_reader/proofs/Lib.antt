@@ -11,3 +11,6 @@ pub mod NamesSeen
 pub mod Parsing
 pub mod Faulting
 pub mod Texts
+pub mod Lexical
+pub mod Terms
+pub mod Sounds

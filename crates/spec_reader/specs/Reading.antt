@@ -82,3 +82,8 @@ Refuses bytes (SpecFault.TooLong len) = (len ≡ length bytes) × (65536 < lengt
 Refuses bytes (SpecFault.NotText place) = (length bytes ≤ 65536) × (position (λ b. not (is_text b)) bytes ≡ Some place)
 Refuses bytes (SpecFault.Limit fault) = LimitFault bytes fault
 Refuses bytes fault = IsReadable bytes × TokensFault (tokens_of bytes) fault
+
+-- How a limit is told; want of memory is none.
+abbrev pub limit_fault : BuildFault → SpecFault
+limit_fault BuildFault.OutOfMemory = SpecFault.OutOfMemory
+limit_fault fault = SpecFault.Limit fault

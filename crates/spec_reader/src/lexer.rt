@@ -1,6 +1,6 @@
 //! From bytes to tokens.
-ghost use Rattle.std.specs.Prelude.{◌≡◌, ◌==◌, ℕ, ◌+◌, ◌≤◌, ◌<◌, ◌∷◌, ◌++◌, ◌^◌, [], true, IfOk, not, length, position, take, drop, slice_index, OnOk, IsTrue};
-ghost use Rattle.std.specs.List.{list_all, prefix_len, take_while};
+ghost use Rattle.std.specs.Prelude.{◌≡◌, ◌==◌, ℕ, ◌+◌, ◌≤◌, ◌<◌, ◌∷◌, ◌++◌, ◌^◌, [], true, IfOk, IfNone, not, length, position, take, drop, slice_index, OnOk, IsTrue};
+ghost use Rattle.std.specs.List.{list_all, prefix_len, take_while, AllPass};
 ghost use Rattle.spec_reader.specs.Bytes as byte;
 ghost use Rattle.spec_reader.specs.Tokens as text;
 
@@ -11,6 +11,7 @@ use std::alloc::{AllocError, Global};
 /// The offset of the first byte that isn't text. Takes no memory.
 pub fn first_not_text(bytes: &[u8]) -> Option<usize>
     ensures exact { result ≡ position (λ b. not (byte.is_text b)) bytes.now }
+    ensures none { IfNone result (AllPass byte.is_text bytes.now) }
 {
     bytes.iter().position(|b| !is_text(*b))
 }
@@ -30,7 +31,7 @@ fn is_blank(b: u8) -> bool
 fn is_digit(b: u8) -> bool
     ensures exact { result ≡ byte.is_digit b }
 {
-    b'0' <= b && b <= b'9'
+    b.is_ascii_digit()
 }
 
 fn are_digits(bytes: &[u8]) -> bool
@@ -42,13 +43,13 @@ fn are_digits(bytes: &[u8]) -> bool
 fn is_letter(b: u8) -> bool
     ensures exact { result ≡ byte.is_letter b }
 {
-    b'A' <= b && b <= b'Z' || b'a' <= b && b <= b'z'
+    b.is_ascii_alphabetic()
 }
 
 fn is_run_byte(b: u8) -> bool
     ensures exact { result ≡ byte.is_run_byte b }
 {
-    is_letter(b) || is_digit(b) || b == b'_'
+    b.is_ascii_alphanumeric() || b == b'_'
 }
 
 /// How many bytes of a run stand in front.

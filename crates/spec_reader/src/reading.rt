@@ -1,18 +1,25 @@
 //! From the bytes of a text to a system.
-ghost use Rattle.std.specs.Prelude.{◌≡◌, ◌^◌, ◌<◌, ◌≤◌, ◌+◌, [], take, length, IfOk, IfErr, IfSome, IfNone};
+ghost use Rattle.std.specs.Prelude.{◌≡◌, ◌^◌, ◌<◌, ◌≤◌, ◌+◌, [], take, length, IfOk, IfErr, IfSome, IfNone, OnOk};
 ghost use Rattle.class_system.specs.Views.{spec_mode};
+ghost use Rattle.class_system.specs.Limits.{IsWithinLimits};
 ghost use Rattle.spec_reader.specs.Machine.{Start, Moded, Lines, Failed, step, run, mode_read};
-ghost use Rattle.spec_reader.specs.Reading.{plain_tokens, StandFor, TokensFault};
+ghost use Rattle.spec_reader.specs.Reading.{plain_tokens, StandFor, TokensFault, Grammar, Refuses, limit_fault};
 ghost use Rattle.spec_reader.specs.Building.{FailsAt, IsEnded, IsParsed, IsNamed, IsStop, IsStopOf};
 
 use class_system::draft::{Draft, Mode};
+use class_system::limits::BuildFault;
+use class_system::system::System;
 use std::alloc::{AllocError, Global};
 
 use crate::fault::SpecFault;
+use crate::lexer;
 use crate::names;
 use crate::reader::Reader;
 use crate::sums::{Expects, Frame, Sums};
 use crate::tokens::{Placed, Token};
+
+/// The most bytes of a text.
+const MOST_BYTES: usize = 65_536;
 
 /// The mode that a word names.
 fn mode_named(word: &[u8]) -> Option<Mode>
@@ -147,5 +154,49 @@ fn read_tokens(alloc: Global, tokens: &[Placed]) -> Result<Draft, SpecFault>
         Ok(None) => Ok(draft),
         Ok(Some(fault)) => Err(fault),
         Err(_) => Err(SpecFault::OutOfMemory),
+    }
+}
+
+/// The fault of a broken limit.
+fn limit_fault(fault: BuildFault) -> SpecFault
+    ensures exact { result ≡ limit_fault fault }
+{
+    match fault {
+        BuildFault::OutOfMemory => SpecFault::OutOfMemory,
+        BuildFault::TooManyClasses { .. }
+        | BuildFault::TooManyParts { .. }
+        | BuildFault::TooDeep { .. }
+        | BuildFault::TooManyNodes { .. } => SpecFault::Limit(fault),
+    }
+}
+
+/// Reads the text of a specification.
+///
+/// The refusals are tested in the order in which `SpecFault` has them, a whole text's `Syntax` before
+/// its first `Undefined`, `Twice` or `NeedsLabels`. `OutOfMemory` may come at any point.
+pub fn read_spec(alloc: Global, bytes: &[u8]) -> Result<System, SpecFault>
+    ensures read { IfOk result (Grammar bytes.now) }
+    ensures few { OnOk result (length bytes.now ≤ 65536) }
+    ensures limits { IfOk result IsWithinLimits }
+    ensures refused { IfErr result (Refuses bytes.now) }
+{
+    if bytes.len() > MOST_BYTES {
+        let len = bytes.len() as u64;
+        return Err(SpecFault::TooLong { len });
+    }
+    if let Some(place) = lexer::first_not_text(bytes) {
+        let place = place as u64;
+        return Err(SpecFault::NotText { place });
+    }
+    let Ok(tokens) = lexer::tokens(alloc, bytes) else {
+        return Err(SpecFault::OutOfMemory);
+    };
+    let draft = match read_tokens(alloc, tokens.as_slice()) {
+        Ok(draft) => draft,
+        Err(fault) => return Err(fault),
+    };
+    match System::build(alloc, draft) {
+        Ok(system) => Ok(system),
+        Err(fault) => Err(limit_fault(fault)),
     }
 }
