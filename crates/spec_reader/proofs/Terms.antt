@@ -119,29 +119,29 @@ bound_good m names (exactly {k = k}) g = record { range = IsTextRange.exactly k 
 
 mutual
   sum_good : {ts rest : List Token} {ps : List Term} (m : Mode) (names : List (List ℕ)) → Sum ts ps rest → Good m names false ts → GoodSome m names ps rest
-  sum_good m names (summed {us = us} p more) g =
+  sum_good m names (summed {us = us} p later) g =
       let one = product_good m names p g in
-      let others = products_good m names more one.left in
+      let others = products_good m names later one.left in
       record { some = omega arith; each = (product_of_good m names us one.some one.each, others.each); left = others.left }
 
   products_good : {ts rest : List Token} {ps : List Term} (m : Mode) (names : List (List ℕ)) → MoreProducts ts ps rest → Good m names false ts → GoodMany m names ps rest
   products_good m names no_products g = record { each = tt; left = g }
-  products_good m names (next_product {us = us} p more) g =
+  products_good m names (next_product {us = us} p later) g =
       let one = product_good m names p g.1 in
-      let others = products_good m names more one.left in
+      let others = products_good m names later one.left in
       record { each = (product_of_good m names us one.some one.each, others.each); left = others.left }
 
   product_good : {ts rest : List Token} {us : List Term} (m : Mode) (names : List (List ℕ)) → Product ts us rest → Good m names false ts → GoodSome m names us rest
-  product_good m names (multiplied f more) g =
+  product_good m names (multiplied f later) g =
       let one = factor_good m names f g in
-      let others = factors_good m names more one.left in
+      let others = factors_good m names later one.left in
       record { some = omega arith; each = (one.term, others.each); left = others.left }
 
   factors_good : {ts rest : List Token} {us : List Term} (m : Mode) (names : List (List ℕ)) → MoreFactors ts us rest → Good m names false ts → GoodMany m names us rest
   factors_good m names no_factors g = record { each = tt; left = g }
-  factors_good m names (next_factor f more) g =
+  factors_good m names (next_factor f later) g =
       let one = factor_good m names f g.1 in
-      let others = factors_good m names more one.left in
+      let others = factors_good m names later one.left in
       record { each = (one.term, others.each); left = others.left }
 
   factor_good : {ts rest : List Token} {t : Term} (m : Mode) (names : List (List ℕ)) → Factor ts t rest → Good m names false ts → GoodOne m names t rest
@@ -162,10 +162,10 @@ GoodDefinitions m names (d ∷ ds) = IsName d.name × GoodTerm m names d.body ×
 
 definitions_good : {ts : List Token} {ds : List Definition} (m : Mode) (names : List (List ℕ)) → Definitions ts ds → Good m names true ts → GoodDefinitions m names ds
 definitions_good m names text_end g = tt
-definitions_good m names (defined {ps = ps} s more) g =
+definitions_good m names (defined {ps = ps} s later) g =
     let inner = sum_good m names s g.1.1 in
-    (g.0, sum_of_good m names ps inner.some inner.each, definitions_good m names more inner.left.1)
+    (g.0, sum_of_good m names ps inner.some inner.each, definitions_good m names later inner.left.1)
 
 -- the definitions of a text of good tokens
 pub text_good : {ts : List Token} {k : Mode} {ds : List Definition} (m : Mode) (names : List (List ℕ)) → IsText ts k ds → Good m names true (drop 2 ts) → (0 < length ds) × GoodDefinitions m names ds
-text_good m names (text more) g = (omega arith, definitions_good m names more g)
+text_good m names (text later) g = (omega arith, definitions_good m names later g)
