@@ -80,13 +80,13 @@ run_lexical run bytes =
     either IsLexical (is_same run (codes "Set")) _ _ (λ _. tt) (λ s.
     either IsLexical (is_same run (codes "Cyc")) _ _ (λ _. tt) (λ y.
     either IsLexical (begins_with_letter run && nat_le (length run) 32) _ _ (λ n.
-        let both = both_of (begins_with_letter run) (nat_le (length run) 32) n in
-        record {
-          letter = first_letter run both.0;
-          few = le_of (length run) 32 both.1;
-          run = AllPass-from_list_all is_run_byte run bytes;
-          free = (other_text run (codes "E") e, (other_text run (codes "Z") z, (other_text run (codes "Seq") q, (other_text run (codes "Set") s, (other_text run (codes "Cyc") y, tt)))));
-        }) (λ _. tt)))))))
+    let both = both_of (begins_with_letter run) (nat_le (length run) 32) n in
+    record {
+      letter = first_letter run both.0;
+      few = le_of (length run) 32 both.1;
+      run = AllPass-from_list_all is_run_byte run bytes;
+      free = (other_text run (codes "E") e, (other_text run (codes "Z") z, (other_text run (codes "Seq") q, (other_text run (codes "Set") s, (other_text run (codes "Cyc") y, tt)))));
+    }) (λ _. tt)))))))
 
 leaf_lexical : (letter word : List ℕ) → list_all is_run_byte word ≡ true → IsLexical (leaf_token letter word)
 leaf_lexical letter word bytes =

@@ -14,3 +14,4 @@ pub mod Texts
 pub mod Lexical
 pub mod Terms
 pub mod Sounds
+pub mod OneText

@@ -16,9 +16,10 @@ among_found (n ∷ ns) w zero e =
     let same : n ≡ w = cc in
     rw (same_is n w same) refl
 among_found (n ∷ ns) w (suc i) e = either (is_same n w) (is_among ns w) (among_found ns w i e)
-  where either : (a b : Bool) → b ≡ true → (a || b) ≡ true
-        either true b e = refl
-        either false b e = e
+  where
+    either : (a b : Bool) → b ≡ true → (a || b) ≡ true
+    either true b e = refl
+    either false b e = e
 
 pub among_missing : (names : List (List ℕ)) (w : List ℕ) → IsMissing w names → is_among names w ≡ false
 among_missing [] w m = refl

@@ -64,9 +64,10 @@ ended_or_failed : (s : State) → (step s Token.TextEnd ≡ Failed) ⊎ ((b : Be
 ended_or_failed Start = inl refl
 ended_or_failed (Moded m) = inl refl
 ended_or_failed (Lines b) = over_or_failed b b.definitions
-  where over_or_failed : (b : Before) (ds : List Definition) → (text_over b ds ≡ Failed) ⊎ ((c : Before) × (text_over b ds ≡ Done c))
-        over_or_failed b [] = inl refl
-        over_or_failed b (d ∷ ds) = inr (b, refl)
+  where
+    over_or_failed : (b : Before) (ds : List Definition) → (text_over b ds ≡ Failed) ⊎ ((c : Before) × (text_over b ds ≡ Done c))
+    over_or_failed b [] = inl refl
+    over_or_failed b (d ∷ ds) = inr (b, refl)
 ended_or_failed (Named b w) = inl refl
 ended_or_failed (Want p) = inl refl
 ended_or_failed (Counts p c) = inl refl
@@ -82,13 +83,14 @@ no_lines s b e = elim (ended_or_failed s) [ inl f ↦ absurd (cc f) | inr d ↦ 
 
 pub ended_rest : (ts rest : List Placed) (b : Before) → IsEnded ts → 2 ≤ length ts → run Start (plain_tokens (take 2 ts)) ≡ Lines b → rest ≡ drop 2 ts → IsEnded rest
 ended_rest ts rest b ended h e r = by_front ts rest b ended.front ended.last ended.is ended.ends h e r
-  where by_front : (ts rest : List Placed) (b : Before) (front : List Placed) (last : Placed) → ts ≡ front ++ last ∷ [] → last.token ≡ Token.TextEnd → 2 ≤ length ts → run Start (plain_tokens (take 2 ts)) ≡ Lines b → rest ≡ drop 2 ts → IsEnded rest
-        by_front ts rest b [] last is ends h e r = let long : 2 ≤ length (last ∷ []) = subst (λ us. 2 ≤ length us) is h in absurd (omega arith)
-        by_front ts rest b (a ∷ []) last is ends h e r =
-            let e2 : run Start (plain_tokens (a ∷ last ∷ [])) ≡ Lines b = subst (λ us. run Start (plain_tokens (take 2 us)) ≡ Lines b) is e in
-            let e3 : step (step Start a.token) Token.TextEnd ≡ Lines b = subst (λ t. step (step Start a.token) t ≡ Lines b) ends e2 in
-            absurd (no_lines (step Start a.token) b e3)
-        by_front ts rest b (a ∷ c ∷ front) last is ends h e r = record { front = front; last = last; is = r ∙ ap (λ us. drop 2 us) is; ends = ends }
+  where
+    by_front : (ts rest : List Placed) (b : Before) (front : List Placed) (last : Placed) → ts ≡ front ++ last ∷ [] → last.token ≡ Token.TextEnd → 2 ≤ length ts → run Start (plain_tokens (take 2 ts)) ≡ Lines b → rest ≡ drop 2 ts → IsEnded rest
+    by_front ts rest b [] last is ends h e r = let long : 2 ≤ length (last ∷ []) = subst (λ us. 2 ≤ length us) is h in absurd (omega arith)
+    by_front ts rest b (a ∷ []) last is ends h e r =
+        let e2 : run Start (plain_tokens (a ∷ last ∷ [])) ≡ Lines b = subst (λ us. run Start (plain_tokens (take 2 us)) ≡ Lines b) is e in
+        let e3 : step (step Start a.token) Token.TextEnd ≡ Lines b = subst (λ t. step (step Start a.token) t ≡ Lines b) ends e2 in
+        absurd (no_lines (step Start a.token) b e3)
+    by_front ts rest b (a ∷ c ∷ front) last is ends h e r = record { front = front; last = last; is = r ∙ ap (λ us. drop 2 us) is; ends = ends }
 
 -- what is represented at the end of the text
 done_rests : (names : List (List ℕ)) (s : State) (b : Before) (e : Expects) (k : Kept) → Represents names s e k → s ≡ Done b → Rests names b k
@@ -110,8 +112,8 @@ parsed m lines names e k ended names_are r =
     let from : State = Lines (record { mode = m; definitions = [] }) in
     let at_end : run from (plain_tokens lines) ≡ step (run from (plain_tokens ended.front)) Token.TextEnd = ap (λ us. run from (plain_tokens us)) ended.is ∙ ap (λ us. run from us) (map-snoc (λ (t : Placed). t.token) ended.front ended.last) ∙ run-append from (plain_tokens ended.front) (ended.last.token ∷ []) ∙ ap (λ t. step (run from (plain_tokens ended.front)) t) ended.ends in
     elim (ended_or_failed (run from (plain_tokens ended.front))) [
-      inl f ↦ absurd (represented names (run from (plain_tokens lines)) e k r (at_end ∙ f))
-    | inr d ↦ (let done : run from (plain_tokens lines) ≡ Done d.0 = at_end ∙ d.1 in record { names = names; names_are = names_are; before = d.0; read = done; draft_is = (done_rests names (run from (plain_tokens lines)) d.0 e k r done).draft_is })
+      | inl f ↦ absurd (represented names (run from (plain_tokens lines)) e k r (at_end ∙ f))
+      | inr d ↦ (let done : run from (plain_tokens lines) ≡ Done d.0 = at_end ∙ d.1 in record { names = names; names_are = names_are; before = d.0; read = done; draft_is = (done_rests names (run from (plain_tokens lines)) d.0 e k r done).draft_is })
     ]
 
 -- what is kept as lines begin
@@ -169,17 +171,19 @@ plain-drop_two (t ∷ u ∷ ts) = refl
 few_lines : (starts : Bool) (ts : List Token) → length (line_names starts ts) ≤ length ts
 few_lines starts [] = omega arith
 few_lines starts (t ∷ ts) = omega (arith, length-append (defined_by starts t) (line_names (ends_line t) ts), few_defined starts t, few_lines (ends_line t) ts)
-  where few_defined : (starts : Bool) (t : Token) → length (defined_by starts t) ≤ 1
-        few_defined true (Token.Name w) = omega arith
-        few_defined true _ = omega arith
-        few_defined false t = omega arith
+  where
+    few_defined : (starts : Bool) (t : Token) → length (defined_by starts t) ≤ 1
+    few_defined true (Token.Name w) = omega arith
+    few_defined true _ = omega arith
+    few_defined false t = omega arith
 
 pub with_names_few : (names ws : List (List ℕ)) → length (with_names names ws) ≤ length names + length ws
 with_names_few names [] = omega arith
 with_names_few names (w ∷ ws) = omega (arith, with_names_few (if is_among names w then names else names ++ w ∷ []) ws, one_more names w (is_among names w))
-  where one_more : (names : List (List ℕ)) (w : List ℕ) (b : Bool) → length (if b then names else names ++ w ∷ []) ≤ length names + 1
-        one_more names w true = omega arith
-        one_more names w false = omega (arith, length-append names (w ∷ []))
+  where
+    one_more : (names : List (List ℕ)) (w : List ℕ) (b : Bool) → length (if b then names else names ++ w ∷ []) ≤ length names + 1
+    one_more names w true = omega arith
+    one_more names w false = omega (arith, length-append names (w ∷ []))
 
 pub few_names : (ts : List Placed) → length (with_names [] (line_names true (plain_tokens ts))) ≤ length ts
 few_names ts = omega (arith, with_names_few [] (line_names true (plain_tokens ts)), few_lines true (plain_tokens ts), length-mapped (λ (t : Placed). t.token) ts)

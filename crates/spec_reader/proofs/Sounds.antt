@@ -36,9 +36,10 @@ rows_both m classes (r ∷ rs) qs h k = (h.0, rows_both m classes rs qs h.1 k)
 class_below : (names : List (List ℕ)) (w : List ℕ) → is_among names w ≡ true → class_number names w < length names
 class_below [] w e = absurd (cc)
 class_below (n ∷ ns) w e = here_or_later (is_same n w) (class_number ns w) (length ns) (is_among ns w) e (λ among. class_below ns w among)
-  where here_or_later : (b : Bool) (i len : ℕ) (among : Bool) → (b || among) ≡ true → (among ≡ true → i < len) → (if b then 0 else suc i) < suc len
-        here_or_later true i len among e f = omega arith
-        here_or_later false i len among e f = let below = f e in omega (arith, below)
+  where
+    here_or_later : (b : Bool) (i len : ℕ) (among : Bool) → (b || among) ≡ true → (among ≡ true → i < len) → (if b then 0 else suc i) < suc len
+    here_or_later true i len among e f = omega arith
+    here_or_later false i len among e f = let below = f e in omega (arith, below)
 
 numbers-length : (names : List (List ℕ)) (rows : List Row) (ts : Terms) → length (numbers names rows ts) ≡ how_many ts
 numbers-length names rows none = refl

@@ -175,15 +175,14 @@ closes_at names b w f (o ∷ os) k now popped front d m n s outers_are ends d_is
       products_are = ap (λ (q : KeptOuter). q.products) both.1;
       factors_are = ap (λ (q : KeptOuter). q.factors) both.1;
       outers_are = both.0;
-    } in
-    (
+    } in (
       with_one_more p (wrapped o.wrap t),
       refl,
       factor_more names p (wrapped o.wrap t) before now counts
-      (d_is ∙ rw (ap (λ (q : KeptOuter). q.wrap) both.1, sum.draft_is, sum.number_is) (wrapped_more names b rows o.wrap t))
-      ps_are
-      (fs_are ∙ ap (λ i. popped.factors ++ i ∷ []) (n_is ∙ rw (ap (λ (q : KeptOuter). q.wrap) both.1, sum.draft_is, sum.number_is) (wrapped_more_number names b rows o.wrap t)))
-      os_are,
+          (d_is ∙ rw (ap (λ (q : KeptOuter). q.wrap) both.1, sum.draft_is, sum.number_is) (wrapped_more names b rows o.wrap t))
+          ps_are
+          (fs_are ∙ ap (λ i. popped.factors ++ i ∷ []) (n_is ∙ rw (ap (λ (q : KeptOuter). q.wrap) both.1, sum.draft_is, sum.number_is) (wrapped_more_number names b rows o.wrap t)))
+          os_are,
     )
 
 pub close_more : (names : List (List ℕ)) (p : Place) (k now : Kept) (popped : KeptOuter) (front : List KeptOuter) (d : Spec) (m n : ℕ) → Stands names p k → k.outers ≡ front ++ popped ∷ [] → EndsSum k.draft k.products k.factors d m → now.draft ≡ wrapped_draft d popped.wrap m → n ≡ wrapped_number d popped.wrap m → now.products ≡ popped.products → now.factors ≡ popped.factors ++ n ∷ [] → now.outers ≡ front → Leads names (closed p p.outers) true Expects.Joint now
@@ -207,8 +206,7 @@ ends_at names b w f [] k now d m s e ends d_is ps_are fs_are os_are =
     let terms_before = map body b.definitions in
     let new : Definition = record { name = w; body = t } in
     let rows_are : line_rows names (record { mode = b.mode; definitions = b.definitions ++ new ∷ [] }) ≡ with_term names (line_rows names b) t = ap (λ ts. with_list names [] ts) (map-snoc body b.definitions new) ∙ with_list-snoc names [] terms_before t in
-    let bodies_are : numbers names [] (bodies_of (b.definitions ++ new ∷ [])) ≡ numbers names [] (bodies_of b.definitions) ++ last_number (with_term names (line_rows names b) t) ∷ [] = ap (λ ts. numbers names [] (terms ts)) (map-snoc body b.definitions new) ∙ numbers-snoc names [] terms_before t in
-    (
+    let bodies_are : numbers names [] (bodies_of (b.definitions ++ new ∷ [])) ≡ numbers names [] (bodies_of b.definitions) ++ last_number (with_term names (line_rows names b) t) ∷ [] = ap (λ ts. numbers names [] (terms ts)) (map-snoc body b.definitions new) ∙ numbers-snoc names [] terms_before t in (
       record { mode = b.mode; definitions = b.definitions ++ new ∷ [] },
       refl,
       record {

@@ -4,6 +4,7 @@
 #![tactic(auto)]
 
 pub mod fault;
+pub mod laws;
 pub mod lexer;
 pub mod names;
 pub mod reader;

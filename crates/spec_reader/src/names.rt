@@ -4,13 +4,12 @@ ghost use Rattle.class_system.specs.Views.{spec_mode};
 ghost use Rattle.spec_reader.specs.Reading.{plain_tokens};
 ghost use Rattle.spec_reader.specs.Faults.{line_names, with_names, first_fault, defined_by, ends_line, fault_at, needs_labels};
 
+use crate::fault::SpecFault;
+use crate::tokens::{Counting, Placed, Token};
 use bz_outside::word::Word;
 use class_system::draft::{ClassFault, Draft, Mode};
 use class_system::names::Names;
 use std::alloc::{AllocError, Global};
-
-use crate::fault::SpecFault;
-use crate::tokens::{Counting, Placed, Token};
 
 /// Whether a token ends a line.
 fn ends_line(token: &Token) -> bool
@@ -34,7 +33,12 @@ fn add_name(draft: &mut Draft, name: Word) -> Result<(), AllocError>
 }
 
 /// Adds the class that a token defines, if it defines one that isn't there.
-fn add_defined(alloc: Global, draft: &mut Draft, starts: bool, token: &Token) -> Result<(), AllocError>
+fn add_defined(
+    alloc: Global,
+    draft: &mut Draft,
+    starts: bool,
+    token: &Token,
+) -> Result<(), AllocError>
     requires few { length draft.old.names < 2 ^ 32 }
     ensures names { OnOk result (draft.new.names ≡ with_names draft.old.names (defined_by starts token.now)) }
     ensures others { OnOk result (draft.new ≡ record draft.old { names = draft.new.names }) }
@@ -52,9 +56,7 @@ fn add_defined(alloc: Global, draft: &mut Draft, starts: bool, token: &Token) ->
 /// Adds the names that begin lines to a draft, each once.
 pub fn add_names(alloc: Global, draft: &mut Draft, tokens: &[Placed]) -> Result<(), AllocError>
     requires few { length draft.old.names + length tokens.now < 2 ^ 32 }
-    ensures names {
-        OnOk result (draft.new.names ≡ with_names draft.old.names (line_names true (plain_tokens tokens.now)))
-    }
+    ensures names { OnOk result (draft.new.names ≡ with_names draft.old.names (line_names true (plain_tokens tokens.now))) }
     ensures others { OnOk result (draft.new ≡ record draft.old { names = draft.new.names }) }
     ensures few { OnOk result (length draft.new.names ≤ length draft.old.names + length tokens.now) }
 {
@@ -81,9 +83,7 @@ fn counted_fault(mode: Mode, counting: Counting, line: u32, column: u32) -> Opti
 /// The fault of a token, where the draft's names are defined, and those seen before it.
 fn token_fault(draft: &Draft, seen: &Names, starts: bool, placed: &Placed) -> Option<SpecFault>
     requires few { length draft.now.names < 2 ^ 32 }
-    ensures exact {
-        result ≡ fault_at draft.now.mode draft.now.names seen.now starts placed.now.token placed.now.line placed.now.column
-    }
+    ensures exact { result ≡ fault_at draft.now.mode draft.now.names seen.now starts placed.now.token placed.now.line placed.now.column }
 {
     let line = placed.line;
     let column = placed.column;
@@ -115,7 +115,11 @@ fn see(alloc: Global, seen: &mut Names, starts: bool, token: &Token) -> Result<(
 }
 
 /// The first fault of tokens by place, where the draft's names are defined.
-pub fn first_fault(alloc: Global, draft: &Draft, tokens: &[Placed]) -> Result<Option<SpecFault>, AllocError>
+pub fn first_fault(
+    alloc: Global,
+    draft: &Draft,
+    tokens: &[Placed],
+) -> Result<Option<SpecFault>, AllocError>
     requires few { length draft.now.names < 2 ^ 32 }
     ensures exact { IfOk result (λ f. f ≡ first_fault draft.now.mode draft.now.names [] true tokens.now) }
 {

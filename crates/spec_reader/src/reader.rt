@@ -6,14 +6,13 @@ ghost use Rattle.spec_reader.specs.Machine.{Before, Place, State, Lines, Named, 
 ghost use Rattle.spec_reader.specs.Tables.{class_number};
 ghost use Rattle.spec_reader.specs.Building.{kept, Stands, Rests, Represents, Leads, StopsAt};
 
+use crate::sums::{Expects, Sums, Wrap};
+use crate::tokens::{Counting, Placed, Sign, Token};
 use bz_outside::word::Word;
 use class_system::expr::Expr;
 use class_system::ids::ClassId;
 use class_system::ranges::Range;
 use std::alloc::{AllocError, Global};
-
-use crate::sums::{Expects, Sums, Wrap};
-use crate::tokens::{Counting, Placed, Sign, Token};
 
 /// What was read so far, and what may come next.
 #[derive(Drop)]
@@ -78,15 +77,14 @@ impl Reader {
     /// A definition or the end of the text is expected.
     fn line(&mut self, token: &Token) -> bool
         requires { self.old.expects ≡ Expects.Line }
-        ensures read {
-            (names : List (List ℕ)) (b : Before) → Rests names b (kept self.old.sums)
-                → Leads names (step (Lines b) token.now) result self.new.expects (kept self.new.sums)
-        }
+        ensures read { (names : List (List ℕ)) (b : Before) → Rests names b (kept self.old.sums)
+            → Leads names (step (Lines b) token.now) result self.new.expects (kept self.new.sums) }
         ensures few { self.new.sums.draft ≡ self.old.sums.draft }
     {
         match token {
             Token::Name(_) => self.expects = Expects::Equals,
-            Token::TextEnd if !self.sums.draft.bodies().is_empty() => self.expects = Expects::Nothing,
+            Token::TextEnd if !self.sums.draft.bodies().is_empty() => self.expects =
+                Expects::Nothing,
             _ => return false,
         }
         true
@@ -94,10 +92,8 @@ impl Reader {
 
     /// An equals sign is expected.
     fn equals(&mut self, token: &Token) -> bool
-        ensures read {
-            (names : List (List ℕ)) (b : Before) (w : List ℕ) → Rests names b (kept self.old.sums)
-                → Leads names (step (Named b w) token.now) result self.new.expects (kept self.new.sums)
-        }
+        ensures read { (names : List (List ℕ)) (b : Before) (w : List ℕ) → Rests names b (kept self.old.sums)
+            → Leads names (step (Named b w) token.now) result self.new.expects (kept self.new.sums) }
         ensures few { self.new.sums.draft ≡ self.old.sums.draft }
     {
         match token {
@@ -111,10 +107,8 @@ impl Reader {
     fn factor(&mut self, alloc: Global, token: &Token) -> Result<bool, AllocError>
         requires few_nodes { length self.old.sums.draft.nodes < 2 ^ 32 }
         requires few_names { length self.old.sums.draft.names < 2 ^ 32 }
-        ensures read {
-            IfOk result (λ stands. (names : List (List ℕ)) (p : Place) → Stands names p (kept self.old.sums)
-                → Leads names (step (Want p) token.now) stands self.new.expects (kept self.new.sums))
-        }
+        ensures read { IfOk result (λ stands. (names : List (List ℕ)) (p : Place) → Stands names p (kept self.old.sums)
+            → Leads names (step (Want p) token.now) stands self.new.expects (kept self.new.sums)) }
         ensures few { OnOk result (length self.new.sums.draft.nodes ≤ length self.old.sums.draft.nodes + 1) }
         ensures names { OnOk result (self.new.sums.draft.names ≡ self.old.sums.draft.names) }
     {
@@ -145,16 +139,20 @@ impl Reader {
     }
 
     /// A bound or a parenthesis is expected.
-    fn count(&mut self, alloc: Global, counting: Counting, token: &Token) -> Result<bool, AllocError>
-        ensures read {
-            IfOk result (λ stands. (names : List (List ℕ)) (p : Place) → Stands names p (kept self.old.sums)
-                → Leads names (step (Counts p counting) token.now) stands self.new.expects (kept self.new.sums))
-        }
+    fn count(
+        &mut self,
+        alloc: Global,
+        counting: Counting,
+        token: &Token,
+    ) -> Result<bool, AllocError>
+        ensures read { IfOk result (λ stands. (names : List (List ℕ)) (p : Place) → Stands names p (kept self.old.sums)
+            → Leads names (step (Counts p counting) token.now) stands self.new.expects (kept self.new.sums)) }
         ensures few { self.new.sums.draft ≡ self.old.sums.draft }
     {
         match token {
             Token::Open => {
-                self.sums.open(alloc, Wrap::Over(counting, plain_range(counting)))?;
+                self.sums
+                    .open(alloc, Wrap::Over(counting, plain_range(counting)))?;
                 self.expects = Expects::Factor;
             }
             Token::AtLeast => self.expects = Expects::Number(counting, Sign::Least),
@@ -167,10 +165,8 @@ impl Reader {
 
     /// A bound's number is expected.
     fn number(&mut self, counting: Counting, sign: Sign, token: &Token) -> bool
-        ensures read {
-            (names : List (List ℕ)) (p : Place) → Stands names p (kept self.old.sums)
-                → Leads names (step (Signed p counting sign) token.now) result self.new.expects (kept self.new.sums)
-        }
+        ensures read { (names : List (List ℕ)) (p : Place) → Stands names p (kept self.old.sums)
+            → Leads names (step (Signed p counting sign) token.now) result self.new.expects (kept self.new.sums) }
         ensures few { self.new.sums.draft ≡ self.old.sums.draft }
     {
         match token {
@@ -183,11 +179,15 @@ impl Reader {
     }
 
     /// The parenthesis behind a bound is expected.
-    fn parenthesis(&mut self, alloc: Global, counting: Counting, range: Range, token: &Token) -> Result<bool, AllocError>
-        ensures read {
-            IfOk result (λ stands. (names : List (List ℕ)) (p : Place) → Stands names p (kept self.old.sums)
-                → Leads names (step (Bounded p counting (spec_range range)) token.now) stands self.new.expects (kept self.new.sums))
-        }
+    fn parenthesis(
+        &mut self,
+        alloc: Global,
+        counting: Counting,
+        range: Range,
+        token: &Token,
+    ) -> Result<bool, AllocError>
+        ensures read { IfOk result (λ stands. (names : List (List ℕ)) (p : Place) → Stands names p (kept self.old.sums)
+            → Leads names (step (Bounded p counting (spec_range range)) token.now) stands self.new.expects (kept self.new.sums)) }
         ensures few { self.new.sums.draft ≡ self.old.sums.draft }
     {
         match token {
@@ -204,10 +204,8 @@ impl Reader {
     fn joint(&mut self, alloc: Global, token: &Token) -> Result<bool, AllocError>
         requires expects { self.old.expects ≡ Expects.Joint }
         requires few { length self.old.sums.draft.nodes + 2 < 2 ^ 32 }
-        ensures read {
-            IfOk result (λ stands. (names : List (List ℕ)) (p : Place) → Stands names p (kept self.old.sums)
-                → Leads names (step (Have p) token.now) stands self.new.expects (kept self.new.sums))
-        }
+        ensures read { IfOk result (λ stands. (names : List (List ℕ)) (p : Place) → Stands names p (kept self.old.sums)
+            → Leads names (step (Have p) token.now) stands self.new.expects (kept self.new.sums)) }
         ensures few { OnOk result (length self.new.sums.draft.nodes ≤ length self.old.sums.draft.nodes + 3) }
         ensures names { OnOk result (self.new.sums.draft.names ≡ self.old.sums.draft.names) }
     {
@@ -231,11 +229,9 @@ impl Reader {
     pub fn take(&mut self, alloc: Global, token: &Token) -> Result<bool, AllocError>
         requires few_nodes { length self.old.sums.draft.nodes + 2 < 2 ^ 32 }
         requires few_names { length self.old.sums.draft.names < 2 ^ 32 }
-        ensures read {
-            IfOk result (λ stands. (names : List (List ℕ)) (s : State)
-                → Represents names s self.old.expects (kept self.old.sums)
-                → Leads names (step s token.now) stands self.new.expects (kept self.new.sums))
-        }
+        ensures read { IfOk result (λ stands. (names : List (List ℕ)) (s : State)
+            → Represents names s self.old.expects (kept self.old.sums)
+            → Leads names (step s token.now) stands self.new.expects (kept self.new.sums)) }
         ensures few { OnOk result (length self.new.sums.draft.nodes ≤ length self.old.sums.draft.nodes + 3) }
         ensures names { OnOk result (self.new.sums.draft.names ≡ self.old.sums.draft.names) }
     {
@@ -252,14 +248,16 @@ impl Reader {
     }
 
     /// Takes tokens one after another, up to the first that can't stand, whose place is answered.
-    pub fn take_all(&mut self, alloc: Global, tokens: &[Placed]) -> Result<Option<usize>, AllocError>
+    pub fn take_all(
+        &mut self,
+        alloc: Global,
+        tokens: &[Placed],
+    ) -> Result<Option<usize>, AllocError>
         requires few_nodes { length self.old.sums.draft.nodes + 3 * length tokens.now < 2 ^ 32 }
         requires few_names { length self.old.sums.draft.names < 2 ^ 32 }
-        ensures read {
-            IfOk result (λ stop. (names : List (List ℕ)) (s : State)
-                → Represents names s self.old.expects (kept self.old.sums)
-                → StopsAt names s tokens.now stop self.new.expects (kept self.new.sums))
-        }
+        ensures read { IfOk result (λ stop. (names : List (List ℕ)) (s : State)
+            → Represents names s self.old.expects (kept self.old.sums)
+            → StopsAt names s tokens.now stop self.new.expects (kept self.new.sums)) }
     {
         for (i, placed) in tokens.iter().enumerate() {
             if !self.take(alloc, &placed.token)? {

@@ -7,14 +7,13 @@ ghost use Rattle.spec_reader.specs.Grammar.{Term};
 ghost use Rattle.spec_reader.specs.Machine.{Place, opened, with_one_more, with_frame, next_product, closed, line_over};
 ghost use Rattle.spec_reader.specs.Building.{joined, joined_number, wrapped_draft, wrapped_number, wrap_kept, kept, Stands, IsLeaf, EndsSum, Leads};
 
+use crate::tokens::{Counting, Sign};
 use class_system::draft::Draft;
 use class_system::expr::Expr;
 use class_system::ids::{ExprId, Parts};
 use class_system::ranges::Range;
 use std::alloc::{AllocError, Global};
 use std::mem;
-
-use crate::tokens::{Counting, Sign};
 
 /// What a parenthesis makes of its sum: the sum itself, or a counted node over it.
 #[derive(Clone, Copy, Debug)]
@@ -122,10 +121,8 @@ impl Sums {
     pub fn leaf(&mut self, node: Expr) -> Result<(), AllocError>
         requires few { length self.old.draft.nodes < 2 ^ 32 }
         requires plain { plain_range (spec_node node) ≡ record { low = 0; high = None } }
-        ensures read {
-            OnOk result ((names : List (List ℕ)) (p : Place) (t : Term) → IsLeaf names t (spec_node node)
-                → Stands names p (kept self.old) → Stands names (with_one_more p t) (kept self.new))
-        }
+        ensures read { OnOk result ((names : List (List ℕ)) (p : Place) (t : Term) → IsLeaf names t (spec_node node)
+            → Stands names p (kept self.old) → Stands names (with_one_more p t) (kept self.new)) }
         ensures few { OnOk result (length self.new.draft.nodes ≤ length self.old.draft.nodes + 1) }
         ensures names { OnOk result (self.new.draft.names ≡ self.old.draft.names) }
     {
@@ -136,10 +133,8 @@ impl Sums {
 
     /// A parenthesis is opened.
     pub fn open(&mut self, alloc: Global, wrap: Wrap) -> Result<(), AllocError>
-        ensures read {
-            OnOk result ((names : List (List ℕ)) (p : Place) → Stands names p (kept self.old)
-                → Stands names (opened p (wrap_kept wrap)) (kept self.new))
-        }
+        ensures read { OnOk result ((names : List (List ℕ)) (p : Place) → Stands names p (kept self.old)
+            → Stands names (opened p (wrap_kept wrap)) (kept self.new)) }
         ensures few { self.new.draft ≡ self.old.draft }
     {
         let frame = mem::replace(&mut self.frame, Frame::new(alloc));
@@ -150,10 +145,8 @@ impl Sums {
     /// The product that is read is over: a plus sign.
     pub fn next_product(&mut self, alloc: Global) -> Result<(), AllocError>
         requires few { length self.old.draft.nodes < 2 ^ 32 }
-        ensures read {
-            OnOk result ((names : List (List ℕ)) (p : Place) → Stands names p (kept self.old)
-                → Stands names (with_frame p (next_product p.frame)) (kept self.new))
-        }
+        ensures read { OnOk result ((names : List (List ℕ)) (p : Place) → Stands names p (kept self.old)
+            → Stands names (with_frame p (next_product p.frame)) (kept self.new)) }
         ensures few { OnOk result (length self.new.draft.nodes ≤ length self.old.draft.nodes + 1) }
         ensures names { OnOk result (self.new.draft.names ≡ self.old.draft.names) }
     {
@@ -166,16 +159,17 @@ impl Sums {
     /// The sum that is read is over; its node.
     fn end_sum(&mut self, alloc: Global) -> Result<ExprId, AllocError>
         requires few { length self.old.draft.nodes + 1 < 2 ^ 32 }
-        ensures sum {
-            IfOk result (λ e. EndsSum self.old.draft (kept self.old).products (kept self.old).factors self.new.draft e.0)
-        }
+        ensures sum { IfOk result (λ e. EndsSum self.old.draft (kept self.old).products (kept self.old).factors self.new.draft e.0) }
         ensures products { OnOk result (self.new.frame.products ≡ []) }
         ensures factors { OnOk result (self.new.frame.factors ≡ []) }
         ensures outers { self.new.outers.items ≡ self.old.outers.items }
         ensures few { OnOk result (length self.new.draft.nodes ≤ length self.old.draft.nodes + 2) }
         ensures names { OnOk result (self.new.draft.names ≡ self.old.draft.names) }
     {
-        let Frame { mut products, factors } = mem::replace(&mut self.frame, Frame::new(alloc));
+        let Frame {
+            mut products,
+            factors,
+        } = mem::replace(&mut self.frame, Frame::new(alloc));
         let e = product_node(&mut self.draft, factors)?;
         products.push(e)?;
         let sum = union_node(&mut self.draft, products)?;
@@ -185,10 +179,8 @@ impl Sums {
     /// A parenthesis is closed; false where none is open.
     pub fn close(&mut self, alloc: Global) -> Result<bool, AllocError>
         requires few { length self.old.draft.nodes + 2 < 2 ^ 32 }
-        ensures read {
-            IfOk result (λ closes. (names : List (List ℕ)) (p : Place) → Stands names p (kept self.old)
-                → Leads names (closed p p.outers) closes Expects.Joint (kept self.new))
-        }
+        ensures read { IfOk result (λ closes. (names : List (List ℕ)) (p : Place) → Stands names p (kept self.old)
+            → Leads names (closed p p.outers) closes Expects.Joint (kept self.new)) }
         ensures few { OnOk result (length self.new.draft.nodes ≤ length self.old.draft.nodes + 3) }
         ensures names { OnOk result (self.new.draft.names ≡ self.old.draft.names) }
     {
@@ -205,10 +197,8 @@ impl Sums {
     /// A definition's line ends; false within a parenthesis.
     pub fn end_line(&mut self, alloc: Global) -> Result<bool, AllocError>
         requires few { length self.old.draft.nodes + 2 < 2 ^ 32 }
-        ensures read {
-            IfOk result (λ ends. (names : List (List ℕ)) (p : Place) → Stands names p (kept self.old)
-                → Leads names (line_over p p.outers) ends Expects.Line (kept self.new))
-        }
+        ensures read { IfOk result (λ ends. (names : List (List ℕ)) (p : Place) → Stands names p (kept self.old)
+            → Leads names (line_over p p.outers) ends Expects.Line (kept self.new)) }
         ensures few { OnOk result (length self.new.draft.nodes ≤ length self.old.draft.nodes + 2) }
         ensures names { OnOk result (self.new.draft.names ≡ self.old.draft.names) }
     {
