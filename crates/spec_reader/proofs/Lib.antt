@@ -1,0 +1,17 @@
+pub mod MachineReads
+pub mod MachineAccepts
+pub mod Viable
+pub mod Fronts
+pub mod Scanning
+pub mod Numbering
+pub mod Standing
+pub mod ClassNumbers
+pub mod Taking
+pub mod NamesSeen
+pub mod Parsing
+pub mod Faulting
+pub mod Texts
+pub mod Lexical
+pub mod Terms
+pub mod Sounds
+pub mod OneText
