@@ -3,4 +3,6 @@
 
 pub mod first_form;
 pub mod lines;
+pub mod refusals;
+pub mod status;
 pub mod words;
