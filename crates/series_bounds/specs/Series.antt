@@ -1,6 +1,6 @@
 -- The series of the counted constructions in units of 2^-f, rounded to a side: their terms, the sums of terms, and
 -- the values of a range of numbers of parts.
-use Rattle.std.specs.Prelude.{ℕ, zero, suc, ◌+◌, ◌-◌, ◌*◌, ◌/◌, ◌^◌, min, max, nat_le, nat_lt, List, [], ◌∷◌, sum, take, drop, Option, Some, None, option_and_then, if◌then◌else◌}
+use Rattle.std.specs.Prelude.{ℕ, zero, suc, ◌+◌, ◌-◌, ◌*◌, ◌^◌, min, max, nat_le, nat_lt, List, [], ◌∷◌, sum, take, drop, Option, Some, None, option_and_then, if◌then◌else◌}
 use Rattle.std.specs.List.{list_all}
 use Rattle.bz_model.specs.Spec.{Range}
 use Rattle.fixed_enclosure.specs.Rounded.{greatest, saturated, fits, if_fits, Side, quotient_up, quotient, mul_down, mul_up, seq_down, seq_up}
