@@ -1,5 +1,5 @@
 //! Draws at the union `C = Z + Z` at 1/2.
-ghost use Rattle.std.specs.Prelude.{◌≡◌, ◌<◌, ◌≤◌, IfOk};
+ghost use Rattle.std.specs.Prelude.{◌≡◌, ◌^◌, ◌<◌, ◌≤◌, IfOk};
 ghost use Rattle.choice_draw.specs.TwoAtoms.{two_atoms};
 
 use super::*;
