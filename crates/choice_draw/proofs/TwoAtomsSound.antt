@@ -1,15 +1,14 @@
 -- The specification C = Z + Z is sound and well founded, and bounds about 1/2 and 1 are sound for it.
-use Rattle.std.proofs.Common.{◌≡◌, ℕ, zero, suc, ◌+◌, ◌*◌, ◌^◌, ◌<◌, ◌≤◌, List, [], ◌∷◌, length, Option, Some, None, arith, rules, refl, sym, subst, lit<, lit≤}
+use Rattle.std.proofs.Common.{◌≡◌, ℕ, zero, suc, ◌^◌, ◌<◌, ◌≤◌, List, [], ◌∷◌, Option, Some, arith, rules, refl, sym, subst, lit<, lit≤}
 use Rattle.std.specs.Prelude.{slice_get, slice_index}
 use Rattle.std.specs.List.{AllByRecursion}
-use Rattle.std.proofs.Math.Nat.{mul-le-mul_right}
 use Rattle.bz_model.specs.declared.cell.Bounds.{Bounds}
-use Rattle.bz_model.specs.Fraction.{Fraction, AtMost, units}
-use Rattle.bz_model.specs.Spec.{Spec, Mode, Node, Range, node_at, body_of}
+use Rattle.bz_model.specs.Fraction.{units}
+use Rattle.bz_model.specs.Spec.{Spec, Mode, Node, Range, node_at}
 use Rattle.bz_model.specs.Object.{Object, Has, ClassHas, Belongs}
 use Rattle.bz_model.specs.Ideal.{option_of}
 use Rattle.bz_model.specs.Measures.{size, tree_nodes}
-use Rattle.bz_model.specs.Totals.{Above, Below, total_by}
+use Rattle.bz_model.specs.Totals.{total_by}
 use Rattle.bz_model.specs.WellFounded.{IsWellFounded}
 use Rattle.bz_model.specs.Oracle as oracle
 use Rattle.bz_model.specs.Oracle.{AreCosts, Encloses}
@@ -17,7 +16,6 @@ use Rattle.bz_laws.proofs.Bounds.{below-lower, above-higher}
 use Rattle.bz_laws.proofs.Leaves.{above-atom, below-atom}
 use Rattle.bz_laws.proofs.Unions.{above-union, below-union, union-has, unpick, BelongsAt}
 use Rattle.class_system.specs.Sound.{IsSound, HasTwoParts, RefersBelow, HasLeafWord, SuitsMode, HasTextRange}
-use Rattle.class_system.specs.Each.{Each, EachPair}
 use Rattle.class_system.specs.Words.{IsName, IsLeafWord}
 use Rattle.class_system.specs.NodeOrder.Spans.{tree}
 use Rattle.class_system.specs.NodeOrder.SpanEach.{done, next}
