@@ -8,7 +8,14 @@ pub mod Pairs
 pub mod Labelled
 pub mod Bounds
 pub mod Heights
+pub mod Nodes
+pub mod Numbered
 pub mod Leaves
+pub mod Tallest
+pub mod Lists
+pub mod Values
+pub mod Sweeps
+pub mod Inhabited
 pub mod Products
 pub mod Makings
 pub mod WeightForm
@@ -16,4 +23,10 @@ pub mod Outcomes
 pub mod Texts
 pub mod Counted
 pub mod Runs
+pub mod Readings
+pub mod Ordered
+pub mod Items
+pub mod Canonical
+pub mod First
 pub mod Rooms
+pub mod Pending

@@ -1,10 +1,10 @@
 -- What is made: the ideal option is one that an object has, the made object belongs to the node, and the room falls by its size.
-use Rattle.std.proofs.Common.{◌≡◌, ℕ, zero, suc, ◌+◌, ◌<◌, ◌≤◌, ◌⊎◌, inl, inr, List, [], ◌∷◌, arith, refl, sym, ap, subst, Option, Some, replicate}
+use Rattle.std.proofs.Common.{◌≡◌, ℕ, zero, suc, ◌+◌, ◌<◌, ◌≤◌, ◌⊎◌, inl, inr, List, [], ◌∷◌, arith, refl, sym, subst, replicate}
 use Rattle.std.specs.List.{AllByRecursion}
 use Rattle.std.proofs.Math.Decide.{dec_le}
 use Rattle.bz_model.specs.Fraction.{Fraction, AtMost, plus, times, whole, one_in}
-use Rattle.bz_model.specs.Spec.{Spec, Node, Range, range_at, node_of, range_of, IsInRange}
-use Rattle.bz_model.specs.Object.{Object, Objects, none, more, count, Has, HaveEach, HaveAll, ClassHas, Belongs}
+use Rattle.bz_model.specs.Spec.{Spec, range_at, node_of, range_of, IsInRange}
+use Rattle.bz_model.specs.Object.{Object, Objects, count, Has, ClassHas, Belongs}
 use Rattle.bz_model.specs.Measures.{size, sizes}
 use Rattle.bz_model.specs.Totals.{IsSample, total}
 use Rattle.bz_model.specs.Ideal.{option_of, Before, Upto, IsIdealOption, IsGreatestOption}
@@ -13,6 +13,7 @@ use Rattle.bz_model.specs.Making as making
 use Rattle.bz_laws.proofs.Unions.{into-union}
 use Rattle.bz_laws.proofs.Leaves.{class-into}
 use Rattle.bz_laws.proofs.Products.{BelongEach, into-product, each-together}
+use Rattle.bz_laws.proofs.Counted.{counted-range, counted-size, into-counted, each-all}
 
 -- an object of the node with this option
 pub record HasOption (s : Spec) (e i : ℕ) : Type 0 where
@@ -48,34 +49,6 @@ ideal-taken s x u e i h = go i h.none_before h.here
       | inl r ↦ r
       | inr r ↦ absurd (never i (omega arith) (record { list = b.list; sample = record { distinct = b.sample.distinct; each = r }; gap = b.gap; gap_pos = b.gap_pos; reached = b.reached }))
     ]
-
--- the option of a counted node's object is in the range
-pub counted-range : (s : Spec) (R : ℕ → Object → Type 0) (node : Node) (part : ℕ) (form : Objects → Object) (r : Option Range) (o : Object) → IsCounted node part form → Has s R (Some node) r o → IsInRange (option_of o) r
-counted-range s R (Node.Seq p) part form r (Object.SeqOf os) c h = h.0
-counted-range s R (Node.Set p) part form r (Object.SetOf os) c h = h.0
-counted-range s R (Node.Cyc p) part form r (Object.CycOf os) c h = h.0
-counted-range s R (Node.Seq p) part form r _ c h = elim h [ ]
-counted-range s R (Node.Set p) part form r _ c h = elim h [ ]
-counted-range s R (Node.Cyc p) part form r _ c h = elim h [ ]
-counted-range s R _ part form r o c h = elim c [ ]
-
-pub into-counted : (s : Spec) (R : ℕ → Object → Type 0) (node : Node) (part : ℕ) (form : Objects → Object) (r : Option Range) (os : Objects) → IsCounted node part form → IsInRange (count os) r → HaveAll s R part os → Has s R (Some node) r (form os)
-into-counted s R (Node.Seq p) part form r os c i h = subst (λ f. Has s R (Some (Node.Seq p)) r (f os)) (sym c.1) (i, subst (λ q. HaveAll s R q os) (sym c.0) h)
-into-counted s R (Node.Set p) part form r os c i h = subst (λ f. Has s R (Some (Node.Set p)) r (f os)) (sym c.1) (i, subst (λ q. HaveAll s R q os) (sym c.0) h)
-into-counted s R (Node.Cyc p) part form r os c i h = subst (λ f. Has s R (Some (Node.Cyc p)) r (f os)) (sym c.1) (i, subst (λ q. HaveAll s R q os) (sym c.0) h)
-into-counted s R _ part form r os c i h = elim c [ ]
-
-pub counted-size : (node : Node) (part : ℕ) (form : Objects → Object) (os : Objects) → IsCounted node part form → size (form os) ≡ sizes os
-counted-size (Node.Seq p) part form os c = subst (λ f. size (f os) ≡ sizes os) (sym c.1) refl
-counted-size (Node.Set p) part form os c = subst (λ f. size (f os) ≡ sizes os) (sym c.1) refl
-counted-size (Node.Cyc p) part form os c = subst (λ f. size (f os) ≡ sizes os) (sym c.1) refl
-counted-size _ part form os c = elim c [ ]
-
-pub each-all : (s : Spec) (R : ℕ → Object → Type 0) (part i : ℕ) (os : Objects) → HaveEach s R (replicate i part) os → HaveAll s R part os × (count os ≡ i)
-each-all s R part zero none h = (tt, refl)
-each-all s R part zero (more o os) h = elim h [ ]
-each-all s R part (suc i) none h = elim h [ ]
-each-all s R part (suc i) (more o os) h = let r = each-all s R part i os h.1 in ((h.0, r.0), ap suc r.1)
 
 -- what was made belongs to the node, and the room fell by its size
 abbrev pub IsFine : Spec → ℕ → ℕ → Made → Type 0

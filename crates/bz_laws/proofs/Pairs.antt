@@ -3,8 +3,8 @@ use Rattle.std.proofs.Common.{◌≡◌, ◌≢◌, ℕ, zero, suc, ◌≤◌, �
 use Rattle.std.specs.List.{AllByRecursion}
 use Rattle.bz_model.specs.Fraction.{Fraction, AtMost, plus, times}
 use Rattle.bz_model.specs.Totals.{AboveBy, BelowBy, IsSample, IsDistinct, total_by}
-use Rattle.bz_laws.proofs.Fractions.{AtMost-trans, AtMost-refl, plus-mono, times-mono, plus-assoc', times-plus, times-plus', plus-swap, plus-times, plus-times'}
-use Rattle.bz_laws.proofs.Samples.{below-either, below-along, BelowBy-weaker}
+use Rattle.bz_laws.proofs.Fractions.{AtMost-trans, AtMost-refl, plus-mono, times-mono, plus-assoc', times-plus', plus-swap, plus-times, plus-times'}
+use Rattle.bz_laws.proofs.Samples.{below-either, below-along, BelowBy-weaker, scaled_ge}
 
 data Every {A : Type 0} (P : A → Type 0) : List A → Type 0 where
   nil : Every P []
@@ -119,10 +119,6 @@ module _ {A B : Type 0} (v : A → Fraction) (w : B → Fraction) where
         AtMost-trans r.total_le (times-mono (a.holds r.firsts (from_sample r.sample)) (AtMost-refl g));
   }
 
-  scaled_total : (r : Fraction) (xs : List B) → AtMost (times r (total_by w xs)) (total_by (λ b. times r (w b)) xs)
-  scaled_total r [] = omega arith
-  scaled_total r (b ∷ xs) = AtMost-trans (times-plus r (w b) (total_by w xs)) (plus-mono (AtMost-refl (times r (w b))) (scaled_total r xs))
-
   abbrev IsOneOf : List A → A → Type 0
   IsOneOf [] a = ⊥
   IsOneOf (b ∷ xs) a = (a ≡ b) ⊎ IsOneOf xs a
@@ -135,7 +131,7 @@ module _ {A B : Type 0} (v : A → Fraction) (w : B → Fraction) where
   below-rows : (Q : B → Type 0) {g : Fraction} → BelowBy w g Q → (xs : List A) → IsDistinct xs → BelowBy pair_weight (times (total_by v xs) g) (λ p. IsOneOf xs p.0 × Q p.1)
   below-rows Q {g} b [] d = record { list = []; sample = record { distinct = tt; each = tt }; reached = omega arith }
   below-rows Q {g} b (a ∷ xs) d =
-      let row : BelowBy (λ c. times (v a) (w c)) (times (v a) g) Q = record { list = b.list; sample = b.sample; reached = AtMost-trans (times-mono (AtMost-refl (v a)) b.reached) (scaled_total (v a) b.list) } in
+      let row : BelowBy (λ c. times (v a) (w c)) (times (v a) g) Q = record { list = b.list; sample = b.sample; reached = AtMost-trans (times-mono (AtMost-refl (v a)) b.reached) (scaled_ge w (v a) b.list) } in
       let first : BelowBy pair_weight (times (v a) g) (λ p. (p.0 ≡ a) × Q p.1) = below-along (λ c. (a, c)) Q (λ p. (p.0 ≡ a) × Q p.1) (λ c q. (refl, q)) (λ c e p q eq. ap (λ (z : A × B). z.1) eq) (λ c. times (v a) (w c)) pair_weight (λ c q. AtMost-refl _) row in
       let both : BelowBy pair_weight (plus (times (v a) g) (times (total_by v xs) g)) (λ p. ((p.0 ≡ a) × Q p.1) ⊎ (IsOneOf xs p.0 × Q p.1)) = below-either (λ p h k. one-has (λ c. c ≢ a) xs p.0 d.0 k.0 h.0) first (below-rows Q b xs d.1) in
       let named : BelowBy pair_weight (plus (times (v a) g) (times (total_by v xs) g)) (λ p. IsOneOf (a ∷ xs) p.0 × Q p.1) = BelowBy-weaker (λ p h. elim h [ inl k ↦ (inl k.0, k.1) | inr k ↦ (inr k.0, k.1) ]) both in

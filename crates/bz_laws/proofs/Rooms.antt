@@ -12,7 +12,8 @@ use Rattle.bz_model.specs.Making.{Made, Just, Over, AllMade, All, AllOver, wrap,
 use Rattle.bz_model.specs.Making as making
 use Rattle.bz_laws.proofs.Options.{unique}
 use Rattle.bz_laws.proofs.Products.{BelongEach}
-use Rattle.bz_laws.proofs.Makings.{AreFine, fine_each, counted-size}
+use Rattle.bz_laws.proofs.Makings.{AreFine, fine_each}
+use Rattle.bz_laws.proofs.Counted.{counted-size}
 
 -- i objects of a part have i atoms or more, or one has none
 atoms : (s : Spec) (part i : ℕ) (os : Objects) → BelongEach s (replicate i part) os → (i ≤ sizes os) ⊎ HasZero s part

@@ -1,9 +1,9 @@
 -- Samples: weaker properties, lists side by side, and images. Each holds from above and from below.
 use Rattle.std.proofs.Common.{◌≡◌, ◌≢◌, ◌⊎◌, inl, inr, List, [], ◌∷◌, ◌++◌, map, arith, sym, ◌∙◌, subst}
 use Rattle.std.specs.List.{AllByRecursion}
-use Rattle.bz_model.specs.Fraction.{Fraction, AtMost, plus, whole}
+use Rattle.bz_model.specs.Fraction.{Fraction, AtMost, plus, times, whole}
 use Rattle.bz_model.specs.Totals.{AboveBy, BelowBy, IsSample, IsDistinct, total_by}
-use Rattle.bz_laws.proofs.Fractions.{AtMost-trans, AtMost-refl, plus-mono, plus-assoc, plus-assoc', plus-swap}
+use Rattle.bz_laws.proofs.Fractions.{AtMost-trans, AtMost-refl, plus-mono, times-mono, plus-assoc, plus-assoc', plus-swap, times-plus, times-plus'}
 
 pub AllByRecursion-weaker : {A : Type 0} {P Q : A → Type 0} → ((a : A) → P a → Q a) → (xs : List A) → AllByRecursion P xs → AllByRecursion Q xs
 AllByRecursion-weaker f [] h = tt
@@ -148,3 +148,18 @@ above-one {A} v a P only = record { holds = λ xs s. go xs s.distinct s.each }
 
 pub below-one : {A : Type 0} (v : A → Fraction) (a : A) (P : A → Type 0) → P a → BelowBy v (v a) P
 below-one v a P p = record { list = a ∷ []; sample = record { distinct = (tt, tt); each = (p, tt) }; reached = omega arith }
+
+-- every weight times one number
+pub scaled_le : {A : Type 0} (w : A → Fraction) (r : Fraction) (xs : List A) → AtMost (total_by (λ a. times r (w a)) xs) (times r (total_by w xs))
+scaled_le w r [] = omega arith
+scaled_le w r (a ∷ xs) = AtMost-trans (plus-mono (AtMost-refl (times r (w a))) (scaled_le w r xs)) (times-plus' r (w a) (total_by w xs))
+
+pub scaled_ge : {A : Type 0} (w : A → Fraction) (r : Fraction) (xs : List A) → AtMost (times r (total_by w xs)) (total_by (λ a. times r (w a)) xs)
+scaled_ge w r [] = omega arith
+scaled_ge w r (a ∷ xs) = AtMost-trans (times-plus r (w a) (total_by w xs)) (plus-mono (AtMost-refl (times r (w a))) (scaled_ge w r xs))
+
+pub above-scaled : {A : Type 0} {w : A → Fraction} {f : Fraction} {P : A → Type 0} (r : Fraction) → AboveBy w f P → AboveBy (λ a. times r (w a)) (times r f) P
+above-scaled {w = w} r a = record { holds = λ xs s. AtMost-trans (scaled_le w r xs) (times-mono (AtMost-refl r) (a.holds xs s)) }
+
+pub below-scaled : {A : Type 0} {w : A → Fraction} {f : Fraction} {P : A → Type 0} (r : Fraction) → BelowBy w f P → BelowBy (λ a. times r (w a)) (times r f) P
+below-scaled {w = w} r b = record { list = b.list; sample = b.sample; reached = AtMost-trans (times-mono (AtMost-refl r) b.reached) (scaled_ge w r b.list) }

@@ -1,8 +1,21 @@
-//! The laws that every bound, decision and making stands on.
+//! The laws that every bound, decision, making and text stands on.
 //!
 //! They are proved over the definitions of `bz_model` alone. Each public function does nothing, and
 //! its contract is one law over every specification; the lemmas behind it stand in `proofs/`, for
-//! the crates above to cite. No clause here speaks of code, of rounding or of bits.
+//! the crates above to cite. Few definitions are added: sums of terms (`specs/Terms.antt`), what
+//! the laws need of a sound specification (`specs/Sound.antt`, `specs/Spelled.antt`), numbers for
+//! nodes that cover what the parts give or are reached by it (`specs/Values.antt`), a making that
+//! has begun (`specs/Pending.antt`), and objects in canonical order (`specs/InOrder.antt`). No
+//! clause speaks of code or of rounding.
 #![tactic(auto)]
 
-pub mod laws;
+pub mod at_heights;
+pub mod begun;
+pub mod decisions;
+pub mod kinds;
+pub mod making;
+pub mod node_values;
+pub mod object_texts;
+pub mod objects;
+pub mod order;
+pub mod totals;

@@ -1,1 +1,5 @@
 pub mod Numbers
+pub mod Rows
+mod Examples
+mod Written
+mod Chosen

@@ -1,6 +1,0 @@
-use Rattle.bz_laws.proofs.Texts.{one_text}
-use Rattle.bz_model.specs.ObjectText.{Arrangement}
-use Rattle.bz_laws.proofs.laws.an_object_has_one_text.Goals as goal
-
-pub returns : goal.returns
-returns c = λ s e o labels b c. one_text Arrangement.Canonical s e o labels b c

@@ -1,5 +1,0 @@
-use Rattle.bz_laws.proofs.Options.{unique}
-use Rattle.bz_laws.proofs.laws.at_most_one_option_is_ideal.Goals as goal
-
-pub returns : goal.returns
-returns c = unique

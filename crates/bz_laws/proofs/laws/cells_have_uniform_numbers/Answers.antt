@@ -1,5 +1,0 @@
-use Rattle.bz_laws.proofs.Decide.{uniform}
-use Rattle.bz_laws.proofs.laws.cells_have_uniform_numbers.Goals as goal
-
-pub returns : goal.returns
-returns c = uniform

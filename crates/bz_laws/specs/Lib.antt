@@ -1,0 +1,9 @@
+pub mod Terms
+pub mod Lists
+pub mod Sound
+pub mod Values
+pub mod Orders
+pub mod Spelled
+pub mod Parts
+pub mod Pending
+pub mod InOrder
