@@ -1,13 +1,13 @@
 -- Going down from a node through classes and first parts of products, which have no token of their own: in a node that has an object no such way comes back to a node, so it is short.
-use Rattle.std.proofs.Common.{◌≡◌, ◌↔◌, ℕ, zero, suc, ◌+◌, ◌<◌, ◌≤◌, inl, inr, List, [], ◌∷◌, ◌++◌, length, arith, refl, sym, ◌∙◌, ap, subst, Bool, true, false, eqb, Option, Some, None}
+use Rattle.std.proofs.Common.{◌≡◌, ◌↔◌, ℕ, zero, suc, ◌+◌, ◌<◌, ◌≤◌, inl, inr, List, [], ◌∷◌, ◌++◌, length, arith, sym, subst, true, false, eqb, Some}
 use Rattle.std.specs.List.{list_any, IsDistinct, AllByRecursion}
 use Rattle.std.proofs.lemmas.Bool.Decides.{eqb_tells}
 use Rattle.std.proofs.lemmas.Map.Keys.{IsDistinct-cons}
 use Rattle.std.proofs.lemmas.Map.Steps.{length-le_from_distinct_below}
 use Rattle.bz_model.specs.Spec.{Spec, Node, node_at, range_at, node_of, range_of, body_of}
-use Rattle.bz_model.specs.Object.{Object, Objects, none, more, Has, ClassHas, HasWithin, Belongs}
+use Rattle.bz_model.specs.Object.{Object, none, more, Has, ClassHas, HasWithin, Belongs}
 use Rattle.bz_model.specs.Object.Object.{Unit_, Dot, Pick, Tuple, SeqOf, SetOf, CycOf}
-use Rattle.bz_model.specs.Measures.{tree_nodes, all_nodes}
+use Rattle.bz_model.specs.Measures.{tree_nodes}
 use Rattle.bz_laws.proofs.Nodes.{known}
 use Rattle.bz_laws.proofs.Samples.{AllByRecursion-append}
 use Rattle.class_system.specs.Sound.{IsSound}
@@ -15,7 +15,7 @@ use Rattle.object_store.specs.declared.token.Token.{Token}
 use Rattle.object_store.specs.Tokens.{AreOf}
 use Rattle.object_store.specs.Walk.{AllBelow, Expands}
 use Rattle.object_store.proofs.InRange.{body-below, two-parts, product-parts}
-use Rattle.object_store.proofs.NextToken.{First, first, of-class, of-product}
+use Rattle.object_store.proofs.NextToken.{first, of-class, of-product}
 
 -- One step down: from a class to its body, from a product to its first part.
 pub data StepsTo (s : Spec) (e f : ℕ) : Type 0 where

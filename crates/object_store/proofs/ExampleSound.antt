@@ -8,7 +8,7 @@ use Rattle.class_system.specs.Sound.{IsSound, HasTextRange}
 use Rattle.class_system.specs.Words.{IsName, IsLeafWord, is_run_byte}
 use Rattle.class_system.proofs.Growth.{Each-none, Each-cons}
 use Rattle.bz_model.specs.Spec.{Spec, Node, Range}
-use Rattle.object_store.specs.Examples.{binary_trees}
+use Rattle.object_store.specs.Examples.{empty_or_atom}
 
 -- The name begins with none of these bytes.
 begins : (byte : ℕ) (rest : List ℕ) → 66 ≢ byte → codes "B" ≢ (byte ∷ rest)
@@ -28,32 +28,25 @@ word_is : IsLeafWord []
 word_is = record { few = lit≤ tt; run = AllPass-from_list_all is_run_byte [] refl }
 
 -- Each range is the plain one.
-range_is : (i : ℕ) (n : Node) (r : Range) → slice_get binary_trees.nodes i ≡ Some n → slice_get binary_trees.ranges i ≡ Some r → HasTextRange n r
+range_is : (i : ℕ) (n : Node) (r : Range) → slice_get empty_or_atom.nodes i ≡ Some n → slice_get empty_or_atom.ranges i ≡ Some r → HasTextRange n r
 range_is zero n r at at_r = subst (λ (m : Node). HasTextRange m r) (same_Some _ n at) (sym (same_Some _ r at_r))
 range_is (suc zero) n r at at_r = subst (λ (m : Node). HasTextRange m r) (same_Some _ n at) (sym (same_Some _ r at_r))
 range_is (suc (suc zero)) n r at at_r = subst (λ (m : Node). HasTextRange m r) (same_Some _ n at) (sym (same_Some _ r at_r))
-range_is (suc (suc (suc zero))) n r at at_r = subst (λ (m : Node). HasTextRange m r) (same_Some _ n at) (sym (same_Some _ r at_r))
-range_is (suc (suc (suc (suc zero)))) n r at at_r = subst (λ (m : Node). HasTextRange m r) (same_Some _ n at) (sym (same_Some _ r at_r))
-range_is (suc (suc (suc (suc (suc zero))))) n r at at_r = subst (λ (m : Node). HasTextRange m r) (same_Some _ n at) (sym (same_Some _ r at_r))
-range_is (suc (suc (suc (suc (suc (suc i)))))) n r at at_r = cc
+range_is (suc (suc (suc i))) n r at at_r = cc
 
-pub binary_trees_sound : (s : Spec) → s ≡ binary_trees → IsSound s
-binary_trees_sound s same = subst IsSound (sym same) (record {
+pub empty_or_atom_sound : (s : Spec) → s ≡ empty_or_atom → IsSound s
+empty_or_atom_sound s same = subst IsSound (sym same) (record {
   a_class = lit< tt;
   bodies = refl;
-  parts = Each-cons _ _ _ tt (Each-cons _ _ _ tt (Each-cons _ _ _ tt (Each-cons _ _ _ tt (Each-cons _ _ _ (lit≤ tt) (Each-cons _ _ [] (lit≤ tt) (Each-none _))))));
-  references = Each-cons _ _ _ tt (Each-cons _ _ _ tt (Each-cons _ _ _ (lit< tt) (Each-cons _ _ _ (lit< tt) (Each-cons _ _ _ tt (Each-cons _ _ [] tt (Each-none _))))));
+  parts = Each-cons _ _ _ tt (Each-cons _ _ _ tt (Each-cons _ _ [] (lit≤ tt) (Each-none _)));
+  references = Each-cons _ _ _ tt (Each-cons _ _ _ tt (Each-cons _ _ [] tt (Each-none _)));
   order =
-      next (tree (Node.Union (0 ∷ 4 ∷ [])) refl
+      next (tree (Node.Union (0 ∷ 1 ∷ [])) refl
       (next (tree (Node.Empty []) refl (done refl))
-      (next (tree (Node.Product (1 ∷ 2 ∷ 3 ∷ [])) refl
       (next (tree (Node.Atom []) refl (done refl))
-      (next (tree (Node.Class 0) refl (done refl))
-      (next (tree (Node.Class 0) refl (done refl))
-      (done refl)))))
       (done refl)))) (done refl);
   names = Each-cons _ _ [] name_is (Each-none _);
-  leaves = Each-cons _ _ _ word_is (Each-cons _ _ _ word_is (Each-cons _ _ _ tt (Each-cons _ _ _ tt (Each-cons _ _ _ tt (Each-cons _ _ [] tt (Each-none _))))));
-  modes = Each-cons _ _ _ tt (Each-cons _ _ _ tt (Each-cons _ _ _ tt (Each-cons _ _ _ tt (Each-cons _ _ _ tt (Each-cons _ _ [] tt (Each-none _))))));
+  leaves = Each-cons _ _ _ word_is (Each-cons _ _ _ word_is (Each-cons _ _ [] tt (Each-none _)));
+  modes = Each-cons _ _ _ tt (Each-cons _ _ _ tt (Each-cons _ _ [] tt (Each-none _)));
   ranges = record { lengths = refl; at = range_is };
 })

@@ -2,7 +2,7 @@
 use Rattle.std.proofs.Common.{◌≡◌, ℕ, zero, suc, ◌<◌, ◌≤◌, List, [], ◌∷◌, length, arith, Some, slice_get, replicate}
 use Rattle.std.proofs.lemmas.Option.{slice_get_within}
 use Rattle.bz_model.specs.Spec.{Spec, Node, node_at, body_of}
-use Rattle.class_system.specs.Sound.{IsSound, HasTwoParts}
+use Rattle.class_system.specs.Sound.{IsSound}
 use Rattle.class_system.specs.NodeOrder.{HasPart}
 use Rattle.class_system.proofs.Order.{lies_between, below_in_each}
 use Rattle.object_store.specs.Walk.{AllBelow}

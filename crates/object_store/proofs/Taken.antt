@@ -1,15 +1,15 @@
 -- What an answer of a step of the walk means for the tokens.
-use Rattle.std.proofs.Common.{◌≡◌, ◌↔◌, ℕ, zero, suc, ◌<◌, List, [], ◌∷◌, ◌++◌, length, Bool, true, false, refl, sym, ◌∙◌, ap, subst, Some, IsTrue, replicate, slice_get}
-use Rattle.bz_model.specs.Spec.{Spec, Node, node_at, range_at, IsInRange}
+use Rattle.std.proofs.Common.{◌≡◌, ◌↔◌, ℕ, ◌<◌, List, ◌∷◌, ◌++◌, length, Bool, true, false, refl, sym, ◌∙◌, ap, subst, Some, IsTrue, replicate, slice_get}
+use Rattle.bz_model.specs.Spec.{Spec, Node, node_at}
 use Rattle.bz_model.specs.Object.{Object, Objects}
 use Rattle.bz_model.specs.Making.{IsCounted}
 use Rattle.bz_laws.proofs.Samples.{AllByRecursion-append}
 use Rattle.class_system.specs.Sound.{IsSound}
-use Rattle.class_system.specs.NodeOrder.{HasPart, parts_of}
+use Rattle.class_system.specs.NodeOrder.{HasPart}
 use Rattle.object_store.specs.declared.token.Token.{Token}
 use Rattle.object_store.specs.declared.token.Token.TheVariants as token
 use Rattle.object_store.specs.Tokens.{AreOf}
-use Rattle.object_store.specs.Walk.{AllBelow, Picks, PicksIf, Counts, CountsIf, Takes, TakesIf}
+use Rattle.object_store.specs.Walk.{AllBelow, PicksIf, CountsIf, TakesIf}
 use Rattle.object_store.proofs.NextToken.{of-empty, of-atom, of-union, of-counted, IsPick, IsCount}
 use Rattle.object_store.proofs.InRange.{part-below, union-parts, replicate-below}
 

@@ -1,5 +1,5 @@
 -- What runs stand for where one is put at the end, which is in front, or taken from there.
-use Rattle.std.proofs.Common.{◌≡◌, ℕ, zero, suc, ◌+◌, ◌-◌, ◌<◌, ◌≤◌, List, [], ◌∷◌, ◌++◌, arith, refl, sym, ◌∙◌, ap, subst, append_assoc, append-nil, replicate, length, take, take_all, slice_get, Some}
+use Rattle.std.proofs.Common.{◌≡◌, ℕ, zero, suc, ◌+◌, ◌-◌, ◌<◌, List, [], ◌∷◌, ◌++◌, arith, sym, ◌∙◌, ap, subst, append_assoc, append-nil, replicate, length, take, take_all, slice_get, Some}
 use Rattle.std.proofs.lemmas.Option.{slice_get_within}
 use Rattle.class_system.proofs.Results.{take-at}
 use Rattle.object_store.specs.declared.pending.Run.{Run}

@@ -1,7 +1,7 @@
 -- What an answer of the walk means.
-use Rattle.std.proofs.Common.{◌≡◌, ◌↔◌, ℕ, List, [], ◌∷◌, ◌++◌, Bool, false, true, IsTrue, Some, refl, sym, ◌∙◌, ap, subst, append-nil}
+use Rattle.std.proofs.Common.{◌≡◌, ◌↔◌, ℕ, List, [], ◌∷◌, ◌++◌, Bool, false, IsTrue, Some, refl, sym, ◌∙◌, ap, subst, append-nil}
 use Rattle.bz_model.specs.Spec.{Spec, body_of}
-use Rattle.bz_model.specs.Object.{Object, Objects, none, more, Belongs}
+use Rattle.bz_model.specs.Object.{none, more, Belongs}
 use Rattle.object_store.specs.declared.token.Token.{Token}
 use Rattle.object_store.specs.Tokens.{tokens_of, tokens_all, AreOf, IsOf}
 use Rattle.object_store.proofs.NextToken.{first, of-none}

@@ -6,12 +6,16 @@ use Rattle.bz_model.specs.Spec.{Spec, Mode, Node, Range}
 abbrev pub plain : Range
 plain = record { low = 0; high = None }
 
--- Binary trees: B = E + Z*B*B.
-abbrev pub binary_trees : Spec
-binary_trees = record {
+-- The class B with its leaves: node 0 is neutral, and node 1 is an atom.
+abbrev pub only_leaves : Spec
+only_leaves = record { mode = Mode.Unlabelled; names = codes "B" ∷ []; bodies = []; nodes = Node.Empty [] ∷ Node.Atom [] ∷ []; ranges = plain ∷ plain ∷ [] }
+
+-- A neutral object or an atom: B = E + Z.
+abbrev pub empty_or_atom : Spec
+empty_or_atom = record {
   mode = Mode.Unlabelled;
   names = codes "B" ∷ [];
-  bodies = 5 ∷ [];
-  nodes = Node.Empty [] ∷ Node.Atom [] ∷ Node.Class 0 ∷ Node.Class 0 ∷ Node.Product (1 ∷ 2 ∷ 3 ∷ []) ∷ Node.Union (0 ∷ 4 ∷ []) ∷ [];
-  ranges = plain ∷ plain ∷ plain ∷ plain ∷ plain ∷ plain ∷ [];
+  bodies = 2 ∷ [];
+  nodes = Node.Empty [] ∷ Node.Atom [] ∷ Node.Union (0 ∷ 1 ∷ []) ∷ [];
+  ranges = plain ∷ plain ∷ plain ∷ [];
 }

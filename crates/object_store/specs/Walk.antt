@@ -1,5 +1,5 @@
 -- A walk over tokens: what its steps do to the nodes that wait.
-use Rattle.std.specs.Prelude.{◌≡◌, ◌≢◌, ◌↔◌, ℕ, ◌<◌, Bool, true, false, List, [], ◌∷◌, ◌++◌, Some, slice_get, length, replicate}
+use Rattle.std.specs.Prelude.{◌≡◌, ◌↔◌, ℕ, ◌<◌, Bool, true, false, List, [], ◌∷◌, ◌++◌, Some, slice_get, length, replicate}
 use Rattle.std.specs.List.{AllByRecursion}
 use Rattle.bz_model.specs.Spec.{Spec, Node, node_at, range_at, body_of, IsInRange}
 use Rattle.object_store.specs.Tokens.{AreOf}

@@ -3,10 +3,10 @@ ghost use Rattle.std.specs.Prelude.{◌≡◌, ◌+◌, ◌<◌, ◌≤◌, [], 
 ghost use Rattle.object_store.specs.Tokens.{size_of, IsOf};
 
 use crate::pending::Pending;
+use crate::token::Token;
 use crate::walk::takes_all;
 use class_system::ids::ClassId;
 use class_system::system::System;
-use crate::token::Token;
 use std::alloc::{AllocError, Global};
 use std::marker::Model;
 

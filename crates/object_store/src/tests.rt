@@ -1,6 +1,6 @@
-//! Shapes of binary trees.
+//! Shapes of `B = E + Z`.
 ghost use Rattle.std.specs.Prelude.{◌≡◌, IfOk};
-ghost use Rattle.object_store.specs.Examples.{binary_trees};
+ghost use Rattle.object_store.specs.Examples.{only_leaves, empty_or_atom};
 
 use crate::shape::Shape;
 use crate::token::Token;
@@ -12,38 +12,44 @@ use class_system::system::System;
 use std::alloc::{AllocError, Global};
 use std::test::Fail;
 
-/// A list of these nodes.
-fn list(alloc: Global, items: &[ExprId]) -> Result<Parts, AllocError>
-    ensures items { IfOk result (λ parts. parts ≡ items.now) }
-{
-    let mut parts = Parts::new(alloc);
-    for item in items {
-        parts.push(*item)?;
-    }
-    Ok(parts)
-}
-
-/// Binary trees: `B = E + Z*B*B`.
-fn binary_draft(alloc: Global) -> Result<Draft, AllocError>
-    ensures draft { IfOk result (λ draft. draft ≡ binary_trees) }
+/// The class `B`, and its first two nodes: a neutral leaf and an atom.
+fn with_leaves(alloc: Global) -> Result<Draft, AllocError>
+    ensures draft { IfOk result (λ draft. draft ≡ only_leaves) }
 {
     let mut draft = Draft::new(alloc, Mode::Unlabelled);
     let name = Word::from_bytes(alloc, b"B")?;
-    let Ok(class) = draft.add_class(name) else {
+    if draft.add_class(name).is_err() {
+        return Err(AllocError);
+    }
+    let no_word = Word::from_bytes(alloc, b"")?;
+    draft.add_node(Expr::Empty(no_word))?;
+    let plain_word = Word::from_bytes(alloc, b"")?;
+    draft.add_node(Expr::Atom(plain_word))?;
+    Ok(draft)
+}
+
+/// The class `B = E + Z`, after its leaves.
+fn with_sum(alloc: Global, mut draft: Draft) -> Result<Draft, AllocError>
+    requires { draft ≡ only_leaves }
+    ensures draft { IfOk result (λ draft. draft ≡ empty_or_atom) }
+{
+    let mut terms = Parts::new(alloc);
+    terms.push(ExprId(0))?;
+    terms.push(ExprId(1))?;
+    draft.add_node(Expr::Union(terms))?;
+    draft.set_body(ExprId(2))?;
+    Ok(draft)
+}
+
+/// Whether the draft becomes a system.
+fn system_of(alloc: Global, draft: Draft) -> Result<System, AllocError>
+    requires { draft ≡ empty_or_atom }
+    ensures { IfOk result (λ system. system ≡ empty_or_atom) }
+{
+    let Ok(system) = System::build(alloc, draft) else {
         return Err(AllocError);
     };
-    let no_word = Word::from_bytes(alloc, b"")?;
-    let empty = draft.add_node(Expr::Empty(no_word))?;
-    let plain_word = Word::from_bytes(alloc, b"")?;
-    let atom = draft.add_node(Expr::Atom(plain_word))?;
-    let left = draft.add_node(Expr::Class(class))?;
-    let right = draft.add_node(Expr::Class(class))?;
-    let factors = list(alloc, &[atom, left, right])?;
-    let pair = draft.add_node(Expr::Product(factors))?;
-    let terms = list(alloc, &[empty, pair])?;
-    let body = draft.add_node(Expr::Union(terms))?;
-    draft.set_body(body)?;
-    Ok(draft)
+    Ok(system)
 }
 
 fn shape_of(alloc: Global, tokens: &[Token]) -> Result<Shape, AllocError> {
@@ -55,48 +61,43 @@ fn shape_of(alloc: Global, tokens: &[Token]) -> Result<Shape, AllocError> {
     Ok(shape)
 }
 
-/// Whether the tokens are those of a binary tree.
-fn is_tree(alloc: Global, tokens: &[Token]) -> Result<bool, AllocError> {
-    let draft = binary_draft(alloc)?;
-    let Ok(system) = System::build(alloc, draft) else {
-        return Err(AllocError);
-    };
-    let Some(class) = first_class(&system) else {
-        return Err(AllocError);
-    };
-    shape_of(alloc, tokens)?.is_of(&system, class)
-}
-
-/// The first class.
-fn first_class(system: &System) -> Option<ClassId> {
-    if system.class_count() > 0 { Some(ClassId(0)) } else { None }
+/// Whether the tokens are those of an object of `B = E + Z`.
+fn is_object(alloc: Global, tokens: &[Token]) -> Result<bool, AllocError> {
+    let draft = with_sum(alloc, with_leaves(alloc)?)?;
+    let system = system_of(alloc, draft)?;
+    let shape = shape_of(alloc, tokens)?;
+    shape.is_of(&system, ClassId(0))
 }
 
 #[test]
-fn a_tree_of_one_node_is_of_its_class(rt: HostRuntime) -> Result<(), Fail> {
-    let node = [
-        Token::Pick(1),
-        Token::Dot,
-        Token::Pick(0),
-        Token::Unit,
-        Token::Pick(0),
-        Token::Unit,
-    ];
-    assert!(rt; is_tree(rt.alloc(), &node)?);
-    assert!(rt; is_tree(rt.alloc(), &node[2..4])?);
-    assert_eq!(rt; shape_of(rt.alloc(), &node)?.size(), 1);
-    assert!(rt; !is_tree(rt.alloc(), &node[..5])?, "one token too few");
-    assert!(rt; !is_tree(rt.alloc(), &node[1..])?, "no option");
-    assert!(rt; !is_tree(rt.alloc(), &[])?, "no token");
+fn both_objects_are_of_the_class(rt: HostRuntime) -> Result<(), Fail> {
+    let alloc = rt.alloc();
+    assert!(rt; is_object(alloc, &[Token::Pick(0), Token::Unit])?);
+    assert!(rt; is_object(alloc, &[Token::Pick(1), Token::Dot])?);
+    assert_eq!(rt; shape_of(alloc, &[Token::Pick(1), Token::Dot])?.size(), 1);
     Ok(())
 }
 
 #[test]
 fn other_tokens_are_not_of_the_class(rt: HostRuntime) -> Result<(), Fail> {
     let alloc = rt.alloc();
-    assert!(rt; !is_tree(alloc, &[Token::Pick(0), Token::Unit, Token::Unit])?, "one token too many");
-    assert!(rt; !is_tree(alloc, &[Token::Pick(2), Token::Unit])?, "no such option");
-    assert!(rt; !is_tree(alloc, &[Token::Count(0)])?, "a count at a union");
-    assert!(rt; !is_tree(alloc, &[Token::Pick(0), Token::Dot])?, "an atom at a neutral leaf");
+    assert!(rt; !is_object(alloc, &[])?, "no token");
+    assert!(rt; !is_object(alloc, &[Token::Pick(1)])?, "one token too few");
+    assert!(rt;
+        !is_object(alloc, &[Token::Pick(1), Token::Dot, Token::Dot])?,
+        "one too many"
+    );
+    assert!(rt;
+        !is_object(alloc, &[Token::Pick(2), Token::Dot])?,
+        "no such option"
+    );
+    assert!(rt;
+        !is_object(alloc, &[Token::Pick(0), Token::Dot])?,
+        "an atom for a neutral leaf"
+    );
+    assert!(rt;
+        !is_object(alloc, &[Token::Count(1), Token::Dot])?,
+        "a count at a union"
+    );
     Ok(())
 }

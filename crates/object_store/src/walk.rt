@@ -12,7 +12,7 @@ ghost use Rattle.object_store.specs.Walk.{AllBelow, HasToken, ExpandsIf, IsFront
 use crate::pending::Pending;
 use crate::token::Token;
 use class_system::expr::Expr;
-use class_system::ids::{ExprId};
+use class_system::ids::ExprId;
 use class_system::ranges::Range;
 use class_system::system::System;
 use std::alloc::AllocError;

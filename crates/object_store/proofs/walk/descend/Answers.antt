@@ -1,5 +1,5 @@
 -- The way down, step by step.
-use Rattle.std.proofs.Common.{◌≡◌, ◌-◌, suc, ◌∷◌, arith, sym, subst, ap}
+use Rattle.std.proofs.Common.{◌≡◌, ◌-◌, suc, ◌∷◌, arith, sym, subst}
 use Rattle.object_store.specs.Walk.{ExpandsIf}
 use Rattle.object_store.specs.Tokens.{AreOf}
 use Rattle.object_store.proofs.NextToken.{of-none}

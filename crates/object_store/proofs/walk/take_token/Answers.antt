@@ -1,10 +1,9 @@
 -- Each kind of node takes the token that its objects begin with.
-use Rattle.std.proofs.Common.{◌≡◌, map, Some, ◌∙◌, ap, refl, sym}
+use Rattle.std.proofs.Common.{map, Some, ◌∙◌, ap, refl, sym}
 use Rattle.std.proofs.lemmas.Result.{IfOk-weaker}
 use Rattle.class_system.specs.Views.{number, spec_node}
 use Rattle.bz_model.specs.Spec.{Node}
 use Rattle.bz_model.specs.Object.{Object}
-use Rattle.object_store.specs.Walk.{PicksIf, CountsIf, TakesIf}
 use Rattle.object_store.proofs.Taken.{takes-empty, takes-atom, takes-pick, takes-count}
 use Rattle.object_store.proofs.walk.take_token.Goals as goal
 

@@ -1,5 +1,5 @@
 -- No object has these tokens where the nodes that wait don't take the next one.
-use Rattle.std.proofs.Common.{◌≡◌, ◌-◌, ◌+◌, ◌<◌, ◌∷◌, [], arith, sym, subst, ap, drop, length, IsTrue, length-drop, drop-cons}
+use Rattle.std.proofs.Common.{◌∷◌, arith, subst, ap, drop, length, length-drop, drop-cons}
 use Rattle.object_store.specs.Tokens.{AreOf}
 use Rattle.object_store.specs.Walk.{IsFront, TakesIf}
 use Rattle.object_store.proofs.Walked.{never_true}

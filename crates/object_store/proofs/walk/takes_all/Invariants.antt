@@ -1,5 +1,5 @@
 -- The tokens left are asked of the nodes that wait.
-use Rattle.std.proofs.Common.{◌≡◌, ◌↔◌, drop, length}
+use Rattle.std.proofs.Common.{◌↔◌, drop, length}
 use Rattle.object_store.specs.Tokens.{AreOf}
 use Rattle.object_store.specs.Walk.{AllBelow}
 use Rattle.object_store.proofs.walk.takes_all.Given as goal

@@ -1,5 +1,5 @@
 -- The tokens are asked of the class's body.
-use Rattle.std.proofs.Common.{◌≡◌, ◌↔◌, ◌∷◌, [], length, IsTrue, sym, subst, subst₂, ap, ◌∙◌}
+use Rattle.std.proofs.Common.{◌↔◌, ◌∷◌, length, IsTrue, sym, subst, subst₂, ap, ◌∙◌}
 use Rattle.std.proofs.lemmas.Result.{IfOk-weaker}
 use Rattle.object_store.specs.Tokens.{AreOf}
 use Rattle.object_store.specs.Walk.{AllBelow}
