@@ -24,6 +24,9 @@ pub mod Texts
 pub mod Counted
 pub mod Runs
 pub mod Readings
+pub mod Ordered
+pub mod Items
+pub mod Canonical
 pub mod First
 pub mod Rooms
 pub mod Pending

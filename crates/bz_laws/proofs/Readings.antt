@@ -107,7 +107,7 @@ leaf-begins letter [] t o w = record { byte = letter; rest = t; is = refl; opene
 leaf-begins letter (b ∷ word) t o w = record { byte = b; rest = word ++ t; is = refl; opener = word-opener b w.0 }
 
 -- labels of an object, and of a list of objects
-abbrev HasAllLabels : Mode → Objects → List ℕ → Type 0
+abbrev pub HasAllLabels : Mode → Objects → List ℕ → Type 0
 HasAllLabels Mode.Unlabelled os labels = labels ≡ []
 HasAllLabels Mode.Labelled os labels = (length labels ≡ sizes os) × AllByRecursion (λ label. (1 ≤ label) × (label ≤ 1000000)) labels
 
@@ -133,11 +133,11 @@ drop-nil zero xs e = e
 drop-nil (suc n) [] e = refl
 drop-nil (suc n) (x ∷ xs) e = absurd (cc)
 
-first-labels : (mode : Mode) (o : Object) (os : Objects) (labels : List ℕ) → HasAllLabels mode (more o os) labels → HasLabels mode o (take (size o) labels)
+pub first-labels : (mode : Mode) (o : Object) (os : Objects) (labels : List ℕ) → HasAllLabels mode (more o os) labels → HasLabels mode o (take (size o) labels)
 first-labels Mode.Unlabelled o os labels h = take-nil (size o) labels h
 first-labels Mode.Labelled o os labels h = (let n = h.0 in omega (arith, length-take (size o) labels), all-take (λ label. (1 ≤ label) × (label ≤ 1000000)) (size o) labels h.1)
 
-other-labels : (mode : Mode) (o : Object) (os : Objects) (labels : List ℕ) → HasAllLabels mode (more o os) labels → HasAllLabels mode os (drop (size o) labels)
+pub other-labels : (mode : Mode) (o : Object) (os : Objects) (labels : List ℕ) → HasAllLabels mode (more o os) labels → HasAllLabels mode os (drop (size o) labels)
 other-labels Mode.Unlabelled o os labels h = drop-nil (size o) labels h
 other-labels Mode.Labelled o os labels h = (let n = h.0 in omega (arith, length-drop (size o) labels), all-drop (λ label. (1 ≤ label) × (label ≤ 1000000)) (size o) labels h.1)
 
@@ -145,15 +145,15 @@ no-labels : (labels : List ℕ) → length labels ≡ 0 → labels ≡ []
 no-labels [] e = refl
 no-labels (a ∷ labels) e = absurd (omega arith)
 
-none-labels : (mode : Mode) (labels : List ℕ) → HasAllLabels mode none labels → labels ≡ []
+pub none-labels : (mode : Mode) (labels : List ℕ) → HasAllLabels mode none labels → labels ≡ []
 none-labels Mode.Unlabelled labels h = h
 none-labels Mode.Labelled labels h = no-labels labels h.0
 
-neutral-labels : (mode : Mode) (labels : List ℕ) → HasLabels mode Object.Unit_ labels → labels ≡ []
+pub neutral-labels : (mode : Mode) (labels : List ℕ) → HasLabels mode Object.Unit_ labels → labels ≡ []
 neutral-labels Mode.Unlabelled labels h = h
 neutral-labels Mode.Labelled labels h = no-labels labels h.0
 
-join-labels : (n k : ℕ) (l m : List ℕ) → n ≡ k → take n l ≡ take k m → drop n l ≡ drop k m → l ≡ m
+pub join-labels : (n k : ℕ) (l m : List ℕ) → n ≡ k → take n l ≡ take k m → drop n l ≡ drop k m → l ≡ m
 join-labels n k l m e t d = sym (take-append-drop n l) ∙ ap (λ z. z ++ drop n l) t ∙ ap (λ z. take k m ++ z) d ∙ take-append-drop k m
 
 -- the label of an atom
@@ -201,11 +201,11 @@ option-few s R parts i o few h =
     let out : length parts ≤ i → ⊥ = λ le. let none_there : Has s R (node_of s None) (range_of s None) o = subst (λ q. Has s R (node_of s q) (range_of s q) o) (part_missing parts i le) h in none_there in
     omega (arith, out)
 
-pick-labels : (mode : Mode) (i : ℕ) (o : Object) (labels : List ℕ) → HasLabels mode (Object.Pick i o) labels → HasLabels mode o labels
+pub pick-labels : (mode : Mode) (i : ℕ) (o : Object) (labels : List ℕ) → HasLabels mode (Object.Pick i o) labels → HasLabels mode o labels
 pick-labels Mode.Unlabelled i o labels h = h
 pick-labels Mode.Labelled i o labels h = h
 
-part-labels : (mode : Mode) (o : Object) (os : Objects) (labels : List ℕ) → size o ≡ sizes os → HasLabels mode o labels → HasAllLabels mode os labels
+pub part-labels : (mode : Mode) (o : Object) (os : Objects) (labels : List ℕ) → size o ≡ sizes os → HasLabels mode o labels → HasAllLabels mode os labels
 part-labels Mode.Unlabelled o os labels e h = h
 part-labels Mode.Labelled o os labels e h = (h.0 ∙ e, h.1)
 

@@ -6,3 +6,4 @@ pub mod Orders
 pub mod Spelled
 pub mod Parts
 pub mod Pending
+pub mod InOrder

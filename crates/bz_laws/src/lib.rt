@@ -1,11 +1,12 @@
-//! The laws that every bound, decision and making stands on.
+//! The laws that every bound, decision, making and text stands on.
 //!
 //! They are proved over the definitions of `bz_model` alone. Each public function does nothing, and
 //! its contract is one law over every specification; the lemmas behind it stand in `proofs/`, for
 //! the crates above to cite. Few definitions are added: sums of terms (`specs/Terms.antt`), what
-//! the laws need of a sound specification (`specs/Sound.antt`), and numbers for all nodes that
-//! cover what the parts give or are reached by it (`specs/Values.antt`). No clause speaks of code,
-//! of rounding or of bits.
+//! the laws need of a sound specification (`specs/Sound.antt`, `specs/Spelled.antt`), numbers for
+//! nodes that cover what the parts give or are reached by it (`specs/Values.antt`), a making that
+//! has begun (`specs/Pending.antt`), and objects in canonical order (`specs/InOrder.antt`). No
+//! clause speaks of code or of rounding.
 #![tactic(auto)]
 
 pub mod at_heights;

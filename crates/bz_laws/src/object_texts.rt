@@ -3,6 +3,7 @@ ghost use Rattle.std.specs.Prelude.{◌≡◌, ℕ, List};
 ghost use Rattle.bz_model.specs.Spec.{Spec};
 ghost use Rattle.bz_model.specs.Object.{Object, Belongs};
 ghost use Rattle.bz_model.specs.ObjectText.{object_text, IsTextOf, IsCanonicalText};
+ghost use Rattle.bz_laws.specs.InOrder.{StandsInOrder};
 ghost use Rattle.bz_laws.specs.Spelled.{IsPlain};
 
 /// An object has one text with given labels.
@@ -27,4 +28,16 @@ pub fn a_canonical_text_is_printed_again()
     ensures { (s : Spec) (e : ℕ) (text : List ℕ) (o p : Object) (labels others : List ℕ)
         (b : Belongs s e p) → IsPlain s → IsCanonicalText s e text o labels
         → IsTextOf s e text p others → text ≡ object_text s e p b others }
+{}
+
+/// Canonical texts are those of objects that stand in order: where a text is that of an object with
+/// labels, it is the object's canonical text exactly where each set's parts stand in the order of
+/// their least labels and each cycle begins with the part that holds its least label.
+pub fn canonical_texts_stand_in_order()
+    ensures in_order { (s : Spec) (e : ℕ) (text : List ℕ) (o : Object) (labels : List ℕ)
+        (b : Belongs s e o) → IsPlain s → IsTextOf s e text o labels
+        → text ≡ object_text s e o b labels → StandsInOrder o labels }
+    ensures canonical { (s : Spec) (e : ℕ) (text : List ℕ) (o : Object) (labels : List ℕ)
+        (b : Belongs s e o) → IsTextOf s e text o labels → StandsInOrder o labels
+        → text ≡ object_text s e o b labels }
 {}
