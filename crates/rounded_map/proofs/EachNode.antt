@@ -1,5 +1,5 @@
 -- Going through the nodes, one value after another.
-use Rattle.std.proofs.Common.{◌≡◌, ℕ, suc, ◌+◌, ◌<◌, ◌≤◌, List, [], ◌∷◌, ◌++◌, length, map, take, set, get_or, arith, sym, ap, subst, ◌∙◌, add-one, Some}
+use Rattle.std.proofs.Common.{◌≡◌, ℕ, suc, ◌+◌, ◌<◌, ◌≤◌, List, [], ◌∷◌, ◌++◌, length, map, take, set, get_or, arith, sym, ap, subst, ◌∙◌, add-one, Some, slice_get}
 use Rattle.std.proofs.Math.Seq.{take-suc-set}
 use Rattle.std.proofs.lemmas.List.{take_all, length-map}
 use Rattle.bz_model.specs.Spec.{Spec, Node, Range, node_at, range_at}
@@ -8,7 +8,7 @@ use Rattle.class_system.specs.NodeOrder.{parts_of}
 use Rattle.class_system.specs.NodeResults.{node_results, ranged_nodes}
 use Rattle.class_system.specs.Sound.{IsSound, RefersBelow, HasTextRange}
 use Rattle.class_system.proofs.Results.{results-more, results-all}
-use Rattle.class_system.proofs.Soundness.{part_below, node_listed, range_listed}
+use Rattle.class_system.proofs.Soundness.{part_below, node_listed, range_listed, body_in_range}
 use Rattle.class_system.specs.Views.{spec_node, spec_range}
 use Rattle.class_system.specs.declared.expr.Expr.{Expr}
 use Rattle.class_system.specs.declared.ranges.Range as system
@@ -25,6 +25,12 @@ pub record IsListed (s : Spec) (e : ℕ) (n : Node) (r : Range) : Type 0 where
 pub parts_before : (s : Spec) → IsSound s → (e before : ℕ) (n : Node) → node_at s e ≡ Some n → before ≡ e → Each (λ p. p < before) (parts_of n)
 parts_before s sound e before n at same = record {
   at = λ i p is_part. omega (arith, part_below s sound e p n at (record { place = i; is_there = is_part }));
+}
+
+-- Each class's body is one of the nodes.
+pub bodies_inside : (s : Spec) → IsSound s → (bodies : List ℕ) (n : ℕ) → bodies ≡ s.bodies → n ≡ length s.nodes → Each (λ b. b < n) bodies
+bodies_inside s sound bodies n are same = record {
+  at = λ c b at. omega (arith, body_in_range s sound c b (ap (λ bs. slice_get bs c) (sym are) ∙ at));
 }
 
 -- A node refers to a class that has an entry.

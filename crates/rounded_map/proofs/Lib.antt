@@ -1,3 +1,5 @@
 pub mod Ranged
 pub mod PartsListed
 pub mod EachNode
+pub mod Entries
+pub mod Missing

@@ -9,6 +9,9 @@ use Rattle.class_system.proofs.Results.{mapped-at}
 pub first-in_range : (parts : List ExprId) (n : ℕ) → 0 < length parts → Each (λ p. p < n) (map number parts) → (get_or parts 0 (record { 0 = 0 })).0 < n
 first-in_range parts n some each = each.at 0 _ (mapped-at number parts 0 (record { 0 = 0 }) some)
 
+pub part-in_range : (parts : List ExprId) (n i : ℕ) (d : ExprId) → i < length parts → Each (λ p. p < n) (map number parts) → (get_or parts i d).0 < n
+part-in_range parts n i d within each = each.at i _ (mapped-at number parts i d within)
+
 -- The parts after the first.
 pub rest-in_range : (parts : List ExprId) (n i : ℕ) → i < length (take (length parts - 1) (drop 1 parts)) → Each (λ p. p < n) (map number parts) → (get_or (take (length parts - 1) (drop 1 parts)) i (record { 0 = 0 })).0 < n
 rest-in_range [] n i within each = absurd (omega arith)

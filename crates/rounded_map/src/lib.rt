@@ -8,3 +8,7 @@
 #![tactic(auto)]
 
 pub mod lower;
+pub mod upper;
+
+pub use lower::{eval_lo, sweep_lo};
+pub use upper::{NoValue, PostFault, eval_hi, is_post_fixed, sweep_hi};
