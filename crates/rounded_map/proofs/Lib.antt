@@ -2,4 +2,8 @@ pub mod Ranged
 pub mod PartsListed
 pub mod EachNode
 pub mod Entries
-pub mod Missing
+pub mod LaidOut
+pub mod AtNode
+pub mod Covering
+pub mod MapMonotone
+pub mod Bounding
