@@ -1,8 +1,10 @@
 -- What the rounded map's values bound, and what they are reached by.
-use Rattle.std.proofs.Common.{◌≡◌, ℕ, zero, suc, ◌<◌, ◌≤◌, List, [], ◌∷◌, length, map, min, max, refl, sym, ap, subst, ◌∙◌, arith, Option, Some, None, replicate, slice_get}
-use Rattle.std.specs.Prelude.{slice_index, is_some, IsTrue}
+use Rattle.std.proofs.Common.{◌≡◌, ℕ, zero, suc, ◌<◌, ◌≤◌, List, [], ◌∷◌, length, map, min, max, refl, sym, ap, subst, ◌∙◌, arith, Option, Some, None, replicate, slice_get, Result, Ok, Err}
+use Rattle.std.specs.Prelude.{slice_index, is_some, IsTrue, OnOk}
+use Rattle.std.proofs.lemmas.List.{length-map}
+use Rattle.std.proofs.Math.ListN.{length-replicate}
 use Rattle.std.proofs.lemmas.Option.{slice_get_within, same_Some}
-use Rattle.bz_model.specs.Fraction.{Fraction, AtMost, units}
+use Rattle.bz_model.specs.Fraction.{Fraction, AtMost, units, ratio}
 use Rattle.bz_model.specs.Spec.{Spec, body_of}
 use Rattle.bz_model.specs.Object.{HasWithin, Belongs}
 use Rattle.bz_model.specs.Totals.{Above, Below}
@@ -67,7 +69,7 @@ body-within vs (b ∷ bodies) (n ∷ classes) each zero body at = first (value_a
     first : (o : Option ℕ) → value_at vs b ≡ o → IsNoGreater o (Some n) → IsBodyWithin vs (n ∷ classes) 0 body
     first None is h = absurd h
     first (Some v) is h = record { value = v; is_there = ap (value_at vs) (sym (same_Some b body at)) ∙ is; within = h }
-body-within vs (b ∷ bodies) (n ∷ classes) (suc c) body at =
+body-within vs (b ∷ bodies) (n ∷ classes) each (suc c) body at =
     let h = body-within vs bodies classes each.1 c body at in
     record { value = h.value; is_there = h.is_there; within = h.within }
 
@@ -114,3 +116,46 @@ module _ (s : Spec) (x : Fraction) (F : ℕ) (sound : IsSound s) (classes : List
         subst (λ v. Below x (units F v) (Belongs s body)) (sym (raised-entry values s.bodies classes c body at (omega (arith, slice_get_within s.bodies c body at))))
         (below-max x F (slice_index classes c) (slice_index values body) (Belongs s body) (entries.at c body at) ((values-below s x F sound classes entries).at body (body_in_range s sound c body at)));
   }
+
+-- A sweep has an entry for each class.
+pub length-at_each : {A B C : Type 0} (g : A → B → C) (xs : List A) (ys : List B) → length ys ≡ length xs → length (at_each g xs ys) ≡ length xs
+length-at_each g [] ys e = refl
+length-at_each g (x ∷ xs) [] e = absurd (omega arith)
+length-at_each g (x ∷ xs) (y ∷ ys) e = let rest : length (at_each g xs ys) ≡ length xs = length-at_each g xs ys (omega arith) in omega arith
+
+-- Zeros are reached by the empty list.
+zero-at : (m c : ℕ) → slice_index (replicate m 0) c ≡ 0
+zero-at zero c = refl
+zero-at (suc m) zero = refl
+zero-at (suc m) (suc c) = zero-at m c
+
+-- Lower sweeps from zero, and how many entries they have.
+abbrev pub lower_sweeps : (s : Spec) (x : Fraction) (F n : ℕ) → List ℕ
+lower_sweeps s x F n = repeated (sweep_down (setting s x.num x.den F)) n (replicate (length s.bodies) 0)
+
+pub length-lower_sweeps : (t : Setting) (n : ℕ) → length (repeated (sweep_down t) n (replicate (length t.spec.bodies) 0)) ≡ length t.spec.bodies
+length-lower_sweeps t zero = length-replicate (length t.spec.bodies) 0
+length-lower_sweeps t (suc n) =
+    let v = repeated (sweep_down t) n (replicate (length t.spec.bodies) 0) in
+    let before : length v ≡ length t.spec.bodies = length-lower_sweeps t n in
+    length-at_each max v (bodies_down t (values_down t v)) (length-map t.spec.bodies (slice_index (values_down t v)) ∙ sym before) ∙ before
+
+-- The entries of lower sweeps from zero are reached.
+pub sweeps-reached : (s : Spec) (x : Fraction) (F : ℕ) → IsSound s → (n : ℕ) → AreBelow s x F (lower_sweeps s x F n)
+sweeps-reached s x F sound zero = record {
+  at = λ c body at. subst (λ v. Below x (units F v) (Belongs s body)) (sym (zero-at (length s.bodies) c)) (below-zero x F (Belongs s body));
+}
+sweeps-reached s x F sound (suc n) = sweep-below s x F sound (lower_sweeps s x F n) (length-lower_sweeps (setting s x.num x.den F) n) (sweeps-reached s x F sound n)
+
+-- Where an answer is Ok, what follows from what then holds.
+pub on_ok : {V E P Q : Type 0} (r : Result V E) → OnOk r P → (P → Q) → OnOk r Q
+on_ok (Ok v) h f = f h
+on_ok (Err e) h f = h
+
+-- A fraction within the limits is the ratio of its parts.
+pub post_fixed-at : (s : Spec) (num den F : ℕ) (classes : List ℕ) → IsSound s → 1 ≤ den → IsPostFixed (setting s num den F) classes → AreAbove s (ratio num den) F classes
+post_fixed-at s num den F classes sound positive fixed =
+    post_fixed-above s (ratio num den) F sound classes (subst (λ d. IsPostFixed (setting s num d F) classes) (least den positive) fixed)
+  where
+    least : (d : ℕ) → 1 ≤ d → d ≡ max d 1
+    least d h = omega arith

@@ -7,6 +7,7 @@
 //! the exact values. No call takes memory, and each ticks once.
 #![tactic(auto)]
 
+pub mod laws;
 pub mod lower;
 pub mod upper;
 

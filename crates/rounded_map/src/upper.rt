@@ -1,6 +1,7 @@
 //! Upper values of the nodes, upper sweeps, and the test that a vector is post-fixed.
 ghost use Rattle.std.specs.Prelude.{◌≡◌, ℕ, ◌+◌, ◌<◌, ◌≤◌, map, length, Some, option_and_then, OnOk, IfErr, IsTrue, ◌↔◌};
 ghost use Rattle.fixed_enclosure.specs.UpperValues.{IsNoGreater, AreNoGreater};
+ghost use Rattle.bz_model.specs.Fraction.{ratio};
 ghost use Rattle.bz_model.specs.Spec.{Spec};
 ghost use Rattle.class_system.specs.Each.{Each};
 ghost use Rattle.class_system.specs.Sound.{RefersBelow, HasTextRange, IsTextRange};
@@ -10,6 +11,7 @@ ghost use Rattle.fixed_enclosure.specs.Rounded.{atom_up, add_up, mul_up, of_both
 ghost use Rattle.series_bounds.specs.Series.{Kind, counted_up};
 ghost use Rattle.series_bounds.specs.Lists.{total_up, product_up};
 ghost use Rattle.rounded_map.specs.RoundedMap.{setting, at_each, lesser, value_at, value_up, values_up, bodies_up, sweep_up, IsPostFixed, IsFirstAbove, IsFirstMissing};
+ghost use Rattle.rounded_map.specs.Bounding.{AreAbove};
 
 use bz_model::fraction::Fraction;
 use bz_model::steps::Steps;
@@ -282,7 +284,9 @@ fn lesser_of(entry: u64, value: Option<u64>) -> u64
 ///
 /// `classes` has one entry per class and `nodes` one per node, both in units of `2^-F`. `nodes` is
 /// overwritten. `PostFault` comes exactly where some body has no value or one above its class's entry,
-/// with the least such class and that value. One tick. Takes no memory.
+/// with the least such class and that value. Where it answers Ok, each entry bounds what the objects
+/// of its class total, of whatever height. One tick. Takes no memory. Post-fixed is called pre-fixed
+/// in some books.
 pub fn is_post_fixed<const F: u32, L: Ledger>(
     system: &System,
     x: Fraction,
@@ -294,6 +298,7 @@ pub fn is_post_fixed<const F: u32, L: Ledger>(
     requires one_per_class { length classes.now ≡ length system.now.bodies }
     requires one_per_node { length nodes.old ≡ length system.now.nodes }
     ensures post_fixed { OnOk result (IsPostFixed (setting system.now x.num x.den F) classes.now) }
+    ensures bounds { OnOk result (AreAbove system.now (ratio x.num x.den) F classes.now) }
     ensures fault { IfErr result (λ fault. IsFirstAbove (bodies_up (setting system.now x.num x.den F) (values_up (setting system.now x.num x.den F) classes.now)) classes.now fault.class_id.0 fault.got) }
     ensures length { length nodes.new ≡ length nodes.old }
     ensures ticks { steps.new ≡ steps.old + 1 }
