@@ -159,3 +159,11 @@ post_fixed-at s num den F classes sound positive fixed =
   where
     least : (d : ℕ) → 1 ≤ d → d ≡ max d 1
     least d h = omega arith
+
+-- The test of the bodies' values, as the code finds them.
+pub post_fixed-found : (t : Setting) (classes : List ℕ) (values : List (Option ℕ)) (bodies : List ℕ) → values ≡ values_up t classes → bodies ≡ t.spec.bodies → AreNoGreater (map (value_at values) bodies) (map Some classes) → IsPostFixed t classes
+post_fixed-found t classes values bodies values_are bodies_are h = record {
+  each =
+      subst (λ (us : List (Option ℕ)). AreNoGreater (map (value_at us) t.spec.bodies) (map Some classes)) values_are
+      (subst (λ (bs : List ℕ). AreNoGreater (map (value_at values) bs) (map Some classes)) bodies_are h);
+}
