@@ -1,2 +1,9 @@
 pub mod Ranged
 pub mod PartsListed
+pub mod EachNode
+pub mod Entries
+pub mod LaidOut
+pub mod AtNode
+pub mod Covering
+pub mod MapMonotone
+pub mod Bounding

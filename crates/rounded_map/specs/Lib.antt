@@ -1,2 +1,3 @@
 pub mod RoundedMap
+pub mod Bounding
 pub mod Derivative

@@ -1,11 +1,11 @@
 -- The rounded map: the values of nodes from a vector of class values, its sweeps, and what post-fixed means. A
 -- vector has one number for each class. An upper value is None where there is no value.
-use Rattle.std.specs.Prelude.{ℕ, zero, suc, ◌^◌, min, max, Bool, false, nat_le, List, [], ◌∷◌, map, slice_index, Option, Some, None, option_map, option_and_then}
+use Rattle.std.specs.Prelude.{◌≡◌, ◌≢◌, ◌<◌, ℕ, zero, suc, ◌^◌, min, max, Bool, false, nat_le, List, [], ◌∷◌, map, length, slice_index, slice_index_or, Option, Some, None, option_map, option_and_then}
 use Rattle.std.specs.List.{list_all}
 use Rattle.bz_model.specs.Spec.{Spec, Node, Range}
 use Rattle.class_system.specs.NodeResults.{node_results, ranged_nodes}
 use Rattle.fixed_enclosure.specs.Rounded.{atom_down, atom_up}
-use Rattle.fixed_enclosure.specs.UpperValues.{AreNoGreater}
+use Rattle.fixed_enclosure.specs.UpperValues.{IsNoGreater, AreNoGreater}
 use Rattle.series_bounds.specs.Series.{Kind, counted_down, counted_up}
 use Rattle.series_bounds.specs.Lists.{total_down, product_down, total_up, product_up}
 
@@ -18,9 +18,7 @@ pub record Setting : Type 0 where
 
 -- The value at a place, None past the end.
 abbrev pub value_at : List (Option ℕ) → ℕ → Option ℕ
-value_at [] i = None
-value_at (v ∷ vs) zero = v
-value_at (v ∷ vs) (suc i) = value_at vs i
+value_at vs i = slice_index_or vs i None
 
 -- All the values, where each is there.
 abbrev pub all_values : List (Option ℕ) → Option (List ℕ)
@@ -97,9 +95,22 @@ is_at_most (Some v) entry = nat_le v entry
 abbrev pub is_post_fixed : Setting → List ℕ → Bool
 is_post_fixed t classes = list_all (λ b. b) (at_each is_at_most (bodies_up t (values_up t classes)) classes)
 
--- The same as a fact: where a vector is post-fixed, no body's upper value is greater than its class's entry.
-abbrev pub IsPostFixed : Setting → List ℕ → Type 0
-IsPostFixed t classes = AreNoGreater (bodies_up t (values_up t classes)) (map Some classes)
+-- The same as a fact: where a vector is post-fixed, there is an entry for each class, and no body's upper value is greater than its class's entry.
+pub record IsPostFixed (t : Setting) (classes : List ℕ) : Type 0 where
+  pub each : AreNoGreater (bodies_up t (values_up t classes)) (map Some classes)
+
+-- At the first place where one of some values is greater than its class's entry, it is this value, or there is none.
+pub record IsFirstAbove (values : List (Option ℕ)) (classes : List ℕ) (place : ℕ) (got : Option ℕ) : Type 0 where
+  pub within : place < length classes
+  pub value : got ≡ value_at values place
+  pub above : ¬ IsNoGreater got (Some (slice_index classes place))
+  pub before : (c : ℕ) → c < place → IsNoGreater (value_at values c) (Some (slice_index classes c))
+
+-- The first place at which there is no value.
+pub record IsFirstMissing (values : List (Option ℕ)) (place : ℕ) : Type 0 where
+  pub within : place < length values
+  pub missing : value_at values place ≡ None
+  pub before : (e : ℕ) → e < place → value_at values e ≢ None
 
 -- The setting of a specification, the parts of x, and the fraction bits.
 abbrev pub setting : Spec → (num den bits : ℕ) → Setting

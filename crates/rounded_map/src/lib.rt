@@ -7,4 +7,9 @@
 //! the exact values. No call takes memory, and each ticks once.
 #![tactic(auto)]
 
+pub mod laws;
 pub mod lower;
+pub mod upper;
+
+pub use lower::{eval_lo, sweep_lo};
+pub use upper::{NoValue, PostFault, eval_hi, is_post_fixed, sweep_hi};

@@ -1,5 +1,5 @@
 //! Lower values of the nodes, and lower sweeps.
-ghost use Rattle.std.specs.Prelude.{◌≡◌, ℕ, ◌+◌, ◌<◌, ◌≤◌, map, length, slice_index};
+ghost use Rattle.std.specs.Prelude.{◌≡◌, ℕ, ◌+◌, ◌<◌, ◌≤◌, max, map, length, slice_index};
 ghost use Rattle.bz_model.specs.Spec.{Spec};
 ghost use Rattle.class_system.specs.Each.{Each};
 ghost use Rattle.class_system.specs.Sound.{RefersBelow, HasTextRange, IsTextRange};
@@ -8,7 +8,7 @@ ghost use Rattle.class_system.specs.NodeOrder.{parts_of};
 ghost use Rattle.fixed_enclosure.specs.Rounded.{atom_down};
 ghost use Rattle.series_bounds.specs.Series.{Kind, counted_down};
 ghost use Rattle.series_bounds.specs.Lists.{total_down, product_down};
-ghost use Rattle.rounded_map.specs.RoundedMap.{setting, value_down, values_down, sweep_down};
+ghost use Rattle.rounded_map.specs.RoundedMap.{setting, at_each, value_down, values_down, sweep_down};
 
 use bz_model::fraction::Fraction;
 use bz_model::steps::Steps;
@@ -46,6 +46,42 @@ pub fn eval_lo<const F: u32, L: Ledger>(
     for e in 0..nodes.len() {
         let value = node_lo(&expressions[e], ranges[e], atom, classes, &nodes[..e]);
         nodes[e] = value.0;
+    }
+}
+
+/// One lower sweep: each class gets the greater of its entry and its body's lower value.
+///
+/// `classes` has one entry per class and `nodes` one per node, both in units of `2^-F`. `nodes` is
+/// overwritten. One tick. Takes no memory. A step of Kleene iteration (Pivoteau, Salvy and Soria
+/// 2012).
+pub fn sweep_lo<const F: u32, L: Ledger>(
+    system: &System,
+    x: Fraction,
+    classes: &mut [u64],
+    nodes: &mut [u64],
+    steps: &mut Steps<L>,
+)
+    requires fraction_bits { (24 ≤ F) × (F ≤ 56) }
+    requires one_per_class { length classes.old ≡ length system.now.bodies }
+    requires one_per_node { length nodes.old ≡ length system.now.nodes }
+    ensures swept { classes.new ≡ sweep_down (setting system.now x.num x.den F) classes.old }
+    ensures values { nodes.new ≡ values_down (setting system.now x.num x.den F) classes.old }
+    ensures ticks { steps.new ≡ steps.old + 1 }
+{
+    eval_lo::<F, L>(system, x, classes, nodes, steps);
+    system.known();
+    raise_entries(system.bodies(), nodes, classes);
+}
+
+/// Each entry becomes the greater of itself and its body's value.
+fn raise_entries(bodies: &[ExprId], values: &[u64], classes: &mut [u64])
+    requires lengths { length classes.old ≡ length bodies.now }
+    requires bodies { Each (λ body. body < length values.now) (map number bodies.now) }
+    ensures raised { classes.new ≡ at_each max classes.old (map (slice_index values.now) (map number bodies.now)) }
+{
+    for c in 0..classes.len() {
+        let value = values[bodies[c].0 as usize];
+        classes[c] = classes[c].max(value);
     }
 }
 

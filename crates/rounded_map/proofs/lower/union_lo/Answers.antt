@@ -1,9 +1,9 @@
 use Rattle.std.proofs.Common.{arith}
-use Rattle.rounded_map.proofs.PartsListed.{first-in_range, later-in_range}
+use Rattle.rounded_map.proofs.PartsListed.{first-in_range, rest-in_range}
 use Rattle.rounded_map.proofs.lower.union_lo.Goals as goal
 
 pub bounds-before-first : goal.bounds-before-first
 bounds-before-first g c = first-in_range c.args.parts.now _ (omega arith) c.requires
 
 pub bounds-before-part : goal.bounds-before-part
-bounds-before-part g c = ?
+bounds-before-part g c = rest-in_range c.args.parts.now _ _ c.loop-part-test.true c.requires
