@@ -112,12 +112,16 @@ fn print_token(
         Expr::Empty(word) => push_leaf(text, b"E", word.bytes()),
         Expr::Atom(word) => push_leaf(text, b"Z", word.bytes()),
         Expr::Union(parts) => {
-            let Token::Pick(i) = token else { unreachable!() };
+            let Token::Pick(i) = token else {
+                unreachable!()
+            };
             push_option(text, i)?;
             todos.push_object(parts.items()[i as usize])
         }
         Expr::Seq(part) => {
-            let Token::Count(k) = token else { unreachable!() };
+            let Token::Count(k) = token else {
+                unreachable!()
+            };
             text.push(b'[')?;
             todos.push_byte(b']')?;
             todos.push_objects(*part, k)

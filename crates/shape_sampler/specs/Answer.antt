@@ -75,4 +75,3 @@ pub record IsPickVisit (s : Spec) (x : Fraction) (e : ℕ) (parts : List ℕ) (b
   pub never_made : answer ≢ Made
   pub never_over : answer ≢ Overshot
   pub picks : answer ≡ Moved → HasPicked s x e parts before now
-
