@@ -8,14 +8,10 @@ ghost use Rattle.spec_reader.specs.Reading.{Grammar, Refuses};
 /// A text stands for at most one specification.
 pub fn a_text_stands_for_one_specification()
     ensures one { (bytes : List ℕ) (s t : Spec) → Grammar bytes s → Grammar bytes t → s ≡ t }
-{
-}
+{}
 
 /// A text that stands for a specification within the limits is refused for want of memory alone.
 pub fn what_stands_is_not_refused()
-    ensures accepted {
-        (bytes : List ℕ) (s : Spec) (f : SpecFault) → length bytes ≤ 65536 → Grammar bytes s
-            → IsWithinLimits s → Refuses bytes f → f ≡ SpecFault.OutOfMemory
-    }
-{
-}
+    ensures accepted { (bytes : List ℕ) (s : Spec) (f : SpecFault) → length bytes ≤ 65536 → Grammar bytes s
+        → IsWithinLimits s → Refuses bytes f → f ≡ SpecFault.OutOfMemory }
+{}
