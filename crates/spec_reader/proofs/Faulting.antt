@@ -1,7 +1,7 @@
 -- The first fault of tokens, and the names that are defined.
-use Rattle.std.proofs.Common.{◌≡◌, ◌≢◌, ◌⊎◌, inl, inr, ℕ, zero, suc, ◌+◌, Bool, true, false, ◌||◌, if◌then◌else◌, List, [], ◌∷◌, ◌++◌, length, drop, map, Option, Some, None, refl, sym, ◌∙◌, ap, subst, arith, append_assoc, append-nil}
+use Rattle.std.proofs.Common.{◌≡◌, ℕ, Bool, true, false, ◌||◌, if◌then◌else◌, List, [], ◌∷◌, ◌++◌, Option, Some, None, refl, sym, ◌∙◌, ap, subst, append_assoc, append-nil}
 use Rattle.std.specs.Cmp.Lexicographic.{same_text}
-use Rattle.bz_model.specs.Spec.{Spec, Mode}
+use Rattle.bz_model.specs.Spec.{Mode}
 use Rattle.spec_reader.specs.declared.tokens.Counting.{Counting}
 use Rattle.spec_reader.specs.declared.tokens.Token.{Token}
 use Rattle.spec_reader.specs.declared.tokens.Placed.{Placed}

@@ -1,19 +1,18 @@
 -- What the tokens of a text are made of.
-use Rattle.std.proofs.Common.{◌≡◌, ◌≢◌, ◌==◌, ◌&&◌, ◌||◌, ℕ, zero, suc, ◌+◌, ◌-◌, ◌*◌, ◌≤◌, Bool, true, false, not, if◌then◌else◌, cond, nat_le, List, [], ◌∷◌, ◌++◌, length, drop, slice_index, codes, Option, Some, None, refl, sym, ◌∙◌, ap, arith, append_assoc, length-append}
-use Rattle.std.specs.List.{list_all, prefix_len, take_while, AllPass}
+use Rattle.std.proofs.Common.{◌≡◌, ◌==◌, ◌&&◌, ◌||◌, ℕ, zero, suc, ◌+◌, ◌-◌, ◌*◌, ◌≤◌, Bool, true, false, not, if◌then◌else◌, cond, nat_le, List, [], ◌∷◌, ◌++◌, length, drop, slice_index, codes, Option, Some, None, refl, sym, ◌∙◌, ap, arith, append_assoc, length-append}
+use Rattle.std.specs.List.{list_all, prefix_len, take_while}
 use Rattle.std.specs.Cmp.Lexicographic.{other_text}
 use Rattle.std.proofs.lemmas.List.Sums.{AllPass-from_list_all, take_while-cons}
 use Rattle.std.proofs.lemmas.Bool.Decides.{nat_tests}
 use Rattle.class_system.specs.Words.{IsLeafWord, IsName}
 use Rattle.class_system.specs.Sound.{IsBound}
 use Rattle.spec_reader.specs.Bytes.{is_blank, is_digit, is_letter, is_run_byte}
-use Rattle.spec_reader.specs.declared.tokens.Counting.{Counting}
 use Rattle.spec_reader.specs.declared.tokens.Token.{Token}
 use Rattle.spec_reader.specs.declared.tokens.Front.{Front}
 use Rattle.spec_reader.specs.declared.tokens.Placed.{Placed}
 use Rattle.spec_reader.specs.declared.tokens.Spot.{Spot}
 use Rattle.spec_reader.specs.Building.{IsEnded}
-use Rattle.spec_reader.specs.Tokens.{is_same, number_of, number_token, begins_with_letter, word_token, run_token, leaf_token, word_after, run_front, begins_with_equals, sign_front, goes_on, front, line_end, placed, made, moved, further, along, tokens_from, tokens_of, beginning}
+use Rattle.spec_reader.specs.Tokens.{is_same, number_of, number_token, begins_with_letter, run_token, leaf_token, word_after, run_front, begins_with_equals, sign_front, front, line_end, placed, made, moved, further, along, tokens_from, tokens_of, beginning}
 
 -- a token of the text's rules
 abbrev pub IsLexical : Token → Type 0

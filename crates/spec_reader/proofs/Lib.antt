@@ -15,3 +15,4 @@ pub mod Lexical
 pub mod Terms
 pub mod Sounds
 pub mod OneText
+pub mod One

@@ -1,5 +1,5 @@
 -- Names that are defined: what a look-up tells, and one token after another.
-use Rattle.std.proofs.Common.{◌≡◌, ◌≢◌, ℕ, zero, suc, ◌+◌, ◌<◌, Bool, true, false, ◌||◌, if◌then◌else◌, List, [], ◌∷◌, ◌++◌, length, drop, get_or, map, Option, Some, None, slice_get, refl, sym, ◌∙◌, ap, arith}
+use Rattle.std.proofs.Common.{◌≡◌, ◌≢◌, ℕ, zero, suc, ◌+◌, ◌<◌, Bool, true, false, ◌||◌, if◌then◌else◌, List, [], ◌∷◌, ◌++◌, length, drop, get_or, Some, None, slice_get, refl, sym, ◌∙◌, ap, arith}
 use Rattle.class_system.specs.Distinct.{IsMissing}
 use Rattle.bz_model.specs.Spec.{Mode}
 use Rattle.spec_reader.specs.declared.tokens.Token.{Token}
@@ -7,7 +7,7 @@ use Rattle.spec_reader.specs.declared.tokens.Placed.{Placed}
 use Rattle.spec_reader.specs.declared.fault.SpecFault.{SpecFault}
 use Rattle.spec_reader.specs.Tokens.{is_same}
 use Rattle.spec_reader.specs.Reading.{plain_tokens}
-use Rattle.spec_reader.specs.Faults.{is_among, with_names, defined_by, line_names, ends_line, fault_at, first_of, first_fault, twice, undefined}
+use Rattle.spec_reader.specs.Faults.{is_among, with_names, defined_by, line_names, ends_line, fault_at, first_fault, twice, undefined}
 use Rattle.spec_reader.proofs.ClassNumbers.{same_is, other_is}
 
 pub among_found : (names : List (List ℕ)) (w : List ℕ) (i : ℕ) → slice_get names i ≡ Some w → is_among names w ≡ true

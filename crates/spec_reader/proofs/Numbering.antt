@@ -1,8 +1,7 @@
 -- The nodes of lists of terms, one term more.
-use Rattle.std.proofs.Common.{◌≡◌, ℕ, suc, ◌+◌, ◌-◌, List, [], ◌∷◌, ◌++◌, length, map, refl, sym, ◌∙◌, ap, append_assoc, length-append, arith}
-use Rattle.bz_model.specs.Spec.{Spec, Node, Range}
-use Rattle.spec_reader.specs.Grammar.{Term, Terms, terms, Definition}
-use Rattle.spec_reader.specs.Tables.{Row, with_term, with_terms, numbers, last_number}
+use Rattle.std.proofs.Common.{◌≡◌, ℕ, suc, List, [], ◌∷◌, ◌++◌, length, map, refl, ap, length-append, arith}
+use Rattle.spec_reader.specs.Grammar.{Term, terms}
+use Rattle.spec_reader.specs.Tables.{Row, with_term, numbers, last_number}
 use Rattle.spec_reader.specs.Building.{with_list}
 
 pub with_list-snoc : (names : List (List ℕ)) (rows : List Row) (ts : List Term) (t : Term) → with_list names rows (ts ++ t ∷ []) ≡ with_term names (with_list names rows ts) t

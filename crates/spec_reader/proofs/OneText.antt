@@ -1,22 +1,22 @@
 -- A text stands for one specification, and is read or refused.
-use Rattle.std.proofs.Common.{◌≡◌, ◌≢◌, ℕ, zero, suc, ◌+◌, ◌≤◌, ◌<◌, Bool, true, false, ◌&&◌, not, List, [], ◌∷◌, ◌++◌, length, drop, get_or, map, Option, Some, None, refl, sym, ◌∙◌, ap, subst, arith, append_assoc}
+use Rattle.std.proofs.Common.{◌≡◌, ◌≢◌, ℕ, zero, suc, ◌≤◌, ◌<◌, Bool, true, false, ◌&&◌, not, List, [], ◌∷◌, ◌++◌, length, drop, get_or, Some, None, refl, sym, ◌∙◌, ap, subst, arith, append_assoc}
 use Rattle.std.specs.List.{list_all, position, AllPass}
 use Rattle.std.proofs.lemmas.List.Sums.{list_all-from_AllPass}
 use Rattle.std.proofs.lemmas.List.Quantifiers.{position-Some}
 use Rattle.std.proofs.lemmas.List.{map-append}
 use Rattle.bz_model.specs.Spec.{Spec, Mode}
-use Rattle.class_system.specs.Limits.{IsWithinLimits, TellsLimit, HasFewParts}
+use Rattle.class_system.specs.Limits.{IsWithinLimits, TellsLimit}
 use Rattle.class_system.specs.declared.limits.BuildFault.{BuildFault}
 use Rattle.spec_reader.specs.declared.tokens.Token.{Token}
 use Rattle.spec_reader.specs.declared.tokens.Placed.{Placed}
 use Rattle.spec_reader.specs.declared.fault.SpecFault.{SpecFault}
 use Rattle.spec_reader.specs.Bytes.{is_text}
 use Rattle.spec_reader.specs.Tokens.{tokens_of}
-use Rattle.spec_reader.specs.Grammar.{Definition, IsText, Begins}
-use Rattle.spec_reader.specs.Machine.{State, Start, Done, Before, run}
+use Rattle.spec_reader.specs.Grammar.{Definition, IsText}
+use Rattle.spec_reader.specs.Machine.{Done, Before}
 use Rattle.spec_reader.specs.Tables.{tables, names_of}
 use Rattle.spec_reader.specs.Faults.{first_fault}
-use Rattle.spec_reader.specs.Reading.{plain_tokens, StandFor, Grammar, IsMisplaced, HasFault, TokensFault, IsReadable, BreaksLimit, Refuses}
+use Rattle.spec_reader.specs.Reading.{plain_tokens, StandFor, Grammar, IsMisplaced, HasFault, BreaksLimit, Refuses}
 use Rattle.spec_reader.proofs.MachineReads.{reads}
 
 same_read : (us : List Token) (m n : Mode) (ds es : List Definition) → IsText us m ds → IsText us n es → ◌≡◌ {A = Before} (record { mode = m; definitions = ds }) (record { mode = n; definitions = es })

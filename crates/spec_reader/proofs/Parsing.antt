@@ -1,6 +1,6 @@
 -- From what the machine has read to what the grammar says.
-use Rattle.std.proofs.Common.{◌≡◌, ◌≢◌, ◌⊎◌, inl, inr, ℕ, zero, suc, ◌+◌, ◌-◌, ◌<◌, ◌≤◌, Bool, true, false, if◌then◌else◌, List, [], ◌∷◌, ◌++◌, length, take, drop, get_or, map, Option, Some, None, refl, sym, ◌∙◌, ap, subst, arith, append_assoc, append-nil, length-append}
-use Rattle.bz_model.specs.Spec.{Spec, Mode, Range}
+use Rattle.std.proofs.Common.{◌≡◌, ◌⊎◌, inl, inr, ℕ, zero, suc, ◌+◌, ◌<◌, ◌≤◌, Bool, true, false, if◌then◌else◌, List, [], ◌∷◌, ◌++◌, length, take, drop, get_or, refl, sym, ◌∙◌, ap, subst, arith, length-append}
+use Rattle.bz_model.specs.Spec.{Mode, Range}
 use Rattle.spec_reader.specs.declared.tokens.Counting.{Counting}
 use Rattle.spec_reader.specs.declared.tokens.Token.{Token}
 use Rattle.spec_reader.specs.declared.tokens.Placed.{Placed}
@@ -10,7 +10,7 @@ use Rattle.spec_reader.specs.Machine.{State, Start, Lines, Named, Want, Counts, 
 use Rattle.spec_reader.specs.Tables.{names_of}
 use Rattle.spec_reader.specs.Reading.{plain_tokens, IsMisplaced}
 use Rattle.spec_reader.specs.Faults.{line_names, with_names, ends_line, defined_by, is_among}
-use Rattle.spec_reader.specs.Building.{Kept, Represents, Rests, FailsAt, IsEnded, IsParsed, IsNamed, drafted, line_rows}
+use Rattle.spec_reader.specs.Building.{Kept, Represents, Rests, FailsAt, IsEnded, IsParsed, IsNamed}
 use Rattle.spec_reader.proofs.Taking.{represented}
 use Rattle.spec_reader.proofs.Viable.{may_go_on, must_stop, run-append}
 use Rattle.spec_reader.proofs.Numbering.{map-snoc, length-mapped}

@@ -1,18 +1,17 @@
 -- The tables of good definitions are sound.
-use Rattle.std.proofs.Common.{◌≡◌, ℕ, zero, suc, ◌+◌, ◌-◌, ◌≤◌, ◌<◌, ◌||◌, Bool, true, false, if◌then◌else◌, List, [], ◌∷◌, ◌++◌, length, map, drop, slice_get, Option, Some, None, refl, sym, ◌∙◌, ap, subst, arith, append_assoc, append-nil, length-append}
+use Rattle.std.proofs.Common.{◌≡◌, ℕ, zero, suc, ◌+◌, ◌<◌, ◌||◌, Bool, true, false, if◌then◌else◌, List, [], ◌∷◌, ◌++◌, length, map, drop, slice_get, Some, refl, sym, ◌∙◌, ap, subst, arith, append_assoc, append-nil, length-append}
 use Rattle.bz_model.specs.Spec.{Spec, Mode, Node, Range}
 use Rattle.class_system.specs.Words.{IsName}
-use Rattle.class_system.specs.Each.{Each, EachPair}
 use Rattle.class_system.specs.NodeOrder.{parts_of, Spans, SpanEach, tree, done, next}
 use Rattle.class_system.specs.Sound.{IsSound, HasTwoParts, RefersBelow, HasLeafWord, SuitsMode, HasTextRange, IsTextRange}
 use Rattle.spec_reader.specs.declared.tokens.Counting.{Counting}
 use Rattle.spec_reader.specs.declared.tokens.Placed.{Placed}
 use Rattle.spec_reader.specs.Tokens.{is_same}
-use Rattle.spec_reader.specs.Grammar.{Term, Terms, none, more, terms, least_count, Definition}
+use Rattle.spec_reader.specs.Grammar.{Term, Terms, none, more, least_count, Definition}
 use Rattle.spec_reader.specs.Tables.{Row, uncounted, counted_node, class_number, with_term, with_terms, numbers, last_number, names_of, bodies_of, tables}
 use Rattle.spec_reader.specs.Faults.{is_among}
-use Rattle.spec_reader.specs.Reading.{plain_tokens, StandFor}
-use Rattle.spec_reader.proofs.Numbering.{last_number-snoc, map-snoc, length-mapped}
+use Rattle.spec_reader.specs.Reading.{StandFor}
+use Rattle.spec_reader.proofs.Numbering.{last_number-snoc, length-mapped}
 use Rattle.spec_reader.proofs.Lexical.{AreLexical}
 use Rattle.spec_reader.proofs.Parsing.{plain-drop_two}
 use Rattle.spec_reader.proofs.Terms.{Suits, how_many, GoodTerm, GoodTerms, GoodDefinitions, Good, good_tokens, text_good}

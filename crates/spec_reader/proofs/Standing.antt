@@ -1,15 +1,14 @@
 -- What is kept stays what was read, as the machine goes on.
-use Rattle.std.proofs.Common.{◌≡◌, ◌==◌, ℕ, ◌+◌, ◌-◌, Bool, true, false, List, [], ◌∷◌, ◌++◌, length, map, None, refl, sym, ◌∙◌, ap, append_assoc, length-append, arith}
-use Rattle.bz_model.specs.Spec.{Spec, Node, Range}
+use Rattle.std.proofs.Common.{◌≡◌, ◌==◌, ℕ, true, false, List, [], ◌∷◌, ◌++◌, length, map, None, refl, sym, ◌∙◌, ap, arith}
+use Rattle.bz_model.specs.Spec.{Spec, Node}
 use Rattle.class_system.specs.Views.{number}
 use Rattle.class_system.specs.declared.ids.ExprId.{ExprId}
 use Rattle.class_system.specs.Drafting.{with_node, with_body}
-use Rattle.spec_reader.specs.declared.tokens.Counting.{Counting}
 use Rattle.spec_reader.specs.declared.sums.Expects.{Expects}
-use Rattle.spec_reader.specs.Grammar.{Term, Terms, terms, Definition, sum_of, product_of, counted}
-use Rattle.spec_reader.specs.Machine.{Frame, Wrap, bare, over, wrapped, Outer, Before, Place, State, Lines, Have, Failed, value, fresh, opened, with_frame, with_one_more, next_product, closed, line_over}
-use Rattle.spec_reader.specs.Tables.{Row, uncounted, counted_node, with_term, with_terms, numbers, last_number, bodies_of}
-use Rattle.spec_reader.specs.Building.{KeptOuter, Kept, with_list, line_rows, frame_rows, around_rows, rows_at, drafted, product_numbers, factor_numbers, stack_of, Stands, Rests, joined, joined_number, IsLeaf, empty_is, atom_is, class_is, EndsSum, wrapped_draft, wrapped_number, Represents, Leads}
+use Rattle.spec_reader.specs.Grammar.{Term, terms, Definition, sum_of, product_of}
+use Rattle.spec_reader.specs.Machine.{Frame, Wrap, bare, over, wrapped, Outer, Before, Place, Failed, value, opened, with_frame, with_one_more, next_product, closed, line_over}
+use Rattle.spec_reader.specs.Tables.{Row, uncounted, counted_node, with_term, numbers, last_number, bodies_of}
+use Rattle.spec_reader.specs.Building.{KeptOuter, Kept, with_list, line_rows, around_rows, rows_at, drafted, product_numbers, factor_numbers, stack_of, Stands, joined, joined_number, IsLeaf, empty_is, atom_is, class_is, EndsSum, wrapped_draft, wrapped_number, Represents, Leads}
 use Rattle.spec_reader.proofs.Numbering.{with_list-snoc, numbers-snoc, last_number-snoc, map-snoc, length-mapped}
 
 -- the numbers that are kept are those that were read, whatever the tables are

@@ -1,12 +1,11 @@
 -- One token after another.
-use Rattle.std.proofs.Common.{◌≡◌, ◌≢◌, ℕ, zero, suc, ◌+◌, ◌<◌, Bool, true, false, List, [], ◌∷◌, ◌++◌, length, take, drop, map, get_or, Option, Some, None, refl, sym, ◌∙◌, ap, subst, arith, add-one}
+use Rattle.std.proofs.Common.{◌≡◌, ◌≢◌, ℕ, zero, suc, ◌+◌, ◌<◌, Bool, List, [], ◌∷◌, length, take, get_or, refl, sym, ◌∙◌, ap, subst, arith}
 use Rattle.spec_reader.specs.declared.tokens.Token.{Token}
 use Rattle.spec_reader.specs.declared.tokens.Placed.{Placed}
 use Rattle.spec_reader.specs.declared.sums.Expects.{Expects}
 use Rattle.spec_reader.specs.Machine.{State, Lines, Named, Want, Counts, Signed, Bounded, Have, Done, Failed, Before, step, run}
 use Rattle.spec_reader.specs.Reading.{plain_tokens}
-use Rattle.spec_reader.specs.Building.{Kept, Represents, Leads, StopsAt}
-use Rattle.spec_reader.proofs.Viable.{run-append}
+use Rattle.spec_reader.specs.Building.{Kept, Represents, Leads}
 
 -- a state that another is stands for it
 pub leads_along : (names : List (List ℕ)) (s r : State) (t : Token) (b : Bool) (e : Expects) (k : Kept) → s ≡ r → Leads names (step r t) b e k → Leads names (step s t) b e k

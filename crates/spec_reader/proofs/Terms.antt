@@ -1,14 +1,13 @@
 -- What the terms of a text without a fault are made of.
-use Rattle.std.proofs.Common.{◌≡◌, ℕ, zero, suc, ◌+◌, ◌≤◌, ◌<◌, ◌||◌, Bool, true, false, List, [], ◌∷◌, ◌++◌, length, drop, map, Option, Some, None, refl, sym, ◌∙◌, ap, arith}
-use Rattle.bz_model.specs.Spec.{Spec, Mode, Range}
+use Rattle.std.proofs.Common.{◌≡◌, ℕ, suc, ◌≤◌, ◌<◌, Bool, true, false, List, [], ◌∷◌, length, drop, None, refl, arith}
+use Rattle.bz_model.specs.Spec.{Mode, Range}
 use Rattle.class_system.specs.Words.{IsLeafWord, IsName}
 use Rattle.class_system.specs.Sound.{IsBound, IsTextRange}
 use Rattle.spec_reader.specs.declared.tokens.Counting.{Counting}
 use Rattle.spec_reader.specs.declared.tokens.Token.{Token}
 use Rattle.spec_reader.specs.declared.tokens.Placed.{Placed}
-use Rattle.spec_reader.specs.declared.fault.SpecFault.{SpecFault}
 use Rattle.spec_reader.specs.Grammar.{Term, Terms, none, more, terms, sum_of, product_of, least_count, Definition, IsText, text, Definitions, text_end, defined, Sum, MoreProducts, Product, MoreFactors, Factor, summed, no_products, next_product, multiplied, no_factors, next_factor, empty_leaf, atom_leaf, named, group, counting, Bound, no_bound, at_least, at_most, exactly}
-use Rattle.spec_reader.specs.Faults.{is_among, ends_line, defined_by, with_names, fault_at, first_of, first_fault, twice, undefined, needs_labels}
+use Rattle.spec_reader.specs.Faults.{is_among, ends_line, defined_by, with_names, fault_at, first_fault, undefined, needs_labels}
 use Rattle.spec_reader.specs.Reading.{plain_tokens}
 use Rattle.spec_reader.proofs.Lexical.{IsLexical, AreLexical}
 use Rattle.spec_reader.proofs.Faulting.{none_both}

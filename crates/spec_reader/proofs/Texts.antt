@@ -1,11 +1,11 @@
 -- Whole texts: what the lines' tables and the first fault say of the tokens.
-use Rattle.std.proofs.Common.{◌≡◌, ℕ, ◌+◌, ◌≤◌, Bool, true, false, List, [], ◌∷◌, ◌++◌, length, take, drop, Option, Some, None, refl, sym, ◌∙◌, ap, subst, arith}
+use Rattle.std.proofs.Common.{◌≡◌, ℕ, ◌≤◌, true, List, [], length, take, drop, Option, Some, None, sym, ◌∙◌, ap, subst, arith}
 use Rattle.bz_model.specs.Spec.{Spec, Mode}
 use Rattle.spec_reader.specs.declared.tokens.Placed.{Placed}
 use Rattle.spec_reader.specs.declared.fault.SpecFault.{SpecFault}
 use Rattle.spec_reader.specs.declared.reading.Stop.{Stop}
 use Rattle.spec_reader.specs.Grammar.{Definition, IsText}
-use Rattle.spec_reader.specs.Machine.{State, Start, Lines, Done, Before, run}
+use Rattle.spec_reader.specs.Machine.{Start, Lines, run}
 use Rattle.spec_reader.specs.Tables.{names_of, tables}
 use Rattle.spec_reader.specs.Reading.{plain_tokens, StandFor, HasFault, TokensFault}
 use Rattle.spec_reader.specs.Faults.{is_among, line_names, with_names, first_fault}

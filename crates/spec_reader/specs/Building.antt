@@ -1,10 +1,8 @@
 -- What the reader of tokens keeps: the tables so far, and the numbers of the parts that are read.
 use Rattle.std.specs.Prelude.{◌≡◌, ◌≢◌, ℕ, ◌+◌, ◌<◌, take, Option, Some, Bool, true, false, List, [], ◌∷◌, ◌++◌, length, map, None}
-use Rattle.bz_model.specs.Spec.{Spec, Mode, Node, Range}
+use Rattle.bz_model.specs.Spec.{Spec, Mode, Node}
 use Rattle.class_system.specs.Drafting.{with_node}
 use Rattle.class_system.specs.Views.{number, spec_range}
-use Rattle.spec_reader.specs.declared.tokens.Counting.{Counting}
-use Rattle.spec_reader.specs.declared.sums.Frame as code_frame
 use Rattle.spec_reader.specs.declared.sums.Outer as code_outer
 use Rattle.spec_reader.specs.declared.sums.Wrap as code_wrap
 use Rattle.spec_reader.specs.declared.sums.Sums as code_sums
@@ -16,7 +14,7 @@ use Rattle.spec_reader.specs.Reading.{plain_tokens}
 use Rattle.spec_reader.specs.Faults.{with_names, line_names}
 use Rattle.spec_reader.specs.Grammar.{Term, terms}
 use Rattle.spec_reader.specs.Machine.{Frame, Wrap, bare, over, Outer, Before, Place, State, Start, Lines, Named, Want, Counts, Signed, Bounded, Have, Done, Failed, run}
-use Rattle.spec_reader.specs.Tables.{Row, with_term, with_terms, numbers, bodies_of, class_number, counted_node}
+use Rattle.spec_reader.specs.Tables.{Row, with_terms, numbers, bodies_of, class_number, counted_node}
 
 -- What is kept of a sum around the one that is read.
 pub record KeptOuter : Type 0 where

@@ -1,6 +1,7 @@
 pub mod Bytes
 pub mod Tokens
 pub mod Grammar
+pub mod LanguageOne
 pub mod Machine
 pub mod Tables
 pub mod Faults

@@ -1,5 +1,5 @@
 -- The texts of specifications, and why a text is none.
-use Rattle.std.specs.Prelude.{◌≡◌, ℕ, ◌<◌, ◌≤◌, ◌+◌, true, false, List, [], ◌∷◌, ◌++◌, length, take, drop, map, Some, None, position, not}
+use Rattle.std.specs.Prelude.{◌≡◌, ℕ, ◌<◌, ◌≤◌, true, List, [], ◌∷◌, ◌++◌, length, drop, map, Some, None, position, not}
 use Rattle.std.specs.List.{AllPass}
 use Rattle.bz_model.specs.Spec.{Spec, Mode}
 use Rattle.class_system.specs.Limits.{TellsLimit}

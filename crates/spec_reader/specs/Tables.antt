@@ -1,5 +1,5 @@
 -- From definitions to tables: the numbers of nodes and classes.
-use Rattle.std.specs.Prelude.{ℕ, suc, ◌-◌, if◌then◌else◌, List, [], ◌∷◌, ◌++◌, length, map, Option, None}
+use Rattle.std.specs.Prelude.{ℕ, suc, ◌-◌, if◌then◌else◌, List, [], ◌∷◌, ◌++◌, length, map, None}
 use Rattle.bz_model.specs.Spec.{Spec, Mode, Node, Range}
 use Rattle.spec_reader.specs.declared.tokens.Counting.{Counting}
 use Rattle.spec_reader.specs.Tokens.{is_same}

@@ -40,7 +40,8 @@ fn add_defined(
     token: &Token,
 ) -> Result<(), AllocError>
     requires few { length draft.old.names < 2 ^ 32 }
-    ensures names { OnOk result (draft.new.names ≡ with_names draft.old.names (defined_by starts token.now)) }
+    ensures names { OnOk result (draft.new.names
+        ≡ with_names draft.old.names (defined_by starts token.now)) }
     ensures others { OnOk result (draft.new ≡ record draft.old { names = draft.new.names }) }
     ensures few { OnOk result (length draft.new.names ≤ length draft.old.names + 1) }
 {
@@ -56,7 +57,8 @@ fn add_defined(
 /// Adds the names that begin lines to a draft, each once.
 pub fn add_names(alloc: Global, draft: &mut Draft, tokens: &[Placed]) -> Result<(), AllocError>
     requires few { length draft.old.names + length tokens.now < 2 ^ 32 }
-    ensures names { OnOk result (draft.new.names ≡ with_names draft.old.names (line_names true (plain_tokens tokens.now))) }
+    ensures names { OnOk result (draft.new.names
+        ≡ with_names draft.old.names (line_names true (plain_tokens tokens.now))) }
     ensures others { OnOk result (draft.new ≡ record draft.old { names = draft.new.names }) }
     ensures few { OnOk result (length draft.new.names ≤ length draft.old.names + length tokens.now) }
 {
@@ -83,7 +85,8 @@ fn counted_fault(mode: Mode, counting: Counting, line: u32, column: u32) -> Opti
 /// The fault of a token, where the draft's names are defined, and those seen before it.
 fn token_fault(draft: &Draft, seen: &Names, starts: bool, placed: &Placed) -> Option<SpecFault>
     requires few { length draft.now.names < 2 ^ 32 }
-    ensures exact { result ≡ fault_at draft.now.mode draft.now.names seen.now starts placed.now.token placed.now.line placed.now.column }
+    ensures exact { result ≡ fault_at draft.now.mode draft.now.names seen.now starts
+        placed.now.token placed.now.line placed.now.column }
 {
     let line = placed.line;
     let column = placed.column;

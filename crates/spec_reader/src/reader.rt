@@ -146,7 +146,8 @@ impl Reader {
         token: &Token,
     ) -> Result<bool, AllocError>
         ensures read { IfOk result (λ stands. (names : List (List ℕ)) (p : Place) → Stands names p (kept self.old.sums)
-            → Leads names (step (Counts p counting) token.now) stands self.new.expects (kept self.new.sums)) }
+            → Leads names (step (Counts p counting) token.now) stands
+            self.new.expects (kept self.new.sums)) }
         ensures few { self.new.sums.draft ≡ self.old.sums.draft }
     {
         match token {
@@ -187,7 +188,8 @@ impl Reader {
         token: &Token,
     ) -> Result<bool, AllocError>
         ensures read { IfOk result (λ stands. (names : List (List ℕ)) (p : Place) → Stands names p (kept self.old.sums)
-            → Leads names (step (Bounded p counting (spec_range range)) token.now) stands self.new.expects (kept self.new.sums)) }
+            → Leads names (step (Bounded p counting (spec_range range)) token.now) stands
+            self.new.expects (kept self.new.sums)) }
         ensures few { self.new.sums.draft ≡ self.old.sums.draft }
     {
         match token {

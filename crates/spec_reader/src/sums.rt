@@ -81,8 +81,8 @@ fn product_node(draft: &mut Draft, parts: Parts) -> Result<ExprId, AllocError>
     ensures few { OnOk result (length draft.new.nodes ≤ length draft.old.nodes + 1) }
     ensures names { OnOk result (draft.new.names ≡ draft.old.names) }
 {
-    if let [part] = parts.items() {
-        return Ok(*part);
+    if let [factor] = parts.items() {
+        return Ok(*factor);
     }
     draft.add_node(Expr::Product(parts))
 }
@@ -159,7 +159,8 @@ impl Sums {
     /// The sum that is read is over; its node.
     fn end_sum(&mut self, alloc: Global) -> Result<ExprId, AllocError>
         requires few { length self.old.draft.nodes + 1 < 2 ^ 32 }
-        ensures sum { IfOk result (λ e. EndsSum self.old.draft (kept self.old).products (kept self.old).factors self.new.draft e.0) }
+        ensures sum { IfOk result (λ e. EndsSum self.old.draft (kept self.old).products
+            (kept self.old).factors self.new.draft e.0) }
         ensures products { OnOk result (self.new.frame.products ≡ []) }
         ensures factors { OnOk result (self.new.frame.factors ≡ []) }
         ensures outers { self.new.outers.items ≡ self.old.outers.items }

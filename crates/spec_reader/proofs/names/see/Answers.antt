@@ -1,4 +1,4 @@
-use Rattle.std.proofs.Common.{◌≡◌, List, [], ◌∷◌, ◌++◌, ap, sym, subst, ◌∙◌, OnOk}
+use Rattle.std.proofs.Common.{◌≡◌, [], ◌∷◌, ◌++◌, ap, sym, subst, ◌∙◌, OnOk}
 use Rattle.spec_reader.specs.Faults.{with_names}
 use Rattle.spec_reader.proofs.NamesSeen.{one_found, one_missing, defined_name}
 use Rattle.spec_reader.proofs.names.see.Goals as goal

@@ -1,4 +1,4 @@
-use Rattle.std.proofs.Common.{◌<◌, ◌^◌, [], true, length, refl, ap, subst, arith}
+use Rattle.std.proofs.Common.{[], true, length, refl, ap, subst, arith}
 use Rattle.bz_model.specs.Spec.{Spec}
 use Rattle.class_system.specs.Views.{spec_mode, number}
 use Rattle.spec_reader.specs.Machine.{Lines}

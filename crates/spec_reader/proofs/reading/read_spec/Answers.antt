@@ -1,5 +1,4 @@
-use Rattle.std.proofs.Common.{◌≡◌, ◌≤◌, ◌<◌, ◌^◌, length, ap, sym, subst, ◌∙◌, arith}
-use Rattle.spec_reader.specs.Tokens.{tokens_of}
+use Rattle.std.proofs.Common.{length, ap, sym, subst, ◌∙◌, arith}
 use Rattle.spec_reader.specs.Building.{IsEnded}
 use Rattle.spec_reader.proofs.Lexical.{AreLexical, are_lexical, are_ended, are_few}
 use Rattle.spec_reader.proofs.Sounds.{stands_sound}

@@ -1,4 +1,4 @@
-use Rattle.std.proofs.Common.{◌≡◌, ◌<◌, ◌≤◌, ◌-◌, ◌^◌, take, drop, length, take_all, length-drop, ap, sym, ◌∙◌, arith}
+use Rattle.std.proofs.Common.{◌≡◌, ◌-◌, take, drop, length, take_all, length-drop, ap, arith}
 use Rattle.class_system.specs.Views.{spec_mode}
 use Rattle.spec_reader.proofs.Parsing.{ended_rest}
 use Rattle.spec_reader.proofs.Texts.{stands, faulty, few_parsed, stop_of}

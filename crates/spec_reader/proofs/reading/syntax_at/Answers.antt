@@ -1,5 +1,4 @@
 use Rattle.spec_reader.proofs.Parsing.{misplaced}
-use Rattle.spec_reader.proofs.Faulting.{among_names}
 use Rattle.spec_reader.proofs.reading.syntax_at.Goals as goal
 
 pub returns : goal.returns

@@ -1,5 +1,4 @@
 use Rattle.std.proofs.Common.{sym, ◌∙◌, ap, length}
-use Rattle.spec_reader.specs.Tables.{class_number}
 use Rattle.spec_reader.proofs.ClassNumbers.{missing_number, found_number}
 use Rattle.spec_reader.proofs.reader.Reader.class_number.Goals as goal
 

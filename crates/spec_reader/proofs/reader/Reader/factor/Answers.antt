@@ -1,4 +1,4 @@
-use Rattle.std.proofs.Common.{◌≡◌, ap, subst, sym, ◌∙◌}
+use Rattle.std.proofs.Common.{ap, subst, sym, ◌∙◌}
 use Rattle.bz_model.specs.Spec.{Spec, Node}
 use Rattle.spec_reader.specs.Grammar.{Term}
 use Rattle.spec_reader.specs.Machine.{Want, with_one_more, step}

@@ -1,5 +1,5 @@
-use Rattle.std.proofs.Common.{◌≡◌, ◌+◌, ◌*◌, ◌≤◌, ℕ, List, length, take, subst, sym, ◌∙◌, arith}
-use Rattle.spec_reader.specs.Machine.{State, run, step}
+use Rattle.std.proofs.Common.{take, subst, sym, ◌∙◌, arith}
+use Rattle.spec_reader.specs.Machine.{run, step}
 use Rattle.spec_reader.specs.Reading.{plain_tokens}
 use Rattle.spec_reader.specs.Building.{kept, Represents, Leads}
 use Rattle.spec_reader.proofs.Taking.{represented, run_one_more}

@@ -1,5 +1,4 @@
 use Rattle.std.proofs.Common.{refl, ◌∙◌, ap, map}
-use Rattle.class_system.specs.Views.{number}
 use Rattle.spec_reader.specs.Building.{kept, outer_kept}
 use Rattle.spec_reader.proofs.Numbering.{map-snoc}
 use Rattle.spec_reader.proofs.Standing.{close_more, pushed}

@@ -1,4 +1,4 @@
-use Rattle.std.proofs.Common.{refl, ◌∙◌, ap, map, sym}
+use Rattle.std.proofs.Common.{◌∙◌, ap, map}
 use Rattle.class_system.specs.Views.{number}
 use Rattle.spec_reader.specs.Building.{kept, outer_kept}
 use Rattle.spec_reader.proofs.Standing.{line_more, none_around}
