@@ -1,3 +1,6 @@
 pub mod Numbers
 pub mod Making
 pub mod Visits
+pub mod Sessions
+pub mod Shapes
+pub mod Ideal

@@ -3,6 +3,9 @@ use Rattle.std.specs.Prelude.{◌≡◌, ◌≢◌, ℕ, ◌<◌, length, List, 
 use Rattle.bz_model.specs.declared.cell.Cell.{Cell}
 use Rattle.bz_model.specs.Fraction.{Fraction}
 use Rattle.bz_model.specs.Spec.{Spec, body_of}
+use Rattle.class_system.specs.declared.ids.ExprId.{ExprId}
+use Rattle.choice_draw.specs.declared.drawn.Drawn.{Drawn}
+use Rattle.choice_draw.specs.declared.drawn.Drawn.TheVariants as drawn
 use Rattle.object_store.specs.declared.token.Token.{Token}
 use Rattle.shape_sampler.specs.declared.stepped.Stepped.{Stepped}
 use Rattle.shape_sampler.specs.declared.stepped.Stepped.TheVariants.{Moved, Made, Overshot, Straddles, Ended, ReadFault, OutOfMemory}
@@ -65,3 +68,17 @@ IsStop (Some (Straddles node cell)) = Unit {0}
 IsStop (Some Ended) = Unit {0}
 IsStop (Some ReadFault) = Unit {0}
 IsStop _ = ⊥
+
+-- The answer to a draw at a union.
+abbrev pub union_answer : ExprId → Drawn → Stepped
+union_answer node (drawn.Value value cell) = Moved
+union_answer node (drawn.Straddles cell) = Straddles node cell
+union_answer node drawn.Ended = Ended
+union_answer node drawn.ReadFault = ReadFault
+
+-- What an answer leaves a session stopped by.
+abbrev pub stop_after : Stepped → Option Stepped
+stop_after (Straddles node cell) = Some (Straddles node cell)
+stop_after Ended = Some Ended
+stop_after ReadFault = Some ReadFault
+stop_after _ = None
