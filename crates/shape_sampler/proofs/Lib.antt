@@ -4,3 +4,4 @@ pub mod Visits
 pub mod Sessions
 pub mod Shapes
 pub mod Ideal
+pub mod Plain
