@@ -5,3 +5,4 @@ pub mod Sessions
 pub mod Shapes
 pub mod Ideal
 pub mod Plain
+pub mod Union

@@ -8,10 +8,10 @@ ghost use Rattle.bit_tape.specs.Tape.{TapeSource, Belongs, bits_of, HasFault};
 ghost use Rattle.choice_draw.specs.Decision.{IsUnion, level_for};
 ghost use Rattle.shape_sampler.specs.Ready.{IsReady};
 ghost use Rattle.shape_sampler.specs.Visit.{Chooser, leaf_visited};
-ghost use Rattle.shape_sampler.specs.State.{SessionState, SessionBelongs, begun_state, Leaves, IsStop, union_answer, stop_after};
+ghost use Rattle.shape_sampler.specs.State.{SessionState, SessionBelongs, begun_state, Leaves};
 ghost use Rattle.shape_sampler.specs.Answer.{ChoosesBy, IsVisit, IsIdealAnswer, IsVisitOfAll, IsPlainVisit, room_atom_visited, replaced_by};
 
-use crate::placing::{answer, put_cell, put_token, replace_first};
+use crate::placing::{answer, answer_to, put_drawn, put_token, replace_first, stop_of};
 use crate::stepped::Stepped;
 use bit_tape::tape::Tape;
 use bz_model::cell::Cell;
@@ -255,7 +255,6 @@ impl Session {
     }
 
     /// A union draws its option and puts that part in its place.
-    #[tactic(none)]
     fn visit_union<const F: u32, O: Oracle<F>, S: Shelf, L: Ledger>(
         &mut self,
         system: &System,
@@ -269,6 +268,7 @@ impl Session {
         requires fraction { (24 ≤ F) × (F ≤ 56) }
         requires spec { O.spec oracle.old ≡ system.now }
         requires union { node_at system.now node.0 ≡ Some (Node.Union (map number parts.now)) }
+        requires few { length parts.now ≤ 64 }
         requires running { self.old.stopped ≡ None }
         requires first { slice_get self.old.pending 0 ≡ Some node.0 }
         requires tape { Belongs (S.content shelf.old) tape.old }
@@ -301,36 +301,9 @@ impl Session {
             return Stepped::OutOfMemory;
         }
         let drawn = draw_union(system, node, oracle, tape, shelf, steps);
-        if let Drawn::Value { value, cell } = drawn {
-            let option = value as u32;
-            put_token(&mut self.shape, Token::Pick(option));
-            put_cell(&mut self.cells, cell);
-            replace_first(&mut self.pending, &[parts[value as usize]]);
-        }
+        put_drawn(&mut self.pending, &mut self.shape, &mut self.cells, parts, drawn);
         let answer = answer_to(node, drawn);
         self.stopped = stop_of(answer);
         answer
-    }
-}
-
-/// The answer to a draw at a union.
-fn answer_to(node: ExprId, drawn: Drawn) -> Stepped
-    ensures { result ≡ union_answer node drawn }
-{
-    match drawn {
-        Drawn::Value { .. } => Stepped::Moved,
-        Drawn::Straddles { cell } => Stepped::Straddles { node, cell },
-        Drawn::Ended => Stepped::Ended,
-        Drawn::ReadFault => Stepped::ReadFault,
-    }
-}
-
-/// What an answer leaves a session stopped by.
-fn stop_of(answer: Stepped) -> Option<Stepped>
-    ensures { result ≡ stop_after answer }
-{
-    match answer {
-        Stepped::Straddles { .. } | Stepped::Ended | Stepped::ReadFault => Some(answer),
-        Stepped::Moved | Stepped::Made | Stepped::Overshot | Stepped::OutOfMemory => None,
     }
 }
