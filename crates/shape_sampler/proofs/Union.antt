@@ -1,5 +1,5 @@
 -- The visit of a union, from what was drawn and what was put.
-use Rattle.std.proofs.Common.{◌≡◌, ◌≢◌, ℕ, ◌+◌, ◌<◌, ◌≤◌, List, [], ◌∷◌, ◌++◌, length, refl, sym, ◌∙◌, ap, subst, append-nil, zero-add, Bool, Option, Some, None, slice_get, slice_index}
+use Rattle.std.proofs.Common.{◌≡◌, ◌≢◌, ℕ, ◌+◌, ◌<◌, ◌≤◌, List, [], ◌∷◌, ◌++◌, length, refl, sym, ◌∙◌, ap, subst, append-nil, zero-add, Bool, Option, Some, None, IfSome, slice_get, slice_index}
 use Rattle.bz_model.specs.declared.cell.Cell.{Cell}
 use Rattle.bz_model.specs.declared.cell.Bounds.{Bounds}
 use Rattle.bz_model.specs.Fraction.{Fraction}
@@ -36,6 +36,18 @@ pub record Settled (node : ExprId) (parts : List ℕ) (d : Drawn) (before now : 
   pub cells : now.cells ≡ before.cells ++ drawn_cells d
   pub room : now.room ≡ before.room
   pub stopped : now.stopped ≡ stop_after (union_answer node d)
+
+-- It is settled so, from what each call did to the session's parts, which were as they stand in `seen`.
+pub settle : (node : ExprId) (parts : List ℕ) (d : Drawn) (seen before now : SessionState) (answer : Stepped) (es : List ℕ) (ts : List Token) (cs : List Cell) → seen ≡ before → now.root ≡ seen.root → now.whole ≡ seen.whole → now.room ≡ seen.room → es ≡ seen.pending → ts ≡ seen.tokens → cs ≡ seen.cells → PutsPart parts d es now.pending → now.tokens ≡ ts ++ drawn_tokens d → now.cells ≡ cs ++ drawn_cells d → now.stopped ≡ stop_after answer → answer ≡ union_answer node d → Settled node parts d before now
+settle node parts d seen before now answer es ts cs is root whole room pending tokens cells puts put_tokens put_cells stopped answered = record {
+  root = root ∙ ap (λ (st : SessionState). st.root) is;
+  whole = whole ∙ ap (λ (st : SessionState). st.whole) is;
+  pending = subst (λ fs. PutsPart parts d fs now.pending) (pending ∙ ap (λ (st : SessionState). st.pending) is) puts;
+  tokens = put_tokens ∙ ap (λ us. us ++ drawn_tokens d) (tokens ∙ ap (λ (st : SessionState). st.tokens) is);
+  cells = put_cells ∙ ap (λ ds. ds ++ drawn_cells d) (cells ∙ ap (λ (st : SessionState). st.cells) is);
+  room = room ∙ ap (λ (st : SessionState). st.room) is;
+  stopped = stopped ∙ ap stop_after answered;
+}
 
 -- Two sessions with the same parts are the same.
 same-state : (a b : SessionState) → a.root ≡ b.root → a.whole ≡ b.whole → a.pending ≡ b.pending → a.tokens ≡ b.tokens → a.cells ≡ b.cells → a.room ≡ b.room → a.stopped ≡ b.stopped → a ≡ b
@@ -115,3 +127,20 @@ module _ (node : ExprId) (parts : List ℕ) (before now : SessionState) (first :
     union-session x sound (drawn.Straddles cell) t ideal within b = still-belongs s x before now (Straddles node cell) 0 b (union-leaves (drawn.Straddles cell) t) (λ ne. tt)
     union-session x sound drawn.Ended t ideal within b = still-belongs s x before now Ended 0 b (union-leaves drawn.Ended t) (λ ne. tt)
     union-session x sound drawn.ReadFault t ideal within b = still-belongs s x before now ReadFault 0 b (union-leaves drawn.ReadFault t) (λ ne. tt)
+
+-- The same for an answer that is the draw's.
+module _ (node : ExprId) (parts : List ℕ) (before now : SessionState) (first : slice_get before.pending 0 ≡ Some node.0) (d : Drawn) (answer : Stepped) (answered : answer ≡ union_answer node d) (settled : Settled node parts d before now) where
+  pub answer-leaves : Leaves answer before now
+  answer-leaves = subst (λ a. Leaves a before now) (sym answered) (union-leaves node parts before now first d settled)
+
+  module _ (s : Spec) (at : node_at s node.0 ≡ Some (Node.Union parts)) where
+    pub answer-exact : (table : (level e : ℕ) → Bounds) (start used : ℕ) → UsesBits d start used → (bits : ℕ → Option Bool) → IsDrawn Choice.Take (union_decision s table node.0) bits start d used → (c : Chooser) → ChoosesBy s table c → IsVisit c bits before start answer now used
+    answer-exact table start used uses bits drawn c by = subst (λ a. IsVisit c bits before start a now used) (sym answered) (union-exact node parts before now first s at table bits d start used settled uses drawn c by)
+
+    pub answer-session : (x : Fraction) → IsSound s → OnValue d (λ i cell. (u : Fraction) → IsInCell cell.k cell.b u → IsIdealOption s x u node.0 i) → OnValue d (λ i cell. i < length parts) → SessionBelongs s x before → SessionBelongs s x now × IsIdealAnswer s x answer now
+    answer-session x sound ideal within b = subst (λ a. SessionBelongs s x now × IsIdealAnswer s x a now) (sym answered) (union-session node parts before now first s at x sound d settled ideal within b)
+
+-- What holds of the value, if there is one, where a stronger fact does.
+pub if-some : {T : Type 0} (o : Option T) (P Q : T → Type 0) → ((t : T) → P t → Q t) → IfSome o P → IfSome o Q
+if-some None P Q h k = tt
+if-some (Some t) P Q h k = h t k

@@ -300,6 +300,7 @@ impl Session {
         {
             return Stepped::OutOfMemory;
         }
+        system.known();
         let drawn = draw_union(system, node, oracle, tape, shelf, steps);
         put_drawn(&mut self.pending, &mut self.shape, &mut self.cells, parts, drawn);
         let answer = answer_to(node, drawn);
