@@ -46,8 +46,16 @@ IsIdealAnswer s x Made now = IsIdealShape s x now.whole now.tokens now.cells
 IsIdealAnswer s x Overshot now = IsIdealOver s x now.whole now.cells
 IsIdealAnswer s x _ now = Unit {0}
 
+-- An answer that needs no tape: it is none of a straddling cell, the tape's end and a failed read.
+abbrev pub IsPlainAnswer : Stepped → Type 0
+IsPlainAnswer (Straddles node cell) = ⊥
+IsPlainAnswer Ended = ⊥
+IsPlainAnswer ReadFault = ⊥
+IsPlainAnswer _ = Unit {0}
+
 -- The answer and the session after the visit of a node that takes no number: what the visit makes of an attempt and of the nodes after the first pending one.
 pub record IsPlainVisit (visited : Attempt → (rest : List ℕ) → Visited) (before : SessionState) (answer : Stepped) (now : SessionState) : Type 0 where
+  pub plain : IsPlainAnswer answer
   pub leaves : Leaves answer before now
   pub same : answer ≢ OutOfMemory → (e : ℕ) (rest : List ℕ) (used : ℕ) → before.pending ≡ e ∷ rest → told_visit answer now used ≡ visited (attempt_of before used) rest
 

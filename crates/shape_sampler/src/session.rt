@@ -9,7 +9,7 @@ ghost use Rattle.choice_draw.specs.Decision.{IsUnion, level_for};
 ghost use Rattle.shape_sampler.specs.Ready.{IsReady};
 ghost use Rattle.shape_sampler.specs.Visit.{Chooser, leaf_visited};
 ghost use Rattle.shape_sampler.specs.State.{SessionState, SessionBelongs, begun_state, Leaves};
-ghost use Rattle.shape_sampler.specs.Answer.{ChoosesBy, IsVisit, IsIdealAnswer, IsVisitOfAll, IsPlainVisit, room_atom_visited, replaced_by};
+ghost use Rattle.shape_sampler.specs.Answer.{ChoosesBy, IsVisit, IsIdealAnswer, IsVisitOfAll, IsPlainAnswer, IsPlainVisit, room_atom_visited, replaced_by};
 
 use crate::placing::{answer, answer_to, put_drawn, put_token, replace_first, stop_of};
 use crate::stepped::Stepped;
@@ -163,6 +163,7 @@ impl Session {
             return stop;
         }
         let system = founded.system();
+        system.known();
         let Some(e) = self.pending.first() else {
             unreachable!()
         };
@@ -179,6 +180,7 @@ impl Session {
         requires plain { ¬ IsUnion system.now node.0 }
         requires running { self.old.stopped ≡ None }
         requires first { slice_get self.old.pending 0 ≡ Some node.0 }
+        ensures plain { IsPlainAnswer result }
         ensures leaves { Leaves result self.old self.new }
         ensures exact { result ≢ Stepped.OutOfMemory → IsVisitOfAll system.now self.old result self.new }
         ensures session { (x : Fraction) → SessionBelongs system.now x self.old
