@@ -1,5 +1,5 @@
 -- An attempt that belongs still belongs after a visit, and what it made or overshot is ideal.
-use Rattle.std.proofs.Common.{◌≡◌, ◌≢◌, ◌⊎◌, ℕ, zero, suc, ◌<◌, ◌≤◌, List, [], ◌∷◌, ◌++◌, length, refl, sym, ◌∙◌, ap, subst, append-nil, Some, slice_get}
+use Rattle.std.proofs.Common.{◌≡◌, ℕ, zero, suc, ◌<◌, List, [], ◌∷◌, ◌++◌, length, subst, append-nil, Some, slice_get}
 use Rattle.bz_model.specs.declared.cell.Cell.{Cell}
 use Rattle.bz_model.specs.Fraction.{Fraction}
 use Rattle.bz_model.specs.Spec.{Spec, Node, node_at, body_of}
@@ -13,7 +13,7 @@ use Rattle.object_store.specs.Walk.{AllBelow}
 use Rattle.object_store.proofs.InRange.{body-below, union-parts, product-parts}
 use Rattle.shape_sampler.specs.Visit.{Attempt, Visited, leaf_visited, atom_visited, with_pending, with_token, with_cell}
 use Rattle.shape_sampler.specs.Belonging.{Belonging, GoesOn, IsIdealShape, IsIdealOver}
-use Rattle.shape_sampler.proofs.Visits.{Turns, goes-on, is-over, empty-turns, atom-turns, atom-over, class-turns, product-turns, union-turns}
+use Rattle.shape_sampler.proofs.Visits.{goes-on, is-over, empty-turns, atom-turns, atom-over, class-turns, product-turns, union-turns}
 use Rattle.shape_sampler.proofs.Shapes.{ideal-shape}
 
 -- A visit that goes on leaves an attempt that belongs, and the ideal shape where nothing is pending; one that is over is ideally over.

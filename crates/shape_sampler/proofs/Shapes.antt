@@ -1,8 +1,8 @@
 -- What is made at the end is one shape for all numbers of the cells.
-use Rattle.std.proofs.Common.{◌≡◌, ℕ, List, [], ◌∷◌, ◌++◌, sym, ◌∙◌, ap, subst, append-nil, Some}
+use Rattle.std.proofs.Common.{◌≡◌, ℕ, List, [], ◌++◌, sym, ◌∙◌, ap, subst, append-nil}
 use Rattle.bz_model.specs.declared.cell.Cell.{Cell}
 use Rattle.bz_model.specs.Fraction.{Fraction}
-use Rattle.bz_model.specs.Spec.{Spec, body_of}
+use Rattle.bz_model.specs.Spec.{Spec}
 use Rattle.bz_model.specs.Cell.{AreInCells}
 use Rattle.bz_model.specs.Object.{Object, none, Belongs}
 use Rattle.bz_model.specs.Making.{Just, ClassMakes}

@@ -1,5 +1,5 @@
 -- The visit of a union, from what was drawn and what was put.
-use Rattle.std.proofs.Common.{◌≡◌, ◌≢◌, ℕ, ◌+◌, ◌<◌, ◌≤◌, List, [], ◌∷◌, ◌++◌, length, refl, sym, ◌∙◌, ap, subst, append-nil, zero-add, Bool, Option, Some, None, IfSome, slice_get, slice_index}
+use Rattle.std.proofs.Common.{◌≡◌, ℕ, ◌+◌, ◌<◌, List, [], ◌∷◌, ◌++◌, length, refl, sym, ◌∙◌, ap, subst, append-nil, zero-add, Bool, Option, Some, None, IfSome, slice_get, slice_index}
 use Rattle.bz_model.specs.declared.cell.Cell.{Cell}
 use Rattle.bz_model.specs.declared.cell.Bounds.{Bounds}
 use Rattle.bz_model.specs.Fraction.{Fraction}
@@ -12,16 +12,16 @@ use Rattle.class_system.specs.Sound.{IsSound}
 use Rattle.class_system.specs.declared.ids.ExprId.{ExprId}
 use Rattle.choice_draw.specs.declared.drawn.Drawn.{Drawn}
 use Rattle.choice_draw.specs.declared.drawn.Drawn.TheVariants as drawn
-use Rattle.choice_draw.specs.Decision.{Choice, IsUnion, union_parts, union_decision}
-use Rattle.choice_draw.specs.Draw.{Draw, bit_of, draw}
+use Rattle.choice_draw.specs.Decision.{Choice, union_decision}
+use Rattle.choice_draw.specs.Draw.{bit_of, draw}
 use Rattle.choice_draw.specs.Answer.{IsDrawn, OnValue, UsesBits, told_draw}
 use Rattle.choice_draw.specs.Answer as drawing
 use Rattle.object_store.specs.declared.token.Token.{Token}
 use Rattle.object_store.specs.declared.token.Token.TheVariants as token
 use Rattle.shape_sampler.specs.declared.stepped.Stepped.{Stepped}
-use Rattle.shape_sampler.specs.declared.stepped.Stepped.TheVariants.{Moved, Straddles, Ended, ReadFault, OutOfMemory}
+use Rattle.shape_sampler.specs.declared.stepped.Stepped.TheVariants.{Moved, Straddles, Ended, ReadFault}
 use Rattle.shape_sampler.specs.Visit.{Chooser, Attempt, Visited, after_draw, union_answered, node_visited, visit_among, visit, with_pending, with_token, with_cell}
-use Rattle.shape_sampler.specs.State.{SessionState, SessionBelongs, Runs, Leaves, attempt_of, stopped_by, union_answer, stop_after, drawn_tokens, drawn_cells, PutsPart}
+use Rattle.shape_sampler.specs.State.{SessionState, SessionBelongs, Leaves, attempt_of, stopped_by, union_answer, stop_after, drawn_tokens, drawn_cells, PutsPart}
 use Rattle.shape_sampler.specs.Answer.{told_visit, fault_place, ChoosesBy, IsVisit, IsIdealAnswer}
 use Rattle.shape_sampler.proofs.Ideal.{IsIdealVisit, ideal-union}
 use Rattle.shape_sampler.proofs.Sessions.{still-belongs}

@@ -1,16 +1,15 @@
 -- What a step's answer tells of the visit.
-use Rattle.std.specs.Prelude.{◌≡◌, ◌≢◌, ℕ, Bool, List, [], ◌∷◌, ◌++◌, slice_get, Option, Some, None}
-use Rattle.bz_model.specs.declared.cell.Cell.{Cell}
+use Rattle.std.specs.Prelude.{◌≡◌, ◌≢◌, ℕ, Bool, List, ◌∷◌, ◌++◌, Option, Some, None}
 use Rattle.bz_model.specs.declared.cell.Bounds.{Bounds}
 use Rattle.bz_model.specs.Fraction.{Fraction}
 use Rattle.bz_model.specs.Spec.{Spec}
-use Rattle.choice_draw.specs.Decision.{Choice, IsUnion, union_decision}
+use Rattle.choice_draw.specs.Decision.{IsUnion, union_decision}
 use Rattle.choice_draw.specs.Draw.{Bit, bit_of}
 use Rattle.shape_sampler.specs.declared.stepped.Stepped.{Stepped}
 use Rattle.shape_sampler.specs.declared.stepped.Stepped.TheVariants.{Moved, Made, Overshot, Straddles, Ended, ReadFault, OutOfMemory}
 use Rattle.shape_sampler.specs.Visit.{Chooser, Attempt, Visited, visit, atom_visited, with_pending}
 use Rattle.shape_sampler.specs.State.{SessionState, attempt_of, Leaves}
-use Rattle.shape_sampler.specs.Belonging.{Belonging, IsIdealShape, IsIdealOver}
+use Rattle.shape_sampler.specs.Belonging.{IsIdealShape, IsIdealOver}
 
 -- The visit that an answer tells, where it isn't want of memory: the session as it is now, so many bits being used now.
 abbrev pub told_visit : Stepped → (now : SessionState) → (used : ℕ) → Visited

@@ -304,7 +304,13 @@ impl Session {
         }
         system.known();
         let drawn = draw_union(system, node, oracle, tape, shelf, steps);
-        put_drawn(&mut self.pending, &mut self.shape, &mut self.cells, parts, drawn);
+        put_drawn(
+            &mut self.pending,
+            &mut self.shape,
+            &mut self.cells,
+            parts,
+            drawn,
+        );
         let answer = answer_to(node, drawn);
         self.stopped = stop_of(answer);
         answer

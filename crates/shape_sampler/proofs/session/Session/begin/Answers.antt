@@ -1,5 +1,5 @@
 -- A session belongs at the start of an attempt.
-use Rattle.std.proofs.Common.{◌≡◌, ◌∷◌, sym, ◌∙◌, ap, subst}
+use Rattle.std.proofs.Common.{◌∷◌, sym, ◌∙◌, ap, subst}
 use Rattle.shape_sampler.specs.State.{SessionBelongs}
 use Rattle.shape_sampler.specs.contracts.session.Session.{the_view}
 use Rattle.shape_sampler.proofs.Sessions.{begun-belongs-at}

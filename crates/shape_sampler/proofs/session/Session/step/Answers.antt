@@ -1,8 +1,7 @@
 -- A step is the visit of the first pending node.
-use Rattle.std.proofs.Common.{◌≡◌, ◌≢◌, ◌≤◌, length, map, Some, sym, ◌∙◌, ap, subst, slice_get}
-use Rattle.bz_model.specs.Spec.{Spec, Node}
-use Rattle.class_system.specs.Views.{number, spec_node}
-use Rattle.shape_sampler.specs.declared.stepped.Stepped.TheVariants.{OutOfMemory}
+use Rattle.std.proofs.Common.{◌≤◌, length, Some, sym, ◌∙◌, ap, subst}
+use Rattle.bz_model.specs.Spec.{Spec}
+use Rattle.class_system.specs.Views.{spec_node}
 use Rattle.shape_sampler.specs.State.{SessionBelongs}
 use Rattle.shape_sampler.specs.Answer.{IsVisitOfAll, IsIdealAnswer}
 use Rattle.shape_sampler.proofs.Plain.{plain-exact, no-level, no-union, few-parts}

@@ -1,5 +1,5 @@
 -- A union's visit.
-use Rattle.std.proofs.Common.{◌≡◌, ◌<◌, length, map, refl, sym, ap, subst}
+use Rattle.std.proofs.Common.{◌≡◌, ◌<◌, length, map, refl, ap, subst}
 use Rattle.class_system.specs.Views.{number}
 use Rattle.bz_model.specs.Spec.{node_at}
 use Rattle.choice_draw.specs.Decision.{union_parts}
