@@ -16,10 +16,10 @@ use Rattle.class_system.specs.Sound.{IsSound}
 use Rattle.class_system.proofs.Soundness.{body_in_range}
 use Rattle.fixed_enclosure.specs.UpperValues.{IsNoGreater, AreNoGreater}
 use Rattle.series_bounds.proofs.Fractions.{units-mono}
-use Rattle.rounded_map.specs.RoundedMap.{Setting, setting, value_at, at_each, lesser, repeated, values_down, values_up, bodies_down, bodies_up, sweep_down, sweep_up, IsPostFixed}
+use Rattle.rounded_map.specs.RoundedMap.{Setting, setting, amount, value_at, at_each, lesser, repeated, values_down, values_up, bodies_down, bodies_up, sweep_down, sweep_up, IsPostFixed}
 use Rattle.rounded_map.specs.Bounding.{AreAbove, AreAboveWithin, AreBelow, ValuesAbove, ValuesAboveWithin, ValuesBelow}
 use Rattle.rounded_map.proofs.LaidOut.{laid_out}
-use Rattle.rounded_map.proofs.Covering.{amount, told, up, down, values-cover, values-reached}
+use Rattle.rounded_map.proofs.Covering.{told, up, down, values-cover, values-reached}
 
 module _ (s : Spec) (x : Fraction) (F : ℕ) (sound : IsSound s) (classes : List ℕ) where
   abbrev vs : List (Option ℕ)

@@ -21,13 +21,8 @@ use Rattle.series_bounds.specs.ExactSums.{exact, sum_from, first_term}
 use Rattle.series_bounds.proofs.Fractions.{AtMost-trans, AtMost-refl, plus-mono, times-mono, units-mono, units-plus, units-plus', zero-least}
 use Rattle.series_bounds.proofs.Lists.{HasValues, product_down-le, product_up-ge, total_down-le, total_up-is}
 use Rattle.series_bounds.proofs.Rules.{part_down-reached, range_up-above, from_down-reached, from_up-above}
-use Rattle.rounded_map.specs.RoundedMap.{Setting, setting, value_at, value_down, value_up, values_down, values_up}
+use Rattle.rounded_map.specs.RoundedMap.{Setting, setting, amount, value_at, value_down, value_up, values_down, values_up}
 use Rattle.rounded_map.proofs.AtNode.{value_down-at, value_up-at}
-
--- The number of a value, 0 where there is none.
-abbrev pub amount : Option ℕ → ℕ
-amount None = 0
-amount (Some v) = v
 
 -- The sums of the laws and of the series are the same.
 same-sum : (f : ℕ → Fraction) (j n : ℕ) → laws.sum_from f j n ≡ sum_from f j n

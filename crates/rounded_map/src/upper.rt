@@ -25,7 +25,7 @@ use series_bounds::{cyc_from_hi, cyc_range_hi, seq_from_hi, seq_range_hi, set_fr
 use std::sync::ledger::Ledger;
 
 /// The most nodes of a system.
-const MOST_NODES: usize = 512;
+pub(crate) const MOST_NODES: usize = 512;
 
 /// A node has no upper value.
 #[derive(Clone, Copy, Debug, PartialEq, Eq)]
@@ -71,7 +71,7 @@ pub fn eval_hi<const F: u32, L: Ledger>(
 }
 
 /// Copies the values, up to the first that is missing.
-fn copy_values(values: &[Option<u64>], nodes: &mut [u64]) -> Result<(), NoValue>
+pub(crate) fn copy_values(values: &[Option<u64>], nodes: &mut [u64]) -> Result<(), NoValue>
     requires lengths { length nodes.old ≡ length values.now }
     requires few { length values.now ≤ 512 }
     ensures length { length nodes.new ≡ length values.now }
@@ -139,7 +139,7 @@ fn node_hi<const F: u32>(
 }
 
 /// The upper sum of the values of parts, added from left to right.
-fn union_hi(parts: &[ExprId], before: &[Option<u64>]) -> Option<u64>
+pub(crate) fn union_hi(parts: &[ExprId], before: &[Option<u64>]) -> Option<u64>
     requires parts { Each (λ p. p < length before.now) (map number parts.now) }
     ensures sum { result ≡ total_up (map (value_at before.now) (map number parts.now)) }
 {
@@ -154,7 +154,7 @@ fn union_hi(parts: &[ExprId], before: &[Option<u64>]) -> Option<u64>
 }
 
 /// The upper sum of two values, where both are there.
-fn add_hi(a: Option<u64>, b: Option<u64>) -> Option<u64>
+pub(crate) fn add_hi(a: Option<u64>, b: Option<u64>) -> Option<u64>
     ensures { result ≡ of_both add_up a b }
 {
     let sum = Hi::<0>(a?).add(Hi(b?))?;
@@ -178,7 +178,7 @@ fn product_hi<const F: u32>(parts: &[ExprId], before: &[Option<u64>]) -> Option<
 }
 
 /// The upper product of two values, where both are there.
-fn mul_hi<const F: u32>(a: Option<u64>, b: Option<u64>) -> Option<u64>
+pub(crate) fn mul_hi<const F: u32>(a: Option<u64>, b: Option<u64>) -> Option<u64>
     requires fraction_bits { (24 ≤ F) × (F ≤ 56) }
     ensures { result ≡ of_both (mul_up F) a b }
 {
