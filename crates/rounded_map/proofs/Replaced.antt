@@ -1,15 +1,16 @@
 -- Lists that are gone through from place to place, and products with one factor replaced.
 use Rattle.std.proofs.Common.{◌≡◌, ◌≢◌, ℕ, zero, suc, ◌+◌, ◌<◌, ◌≤◌, Bool, true, false, List, [], ◌∷◌, ◌++◌, length, map, drop, set, get_or, cond, Option, Some, None, refl, sym, ap, subst, ◌∙◌, arith, add-one, append_assoc, slice_get}
-use Rattle.std.specs.Prelude.{nat_eq, slice_index, option_map}
-use Rattle.std.proofs.lemmas.Bool.{eqb-true, eqb-false}
-use Rattle.std.proofs.lemmas.List.{drop_all, get_or-map}
+use Rattle.std.specs.Prelude.{slice_index, is_some, option_map, option_and_then}
+use Rattle.std.proofs.lemmas.List.{drop_all, get_or-map, length-map}
 use Rattle.std.proofs.lemmas.Option.{slice_get_within, same_Some, slice_get-map, slice_get-get_or, slice_get_past}
 use Rattle.class_system.specs.Views.{number}
 use Rattle.class_system.specs.declared.ids.ExprId.{ExprId}
 use Rattle.fixed_enclosure.specs.Rounded.{of_both, add_up, mul_up}
+use Rattle.bz_model.specs.Spec.{Range}
+use Rattle.series_bounds.specs.Series.{Kind}
 use Rattle.series_bounds.specs.Lists.{added_up, total_up, multiplied_up, product_up}
-use Rattle.rounded_map.specs.RoundedMap.{value_at, at_each, all_values, amount}
-use Rattle.rounded_map.specs.Derivative.{replaced_products, dual_at}
+use Rattle.rounded_map.specs.RoundedMap.{Setting, value_at, at_each, all_values, amount}
+use Rattle.rounded_map.specs.Derivative.{replaced_products, slope_up, counted_derivative, derivatives_up, dual_at, sweep_dual}
 use Rattle.rounded_map.proofs.Entries.{body-at}
 
 drop-at : {X : Type 0} (xs : List X) (i : ℕ) (x : X) → slice_get xs i ≡ Some x → drop i xs ≡ x ∷ drop (suc i) xs
@@ -52,29 +53,25 @@ set-other (x ∷ xs) zero (suc j) d other = refl
 set-other (x ∷ xs) (suc i) zero d other = refl
 set-other (x ∷ xs) (suc i) (suc j) d other = set-other xs i j d (λ same. other (ap suc same))
 
--- The factor at a place, where the one at another place is replaced by its derivative.
-pub factor-at : (values : List ℕ) (before : List (Option ℕ)) (parts : List ExprId) (place j : ℕ) (e : ExprId) (x : Option ℕ) → j < length parts → (get_or parts j e).0 < length values → x ≡ cond (nat_eq j place) (value_at before (get_or parts j e).0) (Some (slice_index values (get_or parts j e).0)) → slice_get (set (map (value_at (map Some values)) (map number parts)) place (value_at (map (value_at before) (map number parts)) place)) j ≡ Some x
-factor-at values before parts place j e x within inside is = go (nat_eq j place) refl is
-  where
-    vs : List (Option ℕ)
-    vs = map (value_at (map Some values)) (map number parts)
+read : (xs : List (Option ℕ)) (i : ℕ) (v : Option ℕ) → slice_get xs i ≡ Some v → value_at xs i ≡ v
+read [] i v at = absurd (omega (arith, slice_get_within [] i v at))
+read (y ∷ xs) zero v at = same_Some y v at
+read (y ∷ xs) (suc i) v at = read xs i v at
 
-    go : (b : Bool) → nat_eq j place ≡ b → x ≡ cond b (value_at before (get_or parts j e).0) (Some (slice_index values (get_or parts j e).0)) → slice_get (set (map (value_at (map Some values)) (map number parts)) place (value_at (map (value_at before) (map number parts)) place)) j ≡ Some x
-    go true test replaced =
-        let here : j ≡ place = eqb-true j place test in
-        let there : slice_get (map (value_at before) (map number parts)) j ≡ Some (value_at before (get_or parts j e).0) = body-at (value_at before) parts j e within in
-        let value : value_at (map (value_at before) (map number parts)) place ≡ x = ap (value_at (map (value_at before) (map number parts))) (sym here) ∙ read (map (value_at before) (map number parts)) j (value_at before (get_or parts j e).0) there ∙ sym replaced in
-        let room : place < length (map (value_at (map Some values)) (map number parts)) = omega (arith, slice_get_within (map (value_at (map Some values)) (map number parts)) j _ (body-at (value_at (map Some values)) parts j e within)) in
-        ap (slice_get (set (map (value_at (map Some values)) (map number parts)) place (value_at (map (value_at before) (map number parts)) place))) here ∙ set-same (map (value_at (map Some values)) (map number parts)) place (value_at (map (value_at before) (map number parts)) place) room ∙ ap Some value
-      where
-        read : (xs : List (Option ℕ)) (i : ℕ) (v : Option ℕ) → slice_get xs i ≡ Some v → value_at xs i ≡ v
-        read [] i v at = absurd (omega (arith, slice_get_within [] i v at))
-        read (y ∷ xs) zero v at = same_Some y v at
-        read (y ∷ xs) (suc i) v at = read xs i v at
-    go false test kept =
-        set-other (map (value_at (map Some values)) (map number parts)) place j _ (eqb-false j place test)
-        ∙ body-at (value_at (map Some values)) parts j e within
-        ∙ ap Some (get_or-map Some values (get_or parts j e).0 0 None inside ∙ sym kept)
+-- The factor at a place, where the one at another place is replaced by its derivative.
+pub factor-at : (values : List ℕ) (before : List (Option ℕ)) (parts : List ExprId) (place j : ℕ) (e : ExprId) (test : Bool) (x : Option ℕ) → (test ≡ true → j ≡ place) → (test ≡ false → j ≢ place) → j < length parts → (get_or parts j e).0 < length values → x ≡ cond test (value_at before (get_or parts j e).0) (Some (slice_index values (get_or parts j e).0)) → slice_get (set (map (value_at (map Some values)) (map number parts)) place (value_at (map (value_at before) (map number parts)) place)) j ≡ Some x
+factor-at values before parts place j e true x here other within inside is =
+    let vs : List (Option ℕ) = map (value_at (map Some values)) (map number parts) in
+    let ds : List (Option ℕ) = map (value_at before) (map number parts) in
+    let there : slice_get ds j ≡ Some (value_at before (get_or parts j e).0) = body-at (value_at before) parts j e within in
+    let value : value_at ds place ≡ x = ap (value_at ds) (sym (here refl)) ∙ read ds j (value_at before (get_or parts j e).0) there ∙ sym is in
+    let same : j ≡ place = here refl in
+    let room : place < length vs = omega (arith, slice_get_within vs j _ (body-at (value_at (map Some values)) parts j e within)) in
+    ap (slice_get (set vs place (value_at ds place))) same ∙ set-same vs place (value_at ds place) room ∙ ap Some value
+factor-at values before parts place j e false x here other within inside is =
+    set-other (map (value_at (map Some values)) (map number parts)) place j _ (other refl)
+    ∙ body-at (value_at (map Some values)) parts j e within
+    ∙ ap Some (get_or-map Some values (get_or parts j e).0 0 None inside ∙ sym is)
 
 -- The product at a place, of those with one value replaced.
 replaced-after : (f : ℕ) (front vs ds : List (Option ℕ)) (i : ℕ) (d : Option ℕ) → i < length vs → slice_get ds i ≡ Some d → slice_get (replaced_products f front vs ds) i ≡ Some (product_up f (front ++ set vs i d))
@@ -99,6 +96,21 @@ length-replaced f front [] ds same = refl
 length-replaced f front (v ∷ vs) [] same = absurd (omega arith)
 length-replaced f front (v ∷ vs) (d ∷ ds) same = let rest : length (replaced_products f (front ++ v ∷ []) vs ds) ≡ length vs = length-replaced f (front ++ v ∷ []) vs ds (omega arith) in omega arith
 
+pub length-products : (f : ℕ) (values : List ℕ) (before : List (Option ℕ)) (parts : List ExprId) → length (replaced_products f [] (map (value_at (map Some values)) (map number parts)) (map (value_at before) (map number parts))) ≡ length parts
+length-products f values before parts =
+    length-replaced f [] (map (value_at (map Some values)) (map number parts)) (map (value_at before) (map number parts)) (length-map (map number parts) (value_at before) ∙ sym (length-map (map number parts) (value_at (map Some values))))
+    ∙ length-map (map number parts) (value_at (map Some values)) ∙ length-map parts number
+
+-- The derivative of a counted node, from the slope at its part's value.
+pub counted-slope : (kind : Kind) (f : ℕ) (r : Range) (values : List ℕ) (before : List (Option ℕ)) (p : ℕ) (result slope : Option ℕ) → p < length values → slope ≡ slope_up kind f r (slice_index values p) → result ≡ of_both (mul_up f) slope (value_at before p) → result ≡ counted_derivative kind f r (value_at (map Some values) p) (value_at before p)
+counted-slope kind f r values before p result slope inside slope_is is =
+    is ∙ ap (λ (o : Option ℕ). of_both (mul_up f) o (value_at before p)) (slope_is ∙ sym (ap (option_and_then (slope_up kind f r)) (get_or-map Some values p 0 None inside)))
+
+-- A dual sweep, as the code finds it.
+pub dual-found : (t : Setting) (values : List (Option ℕ)) (d : List ℕ) (derivatives : List (Option ℕ)) (bodies : List ℕ) (answer : Option (List ℕ)) → derivatives ≡ derivatives_up t values d → bodies ≡ t.spec.bodies → all_values (map (dual_at derivatives) bodies) ≡ answer → sweep_dual t values d ≡ answer
+dual-found t values d derivatives bodies answer derivatives_are bodies_are is =
+    sym (ap (λ (us : List (Option ℕ)). all_values (map (dual_at us) t.spec.bodies)) derivatives_are) ∙ sym (ap (λ (bs : List ℕ). all_values (map (dual_at derivatives) bs)) bodies_are) ∙ is
+
 -- All values are there where each is, and not where one is missing.
 pub all-there : (us : List (Option ℕ)) → ((c : ℕ) → c < length us → value_at us c ≢ None) → all_values us ≡ Some (map amount us)
 all-there [] each = refl
@@ -120,3 +132,12 @@ all-replaced [] [] same = refl
 all-replaced [] (u ∷ us) same = absurd (omega arith)
 all-replaced (x ∷ xs) [] same = absurd (omega arith)
 all-replaced (x ∷ xs) (u ∷ us) same = ap (λ zs. amount u ∷ zs) (all-replaced xs us (omega arith))
+
+-- What the test of a value says.
+pub not_there : (o : Option ℕ) → is_some o ≡ false → o ≡ None
+not_there None test = refl
+not_there (Some v) test = absurd (cc)
+
+pub both_ways : (o : Option ℕ) → is_some o ≡ true → o ≡ None → ⊥
+both_ways None test none = cc
+both_ways (Some v) test none = cc

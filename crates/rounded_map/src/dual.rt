@@ -53,10 +53,11 @@ pub fn sweep_dual<const F: u32, L: Ledger>(
     let derivatives = &mut room[..nodes.len()];
     fill_derivatives::<F>(system, values, dual, derivatives);
     let _ = copy_values(derivatives, nodes);
-    if !are_there(system.bodies(), derivatives) {
+    let bodies = system.bodies();
+    if !are_there(bodies, derivatives) {
         return false;
     }
-    write_duals(system.bodies(), derivatives, dual);
+    write_duals(bodies, derivatives, dual);
     true
 }
 
@@ -154,11 +155,12 @@ fn product_slope<const F: u32>(parts: &[ExprId], values: &[u64], before: &[Optio
     requires values { length before.now ≤ length values.now }
     ensures sum { result ≡ total_up (replaced_products F [] (map (value_at (map Some values.now)) (map number parts.now)) (map (value_at before.now) (map number parts.now))) }
 {
-    if parts.is_empty() {
+    let count = parts.len();
+    if count == 0 {
         return Some(0);
     }
     let mut sum = replaced_product::<F>(parts, 0, values, before);
-    for place in 1..parts.len() {
+    for place in 1..count {
         sum = add_hi(sum, replaced_product::<F>(parts, place, values, before));
     }
     sum
