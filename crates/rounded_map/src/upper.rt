@@ -11,7 +11,7 @@ ghost use Rattle.fixed_enclosure.specs.Rounded.{atom_up, add_up, mul_up, of_both
 ghost use Rattle.series_bounds.specs.Series.{Kind, counted_up};
 ghost use Rattle.series_bounds.specs.Lists.{total_up, product_up};
 ghost use Rattle.rounded_map.specs.RoundedMap.{setting, at_each, lesser, value_at, value_up, values_up, bodies_up, sweep_up, IsPostFixed, IsFirstAbove, IsFirstMissing};
-ghost use Rattle.rounded_map.specs.Bounding.{AreAbove};
+ghost use Rattle.rounded_map.specs.Bounding.{AreAbove, ValuesAbove};
 
 use bz_model::fraction::Fraction;
 use bz_model::steps::Steps;
@@ -47,7 +47,7 @@ pub struct PostFault {
 ///
 /// `classes` has one entry per class and `nodes` one per node, both in units of `2^-F`. `nodes` is
 /// overwritten. `NoValue` comes exactly where a node has no upper value, with the least such node.
-/// One tick. Takes no memory.
+/// Where the entries bound the classes, the values bound the nodes. One tick. Takes no memory.
 pub fn eval_hi<const F: u32, L: Ledger>(
     system: &System,
     x: Fraction,
@@ -59,6 +59,7 @@ pub fn eval_hi<const F: u32, L: Ledger>(
     requires one_per_class { length classes.now ≡ length system.now.bodies }
     requires one_per_node { length nodes.old ≡ length system.now.nodes }
     ensures values { OnOk result (map Some nodes.new ≡ values_up (setting system.now x.num x.den F) classes.now) }
+    ensures bounds { OnOk result (AreAbove system.now (ratio x.num x.den) F classes.now → ValuesAbove system.now (ratio x.num x.den) F (map Some nodes.new)) }
     ensures fault { IfErr result (λ fault. IsFirstMissing (values_up (setting system.now x.num x.den F) classes.now) fault.node.0) }
     ensures ticks { steps.new ≡ steps.old + 1 }
 {
@@ -235,7 +236,7 @@ fn cycle_hi<const F: u32>(part: Option<u64>, range: Range) -> Option<u64>
 /// entry where there is none.
 ///
 /// `classes` has one entry per class and `nodes` one per node, both in units of `2^-F`. `nodes` is
-/// overwritten. One tick. Takes no memory.
+/// overwritten. Where the old entries bound the classes, the new ones do. One tick. Takes no memory.
 pub fn sweep_hi<const F: u32, L: Ledger>(
     system: &System,
     x: Fraction,
@@ -247,6 +248,7 @@ pub fn sweep_hi<const F: u32, L: Ledger>(
     requires one_per_class { length classes.old ≡ length system.now.bodies }
     requires one_per_node { length nodes.old ≡ length system.now.nodes }
     ensures swept { classes.new ≡ sweep_up (setting system.now x.num x.den F) classes.old }
+    ensures bounds { AreAbove system.now (ratio x.num x.den) F classes.old → AreAbove system.now (ratio x.num x.den) F classes.new }
     ensures length { length nodes.new ≡ length nodes.old }
     ensures ticks { steps.new ≡ steps.old + 1 }
 {
