@@ -1,5 +1,5 @@
 -- Sweeps that go on from sweeps.
-use Rattle.std.proofs.Common.{◌≡◌, ℕ, zero, suc, ◌+◌, ◌≤◌, List, ◌++◌, length, take, replicate, refl, sym, ap, subst, ◌∙◌, arith}
+use Rattle.std.proofs.Common.{◌≡◌, ℕ, zero, suc, ◌+◌, ◌≤◌, List, ◌++◌, length, take, replicate, sym, ap, subst, ◌∙◌, arith}
 use Rattle.std.proofs.lemmas.List.{take_all, take-append-le}
 use Rattle.bz_model.specs.Fraction.{ratio}
 use Rattle.bz_model.specs.Spec.{Spec}
@@ -7,7 +7,7 @@ use Rattle.class_system.specs.Sound.{IsSound}
 use Rattle.rounded_map.specs.RoundedMap.{Setting, setting, repeated, sweep_down}
 use Rattle.rounded_map.specs.Bounding.{AreBelow}
 use Rattle.rounded_map.proofs.Bounding.{length-lower_sweeps, sweeps-reached-at}
-use Rattle.kleene_lower.specs.Lower.{Sweeps, AreSweepsOf, swept_from_zero}
+use Rattle.kleene_lower.specs.Lower.{Sweeps, AreSweepsOf}
 
 -- One sweep more.
 pub repeated-more : {V : Type 0} (f : V → V) (n m : ℕ) (v : V) → m ≡ n + 1 → repeated f m v ≡ f (repeated f n v)

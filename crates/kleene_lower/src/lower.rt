@@ -51,7 +51,13 @@ impl<const F: u32> Lower<F> {
     ///
     /// The system and x are those of the calls before, and no fewer sweeps are asked for than are
     /// done. One tick for each new sweep. Takes no memory.
-    pub fn advance_to<L: Ledger>(&mut self, system: &System, x: Fraction, sweeps: u64, steps: &mut Steps<L>)
+    pub fn advance_to<L: Ledger>(
+        &mut self,
+        system: &System,
+        x: Fraction,
+        sweeps: u64,
+        steps: &mut Steps<L>,
+    )
         requires fraction_bits { (24 ≤ F) × (F ≤ 56) }
         requires same { AreSweepsOf (setting system.now x.num x.den F) self.old }
         requires no_fewer { self.old.done ≤ sweeps }
@@ -61,7 +67,14 @@ impl<const F: u32> Lower<F> {
         ensures ticks { steps.new + self.old.done ≡ steps.old + sweeps }
     {
         let further = sweeps - self.sweeps;
-        sweep_on::<F, L>(system, x, further, &mut self.classes, &mut self.nodes, steps);
+        sweep_on::<F, L>(
+            system,
+            x,
+            further,
+            &mut self.classes,
+            &mut self.nodes,
+            steps,
+        );
         self.sweeps = sweeps;
     }
 

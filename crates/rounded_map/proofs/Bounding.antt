@@ -1,14 +1,13 @@
 -- What the rounded map's values bound, and what they are reached by.
-use Rattle.std.proofs.Common.{◌≡◌, ℕ, zero, suc, ◌<◌, ◌≤◌, List, [], ◌∷◌, length, map, min, max, refl, sym, ap, subst, ◌∙◌, arith, Option, Some, None, replicate, slice_get, Result, Ok, Err}
+use Rattle.std.proofs.Common.{◌≡◌, ℕ, zero, suc, ◌<◌, ◌≤◌, List, [], ◌∷◌, length, map, max, refl, sym, ap, subst, ◌∙◌, arith, Option, Some, None, replicate, slice_get, Result, Ok, Err}
 use Rattle.std.specs.Prelude.{slice_index, is_some, IsTrue, OnOk}
 use Rattle.std.proofs.lemmas.List.{length-map}
 use Rattle.std.proofs.Math.ListN.{length-replicate}
 use Rattle.std.proofs.lemmas.Option.{slice_get_within, same_Some}
-use Rattle.bz_model.specs.Fraction.{Fraction, AtMost, units, ratio}
+use Rattle.bz_model.specs.Fraction.{Fraction, units, ratio}
 use Rattle.bz_model.specs.Spec.{Spec, body_of}
 use Rattle.bz_model.specs.Object.{HasWithin, Belongs}
 use Rattle.bz_model.specs.Totals.{Above, Below}
-use Rattle.bz_laws.specs.Values.{Covers}
 use Rattle.bz_laws.proofs.Bounds.{below-max, above-min}
 use Rattle.bz_laws.proofs.Sweeps.{below-zero}
 use Rattle.bz_laws.proofs.Values.{covers-belongs, covers-height, covers-height_zero, reached-belongs, post_fixed-entries}
@@ -16,7 +15,7 @@ use Rattle.class_system.specs.Sound.{IsSound}
 use Rattle.class_system.proofs.Soundness.{body_in_range}
 use Rattle.fixed_enclosure.specs.UpperValues.{IsNoGreater, AreNoGreater}
 use Rattle.series_bounds.proofs.Fractions.{units-mono}
-use Rattle.rounded_map.specs.RoundedMap.{Setting, setting, amount, value_at, at_each, lesser, repeated, values_down, values_up, bodies_down, bodies_up, sweep_down, sweep_up, IsPostFixed}
+use Rattle.rounded_map.specs.RoundedMap.{Setting, setting, amount, value_at, at_each, lesser, repeated, values_down, values_up, bodies_down, sweep_down, sweep_up, IsPostFixed}
 use Rattle.rounded_map.specs.Bounding.{AreAbove, AreAboveWithin, AreBelow, ValuesAbove, ValuesAboveWithin, ValuesBelow}
 use Rattle.rounded_map.proofs.LaidOut.{laid_out}
 use Rattle.rounded_map.proofs.Covering.{told, up, down, values-cover, values-reached}

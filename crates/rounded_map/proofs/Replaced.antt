@@ -1,8 +1,8 @@
 -- Lists that are gone through from place to place, and products with one factor replaced.
-use Rattle.std.proofs.Common.{◌≡◌, ◌≢◌, ℕ, zero, suc, ◌+◌, ◌<◌, ◌≤◌, Bool, true, false, List, [], ◌∷◌, ◌++◌, length, map, drop, set, get_or, cond, Option, Some, None, refl, sym, ap, subst, ◌∙◌, arith, add-one, append_assoc, slice_get}
+use Rattle.std.proofs.Common.{◌≡◌, ◌≢◌, ℕ, zero, suc, ◌+◌, ◌<◌, ◌≤◌, Bool, true, false, List, [], ◌∷◌, ◌++◌, length, map, drop, set, get_or, cond, Option, Some, None, refl, sym, ap, ◌∙◌, arith, add-one, append_assoc, slice_get}
 use Rattle.std.specs.Prelude.{slice_index, is_some, option_map, option_and_then}
 use Rattle.std.proofs.lemmas.List.{drop_all, get_or-map, length-map}
-use Rattle.std.proofs.lemmas.Option.{slice_get_within, same_Some, slice_get-map, slice_get-get_or, slice_get_past}
+use Rattle.std.proofs.lemmas.Option.{slice_get_within, same_Some, slice_get-get_or}
 use Rattle.class_system.specs.Views.{number}
 use Rattle.class_system.specs.declared.ids.ExprId.{ExprId}
 use Rattle.fixed_enclosure.specs.Rounded.{of_both, add_up, mul_up}

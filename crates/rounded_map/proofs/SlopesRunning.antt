@@ -1,5 +1,5 @@
 -- The sum of a derivative's terms, as it runs.
-use Rattle.std.proofs.Common.{◌≡◌, ℕ, zero, suc, ◌+◌, ◌-◌, ◌*◌, ◌^◌, ◌<◌, ◌≤◌, Bool, true, false, ◌&&◌, List, [], ◌∷◌, drop, Option, Some, None, refl, sym, ap, subst, ◌∙◌, arith, cond}
+use Rattle.std.proofs.Common.{◌≡◌, ℕ, zero, suc, ◌+◌, ◌-◌, ◌^◌, ◌<◌, Bool, true, false, ◌&&◌, List, [], ◌∷◌, drop, Option, Some, None, refl, sym, ap, ◌∙◌, arith, cond}
 use Rattle.std.specs.Prelude.{sum, nat_lt}
 use Rattle.std.specs.List.{list_all}
 use Rattle.std.proofs.lemmas.List.Sums.{sum_by-cons}
@@ -7,7 +7,7 @@ use Rattle.std.proofs.lemmas.Bool.{ltb-true, ltb-false}
 use Rattle.fixed_enclosure.specs.Rounded.{Side, fits, if_fits}
 use Rattle.fixed_enclosure.proofs.Quotients.{fitting, guarded}
 use Rattle.series_bounds.specs.Series.{Kind, carried_on, term, terms_from, terms}
-use Rattle.rounded_map.specs.Derivative.{slope_kind, slope_term, slope_terms, slope_sum, slope_ranged, slope_up}
+use Rattle.rounded_map.specs.Derivative.{slope_kind, slope_term, slope_terms, slope_ranged}
 use Rattle.rounded_map.specs.SlopeSums.{slope_kept, slope_run, slope_between}
 
 zero_drop : (n : ℕ) → sum (drop n []) ≡ 0
@@ -68,7 +68,7 @@ slope-more kind low j s f v n m c p next added whole count fit next_is added_is 
     let same : c ≡ p = fitting (fits c) c fit in
     let one : j + 1 ≡ suc j = omega arith in
     let inner : slope_run kind low (suc (suc j)) (s + slope_kept kind low (suc j) c) (terms_from Side.Up (slope_kind kind) f v m (suc j) (carried_on Side.Up (slope_kind kind) f v j c)) ≡ whole =
-        sym (ap (λ b. cond b (slope_run kind low (suc (suc j)) (s + slope_kept kind low (suc j) c) (terms_from Side.Up (slope_kind kind) f v m (suc j) (carried_on Side.Up (slope_kind kind) f v j c))) None) g.0) ∙ sym (opened kind low j s f v n m c count) ∙ so_far in
+    sym (ap (λ b. cond b (slope_run kind low (suc (suc j)) (s + slope_kept kind low (suc j) c) (terms_from Side.Up (slope_kind kind) f v m (suc j) (carried_on Side.Up (slope_kind kind) f v j c))) None) g.0) ∙ sym (opened kind low j s f v n m c count) ∙ so_far in
     let next_here : next ≡ carried_on Side.Up (slope_kind kind) f v j c = next_is ∙ ap (carried_on Side.Up (slope_kind kind) f v j) (sym same) in
     let added_here : added ≡ slope_kept kind low (suc j) c = added_is ∙ ap (λ (i : ℕ). slope_kept kind low i p) one ∙ ap (slope_kept kind low (suc j)) (sym same) in
     ap (λ (i : ℕ). slope_run kind low (suc i) (s + added) (terms_from Side.Up (slope_kind kind) f v m i next)) one

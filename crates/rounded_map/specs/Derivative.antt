@@ -1,5 +1,5 @@
 -- The derivative of the rounded map along a vector, rounded up, and the dual sweep.
-use Rattle.std.specs.Prelude.{ℕ, zero, suc, ◌-◌, ◌*◌, Bool, List, [], ◌∷◌, ◌++◌, map, sum, drop, slice_index, Option, Some, None, option_and_then, if◌then◌else◌}
+use Rattle.std.specs.Prelude.{ℕ, suc, ◌-◌, ◌*◌, List, [], ◌∷◌, ◌++◌, map, sum, drop, slice_index, Option, Some, None, option_and_then, if◌then◌else◌}
 use Rattle.std.specs.List.{list_all}
 use Rattle.bz_model.specs.Spec.{Node, Range}
 use Rattle.class_system.specs.NodeResults.{node_results, ranged_nodes}

@@ -97,7 +97,12 @@ fn number_of(value: Option<u64>) -> u64
 }
 
 /// The derivatives of all nodes, each where it has one.
-fn fill_derivatives<const F: u32>(system: &System, values: &[u64], dual: &[u64], derivatives: &mut [Option<u64>])
+fn fill_derivatives<const F: u32>(
+    system: &System,
+    values: &[u64],
+    dual: &[u64],
+    derivatives: &mut [Option<u64>],
+)
     requires fraction_bits { (24 ≤ F) × (F ≤ 56) }
     requires one_per_class { length dual.now ≡ length system.now.bodies }
     requires one_value_per_node { length values.now ≡ length system.now.nodes }
@@ -108,7 +113,13 @@ fn fill_derivatives<const F: u32>(system: &System, values: &[u64], dual: &[u64],
     let expressions = system.nodes();
     let ranges = system.ranges();
     for e in 0..derivatives.len() {
-        derivatives[e] = derivative_of::<F>(&expressions[e], ranges[e], values, dual, &derivatives[..e]);
+        derivatives[e] = derivative_of::<F>(
+            &expressions[e],
+            ranges[e],
+            values,
+            dual,
+            &derivatives[..e],
+        );
     }
 }
 
@@ -149,7 +160,11 @@ fn derivative_of<const F: u32>(
 
 /// The derivative of a product: over its parts, the sum of the products with this one part's value
 /// replaced by its derivative.
-fn product_slope<const F: u32>(parts: &[ExprId], values: &[u64], before: &[Option<u64>]) -> Option<u64>
+fn product_slope<const F: u32>(
+    parts: &[ExprId],
+    values: &[u64],
+    before: &[Option<u64>],
+) -> Option<u64>
     requires fraction_bits { (24 ≤ F) × (F ≤ 56) }
     requires parts { Each (λ p. p < length before.now) (map number parts.now) }
     requires values { length before.now ≤ length values.now }
@@ -167,7 +182,12 @@ fn product_slope<const F: u32>(parts: &[ExprId], values: &[u64], before: &[Optio
 }
 
 /// The product with the value at one place replaced by its derivative.
-fn replaced_product<const F: u32>(parts: &[ExprId], place: usize, values: &[u64], before: &[Option<u64>]) -> Option<u64>
+fn replaced_product<const F: u32>(
+    parts: &[ExprId],
+    place: usize,
+    values: &[u64],
+    before: &[Option<u64>],
+) -> Option<u64>
     requires fraction_bits { (24 ≤ F) × (F ≤ 56) }
     requires place { place < length parts.now }
     requires parts { Each (λ p. p < length before.now) (map number parts.now) }
@@ -176,7 +196,10 @@ fn replaced_product<const F: u32>(parts: &[ExprId], place: usize, values: &[u64]
 {
     let mut product = factor(parts[0], place == 0, values, before);
     for other in 1..parts.len() {
-        product = mul_hi::<F>(product, factor(parts[other], other == place, values, before));
+        product = mul_hi::<F>(
+            product,
+            factor(parts[other], other == place, values, before),
+        );
     }
     product
 }

@@ -29,7 +29,12 @@ pub(crate) fn sequence_slope<const F: u32>(part: u64, range: Range) -> Option<u6
     ensures { result ≡ slope_up Kind.Seq F (spec_range range) part }
 {
     match range.high {
-        Some(high) => slope_sum::<F>(Counted::Sequence, u64::from(range.low), u64::from(high), part),
+        Some(high) => slope_sum::<F>(
+            Counted::Sequence,
+            u64::from(range.low),
+            u64::from(high),
+            part,
+        ),
         None => {
             let value = Hi::<F>(part).seq()?;
             let square = value.mul(value)?;

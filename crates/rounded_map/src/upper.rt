@@ -21,7 +21,9 @@ use class_system::ranges::Range;
 use class_system::system::System;
 use fixed_enclosure::Hi;
 use fixed_enclosure::narrow::power_of_two;
-use series_bounds::{cyc_from_hi, cyc_range_hi, seq_from_hi, seq_range_hi, set_from_hi, set_range_hi};
+use series_bounds::{
+    cyc_from_hi, cyc_range_hi, seq_from_hi, seq_range_hi, set_from_hi, set_range_hi,
+};
 use std::sync::ledger::Ledger;
 
 /// The most nodes of a system.
@@ -82,14 +84,21 @@ pub(crate) fn copy_values(values: &[Option<u64>], nodes: &mut [u64]) -> Result<(
     for e in 0..nodes.len() {
         match values[e] {
             Some(value) => nodes[e] = value,
-            None => return Err(NoValue { node: ExprId(e as u32) }),
+            None => return Err(NoValue {
+                node: ExprId(e as u32),
+            }),
         }
     }
     Ok(())
 }
 
 /// The upper values of all nodes, each where it has one.
-fn fill_values<const F: u32>(system: &System, x: Fraction, classes: &[u64], values: &mut [Option<u64>])
+fn fill_values<const F: u32>(
+    system: &System,
+    x: Fraction,
+    classes: &[u64],
+    values: &mut [Option<u64>],
+)
     requires fraction_bits { (24 ≤ F) × (F ≤ 56) }
     requires one_per_class { length classes.now ≡ length system.now.bodies }
     requires one_per_node { length values.old ≡ length system.now.nodes }

@@ -1,4 +1,4 @@
-use Rattle.std.proofs.Common.{◌≡◌, ◌+◌, length}
+use Rattle.std.proofs.Common.{◌≡◌, ◌+◌}
 use Rattle.rounded_map.specs.RoundedMap.{setting, repeated, sweep_down}
 use Rattle.kleene_lower.proofs.lower.sweep_on.Given as goal
 

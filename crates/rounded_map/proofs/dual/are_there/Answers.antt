@@ -1,4 +1,4 @@
-use Rattle.std.proofs.Common.{◌≡◌, map, length, arith, sym, ◌∙◌, ap, below_more}
+use Rattle.std.proofs.Common.{◌≡◌, map, length, arith, sym, ◌∙◌, below_more}
 use Rattle.std.proofs.lemmas.List.{length-map}
 use Rattle.class_system.specs.Views.{number}
 use Rattle.rounded_map.specs.Derivative.{dual_at}

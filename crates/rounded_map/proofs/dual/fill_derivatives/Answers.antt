@@ -1,4 +1,4 @@
-use Rattle.std.proofs.Common.{◌≡◌, length, take, map, Some, arith}
+use Rattle.std.proofs.Common.{map, Some, arith}
 use Rattle.std.proofs.lemmas.List.{length-take}
 use Rattle.rounded_map.specs.RoundedMap.{setting}
 use Rattle.rounded_map.specs.Derivative.{derivative_up}

@@ -1,7 +1,5 @@
-use Rattle.std.proofs.Common.{◌∙◌, sym, ap}
+use Rattle.std.proofs.Common.{◌∙◌}
 use Rattle.series_bounds.specs.Series.{Kind}
-use Rattle.class_system.specs.Views.{spec_range}
-use Rattle.rounded_map.specs.Derivative.{slope_ranged}
 use Rattle.rounded_map.proofs.SlopesRunning.{slope-with_high}
 use Rattle.rounded_map.proofs.slopes.sequence_slope.Goals as goal
 

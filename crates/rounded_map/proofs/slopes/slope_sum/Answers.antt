@@ -1,6 +1,6 @@
-use Rattle.std.proofs.Common.{◌≡◌, suc, ◌+◌, ◌-◌, arith, sym, ◌∙◌}
+use Rattle.std.proofs.Common.{◌≡◌, suc, ◌+◌, ◌-◌, arith, sym}
 use Rattle.rounded_map.specs.CountedKinds.{kind_of}
-use Rattle.rounded_map.proofs.SlopesRunning.{slope-first, slope-more, slope-stops, slope-ends}
+use Rattle.rounded_map.proofs.SlopesRunning.{slope-first, slope-more}
 use Rattle.rounded_map.proofs.slopes.slope_sum.Goals as goal
 
 pub loop-place-init : goal.loop-place-init
