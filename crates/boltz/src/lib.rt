@@ -3,4 +3,8 @@
 
 pub mod first_form;
 pub mod lines;
+pub mod refusals;
+pub mod report;
+pub mod run;
+pub mod status;
 pub mod words;

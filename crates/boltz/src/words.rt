@@ -10,7 +10,9 @@ use bz_outside::word::Word;
 #[derive(Clone, Copy)]
 pub enum Command<'a> {
     /// Prints a specification in its canonical form.
-    Spec { file: &'a Word },
+    Spec {
+        file: &'a Word,
+    },
     /// Draws from a specification at `x`, with the bits of a tape.
     Sample {
         file: &'a Word,

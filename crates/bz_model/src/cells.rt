@@ -31,6 +31,14 @@ impl Cells {
         }
     }
 
+    /// Forgets all cells. Gives no memory back.
+    pub fn clear(&mut self)
+        ensures items { self.new.items ≡ [] }
+        ensures spare { self.old.spare ≤ self.new.spare }
+    {
+        self.content.clear();
+    }
+
     /// Takes memory for at least `more` further cells. The list stays as it was in any case.
     pub fn reserve(&mut self, more: usize) -> Result<(), AllocError>
         ensures items { self.new.items ≡ self.old.items }

@@ -6,8 +6,8 @@
 #![tactic(auto)]
 
 pub mod cell;
+pub mod cells;
 pub mod fraction;
 pub mod number;
-pub mod cells;
 pub mod oracle;
 pub mod steps;

@@ -1,5 +1,5 @@
 -- What a choice means: which options pass, and which tests hold, where one is taken or Over is decided; and the choice that tests make.
-use Rattle.std.proofs.Common.{◌≡◌, ℕ, suc, ◌+◌, ◌-◌, ◌<◌, ◌≤◌, arith, refl, sym, ◌∙◌, ap, subst, true, false, cond, ◌||◌, Option, Some, None, ◌⊎◌, inl, inr}
+use Rattle.std.proofs.Common.{◌≡◌, ℕ, ◌+◌, ◌<◌, ◌≤◌, refl, sym, ◌∙◌, ap, subst, true, false, cond, ◌||◌, Option, Some, None, inl, inr}
 use Rattle.std.proofs.lemmas.Bool.{cases_Bool}
 use Rattle.bz_model.specs.declared.cell.Cell.{Cell}
 use Rattle.choice_draw.specs.Decision.{Options, Choice, is_last, ends_before, begins_after, least_option, is_reached, over_from, over_of, choice_from, choice_of}

@@ -1,5 +1,5 @@
 -- The least option that passes: it passes, it is one of those asked, and none before it passes.
-use Rattle.std.proofs.Common.{◌≡◌, ℕ, zero, suc, ◌+◌, ◌<◌, ◌≤◌, ◌⊎◌, Bool, true, false, Some, None, cond, refl, sym, ◌∙◌, subst, ap, arith, inl, inr, ⊎_elim}
+use Rattle.std.proofs.Common.{◌≡◌, ℕ, zero, suc, ◌+◌, ◌<◌, ◌≤◌, Bool, true, false, Some, None, cond, refl, sym, ◌∙◌, subst, ap, arith, ⊎_elim}
 use Rattle.std.proofs.lemmas.Bool.{cases_lt, cases_Bool}
 use Rattle.choice_draw.specs.Decision.{least_passing}
 

@@ -1,6 +1,5 @@
 -- What is decided by sound options: the ideal option of every number of the cell, or that none up to the room is ideal.
-use Rattle.std.proofs.Common.{◌≡◌, ℕ, suc, ◌+◌, ◌-◌, ◌*◌, ◌^◌, ◌<◌, ◌≤◌, ◌⊎◌, inl, inr, arith, refl, sym, ◌∙◌, ap, subst, Bool, true, false, cond, ◌||◌, Option, Some, None, List, [], ◌∷◌, ⊎_elim}
-use Rattle.std.specs.Prelude.{nat_eq, nat_le}
+use Rattle.std.proofs.Common.{◌≡◌, ℕ, ◌+◌, ◌-◌, ◌^◌, ◌<◌, ◌≤◌, inl, inr, arith, sym, ap, subst, true, Option, Some, None, List, [], ◌∷◌, ⊎_elim}
 use Rattle.std.proofs.lemmas.Bool.{leb-true, eqb-true, or_cases, cases_lt}
 use Rattle.bz_model.specs.declared.cell.Cell.{Cell}
 use Rattle.bz_model.specs.Fraction.{Fraction, AtMost, plus, times, units, one_in}

@@ -1,5 +1,5 @@
 -- A loop's draw, where the tape's bits are told: how it goes on, and what each of its answers tells.
-use Rattle.std.proofs.Common.{◌≡◌, ℕ, Bool, suc, ◌+◌, ◌<◌, Option, Some, None, arith, refl, sym, ◌∙◌, ap, subst}
+use Rattle.std.proofs.Common.{◌≡◌, ℕ, Bool, suc, ◌+◌, ◌<◌, Option, Some, None, arith, sym, subst}
 use Rattle.std.specs.Prelude.{IfSome}
 use Rattle.bz_model.specs.declared.cell.Cell.{Cell}
 use Rattle.choice_draw.specs.declared.drawn.Drawn.TheVariants.{Value, Straddles, Ended, ReadFault}

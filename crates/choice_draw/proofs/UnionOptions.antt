@@ -1,14 +1,13 @@
 -- The options of a union are sound where the table is.
-use Rattle.std.proofs.Common.{◌≡◌, ℕ, zero, suc, ◌+◌, ◌-◌, ◌*◌, ◌^◌, ◌<◌, ◌≤◌, min, length, List, [], ◌∷◌, map, take, sum, arith, refl, sym, ◌∙◌, ap, subst, Option, Some, None}
+use Rattle.std.proofs.Common.{◌≡◌, ℕ, zero, suc, ◌+◌, ◌-◌, ◌^◌, ◌<◌, ◌≤◌, min, length, List, [], ◌∷◌, map, take, sum, arith, refl, Some}
 use Rattle.std.specs.Prelude.{slice_get, sum_by}
 use Rattle.std.specs.List.{AllByRecursion}
 use Rattle.std.proofs.Math.Nat.{mul-le-mul_right}
 use Rattle.std.proofs.lemmas.List.Sums.{sum-map, sum_by-cons}
-use Rattle.bz_model.specs.declared.cell.Cell.{Cell}
 use Rattle.bz_model.specs.declared.cell.Bounds.{Bounds}
 use Rattle.bz_model.specs.Fraction.{Fraction, AtMost, units}
 use Rattle.bz_model.specs.Spec.{Spec, Node, node_at}
-use Rattle.bz_model.specs.Object.{Object, Belongs}
+use Rattle.bz_model.specs.Object.{Belongs}
 use Rattle.bz_model.specs.Totals.{Above, Below, total_by}
 use Rattle.bz_model.specs.Ideal.{Upto, IsGreatestOption}
 use Rattle.bz_model.specs.Oracle.{IsSound, Encloses}

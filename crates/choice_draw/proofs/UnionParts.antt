@@ -1,9 +1,7 @@
 -- The parts of a union of a sound specification within the limits: how many there are, and that they are nodes.
-use Rattle.std.proofs.Common.{◌≡◌, ℕ, zero, suc, ◌<◌, ◌≤◌, length, map, List, [], ◌∷◌, arith, refl, sym, ◌∙◌, ap, subst, Option, Some, None}
+use Rattle.std.proofs.Common.{◌≡◌, ℕ, zero, suc, ◌<◌, ◌≤◌, length, map, List, [], ◌∷◌, arith, refl, ap, Some}
 use Rattle.std.specs.Prelude.{slice_get}
 use Rattle.std.proofs.lemmas.List.{length-map}
-use Rattle.std.proofs.lemmas.Bool.{cases_lt}
-use Rattle.bz_laws.proofs.Unions.{part_missing}
 use Rattle.bz_model.specs.Spec.{Spec, Node, node_at}
 use Rattle.class_system.specs.Each.{Each}
 use Rattle.class_system.specs.Views.{number}

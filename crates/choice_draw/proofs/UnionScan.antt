@@ -1,5 +1,5 @@
 -- What a pass over the parts of a union keeps, and the choice that it ends with.
-use Rattle.std.proofs.Common.{◌≡◌, ℕ, zero, suc, ◌+◌, ◌-◌, ◌*◌, ◌^◌, ◌<◌, ◌≤◌, ◌⊎◌, inl, inr, min, length, List, [], ◌∷◌, ◌++◌, map, take, sum, get_or, arith, refl, sym, ◌∙◌, ap, subst, Option, Some, None, Bool, true, false, cond, ◌||◌, ⊎_elim}
+use Rattle.std.proofs.Common.{◌≡◌, ℕ, suc, ◌+◌, ◌-◌, ◌*◌, ◌^◌, ◌<◌, ◌≤◌, ◌⊎◌, inl, inr, min, length, List, [], ◌∷◌, ◌++◌, map, take, sum, get_or, arith, refl, sym, ◌∙◌, ap, subst, Option, Some, None, Bool, true, false, cond, ◌||◌, ⊎_elim}
 use Rattle.std.specs.Prelude.{nat_eq, nat_le}
 use Rattle.std.specs.Bool.{then_some}
 use Rattle.std.proofs.Math.Seq.{take-suc}

@@ -1,8 +1,8 @@
 -- The whole number that a cell decides is that of each number of the cell, and a straddling cell has numbers of two.
-use Rattle.std.proofs.Common.{◌≡◌, ℕ, suc, ◌+◌, ◌*◌, ◌/◌, ◌^◌, ◌<◌, ◌≤◌, arith, sym, ◌∙◌}
+use Rattle.std.proofs.Common.{◌≡◌, ℕ, suc, ◌+◌, ◌*◌, ◌/◌, ◌^◌, ◌<◌, ◌≤◌, arith}
 use Rattle.std.proofs.Math.Nat.{mul-le-mul_right, le_of_mul-le-mul_right, div-mul-le_self, lt-div-mul-add}
 use Rattle.std.proofs.lemmas.Nat.{pow_pos, div_below, le-div}
-use Rattle.bz_model.specs.Fraction.{Fraction, fraction_of, floor_times}
+use Rattle.bz_model.specs.Fraction.{fraction_of}
 use Rattle.bz_model.specs.Cell.{IsInCell}
 use Rattle.choice_draw.specs.Whole.{Decides}
 

@@ -1,5 +1,5 @@
 -- What a cell decides among the options of a node, and which whole number it decides.
-use Rattle.std.specs.Prelude.{◌≡◌, ℕ, zero, suc, ◌+◌, ◌-◌, ◌*◌, ◌/◌, ◌^◌, min, Bool, false, ◌||◌, nat_le, nat_lt, nat_eq, List, [], ◌∷◌, map, take, length, sum, Option, Some, None, if◌then◌else◌}
+use Rattle.std.specs.Prelude.{◌≡◌, ℕ, zero, suc, ◌+◌, ◌-◌, ◌*◌, ◌/◌, ◌^◌, min, Bool, false, ◌||◌, nat_le, nat_eq, List, [], ◌∷◌, map, take, length, sum, Option, Some, None, if◌then◌else◌}
 use Rattle.bz_model.specs.declared.cell.Cell.{Cell}
 use Rattle.bz_model.specs.declared.cell.Bounds.{Bounds}
 use Rattle.bz_model.specs.Spec.{Spec, Node, node_at}

@@ -1,5 +1,5 @@
 -- How lists with a property, trees of nodes and a sound specification grow by one element at the end.
-use Rattle.std.proofs.Common.{◌≡◌, ℕ, ◌+◌, ◌<◌, ◌≤◌, zero, suc, List, [], ◌∷◌, ◌++◌, length, arith, sym, ◌∙◌, ap, subst, refl, inl, inr, ◌⊎◌, Some, slice_get, length-append}
+use Rattle.std.proofs.Common.{◌≡◌, ℕ, zero, suc, List, [], ◌∷◌, ◌++◌, length, arith, sym, ◌∙◌, ap, subst, refl, inl, inr, ◌⊎◌, Some, slice_get, length-append}
 use Rattle.std.proofs.lemmas.Option.{slice_get_within, same_Some}
 use Rattle.bz_model.specs.Spec.{Node}
 use Rattle.class_system.specs.Each.{Each, EachPair}
@@ -33,8 +33,10 @@ Each-none P = record { at = λ i x at. absurd (omega (arith, slice_get_within []
 
 -- One more element with the property.
 pub Each-more : {X : Type 0} (P : X → Type 0) (xs : List X) (x : X) → Each P xs → P x → Each P (xs ++ x ∷ [])
-Each-more P xs x each here = record { at = λ i y at.
-    elim (at-one_more xs x i y at) [ inl there ↦ each.at i y there | inr last ↦ subst P last.1 here ] }
+Each-more P xs x each here = record {
+  at = λ i y at.
+      elim (at-one_more xs x i y at) [ inl there ↦ each.at i y there | inr last ↦ subst P last.1 here ];
+}
 
 -- One more element at the front.
 pub Each-cons : {X : Type 0} (P : X → Type 0) (x : X) (xs : List X) → P x → Each P xs → Each P (x ∷ xs)
@@ -50,13 +52,13 @@ EachPair-more R xs ys x y each here = record {
   lengths = simp length-append (omega (arith, each.lengths));
   at = λ i a b at_a at_b. elim (at-one_more xs x i a at_a) [
     | inl there ↦ elim (at-one_more ys y i b at_b) [
-        | inl there_too ↦ each.at i a b there there_too
-        | inr last ↦ absurd (omega (arith, slice_get_within xs i a there, each.lengths, last.0))
-      ]
+      | inl there_too ↦ each.at i a b there there_too
+      | inr last ↦ absurd (omega (arith, slice_get_within xs i a there, each.lengths, last.0))
+    ]
     | inr last ↦ elim (at-one_more ys y i b at_b) [
-        | inl there ↦ absurd (omega (arith, slice_get_within ys i b there, each.lengths, last.0))
-        | inr last_too ↦ subst (λ z. R z b) last.1 (subst (λ z. R x z) last_too.1 here)
-      ]
+      | inl there ↦ absurd (omega (arith, slice_get_within ys i b there, each.lengths, last.0))
+      | inr last_too ↦ subst (λ z. R z b) last.1 (subst (λ z. R x z) last_too.1 here)
+    ]
   ];
 }
 
@@ -80,14 +82,16 @@ Spans-node nodes first n each = tree n (at-last nodes n) (SpanEach-append nodes 
 
 -- One more name that is missing keeps names apart.
 pub AreDistinct-more : (names : List (List ℕ)) (name : List ℕ) → AreDistinct names → IsMissing name names → AreDistinct (names ++ name ∷ [])
-AreDistinct-more names name apart missing = record { once = λ i j other at_i at_j.
-    elim (at-one_more names name i other at_i) [
-      | inl there ↦ elim (at-one_more names name j other at_j) [
+AreDistinct-more names name apart missing = record {
+  once = λ i j other at_i at_j.
+      elim (at-one_more names name i other at_i) [
+        | inl there ↦ elim (at-one_more names name j other at_j) [
           | inl there_too ↦ apart.once i j other there there_too
           | inr last ↦ absurd (missing.nowhere i (subst (λ w. slice_get names i ≡ Some w) (sym last.1) there))
         ]
-      | inr last ↦ elim (at-one_more names name j other at_j) [
+        | inr last ↦ elim (at-one_more names name j other at_j) [
           | inl there ↦ absurd (missing.nowhere j (subst (λ w. slice_get names j ≡ Some w) (sym last.1) there))
           | inr last_too ↦ last.0 ∙ sym last_too.0
         ]
-    ] }
+      ];
+}

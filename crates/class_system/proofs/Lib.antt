@@ -5,3 +5,4 @@ pub mod Depths
 pub mod Soundness
 pub mod Texts
 pub mod Growth
+pub mod ExampleSound

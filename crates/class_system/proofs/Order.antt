@@ -60,9 +60,9 @@ mutual
   placed_in nodes first e (tree m is each) k from to =
       elim (cases_lt k e) [
         | inl before ↦ elim (placed_in_each nodes first (parts_of m) e each k from before) [
-            | inl root ↦ inr (record { above = e; node = m; is_there = is; has = record { place = root.0; is_there = root.1 } })
-            | inr placed ↦ inr placed
-          ]
+          | inl root ↦ inr (record { above = e; node = m; is_there = is; has = record { place = root.0; is_there = root.1 } })
+          | inr placed ↦ inr placed
+        ]
         | inr last ↦ inl (omega arith)
       ]
 
@@ -71,13 +71,13 @@ mutual
   placed_in_each nodes first (p ∷ parts) end (next here rest) k from to =
       elim (cases_lt p k) [
         | inl after ↦ elim (placed_in_each nodes (suc p) parts end rest k after to) [
-            | inl root ↦ inl (suc root.0, root.1)
-            | inr placed ↦ inr placed
-          ]
+          | inl root ↦ inl (suc root.0, root.1)
+          | inr placed ↦ inr placed
+        ]
         | inr within ↦ elim (placed_in nodes first p here k from within) [
-            | inl same ↦ inl (0, ap Some (sym same))
-            | inr placed ↦ inr placed
-          ]
+          | inl same ↦ inl (0, ap Some (sym same))
+          | inr placed ↦ inr placed
+        ]
       ]
 
 -- The parts of a node within trees in a row stand from their first node on.
@@ -164,18 +164,18 @@ mutual
   one_place_in nodes first e (tree m is each) part a b =
       elim (cases_lt a.above e) [
         | inl a_before ↦ elim (cases_lt b.above e) [
-            | inl b_before ↦
-                let one = one_place_in_each nodes first (parts_of m) e each part (narrowed nodes first e a a.from a_before) (narrowed nodes first e b b.from b_before) in
-                record { above = one.above; place = one.place }
-            | inr b_last ↦ absurd (no_part nodes first (parts_of m) e each b.place part a.above a.node (root_of nodes first e m is b b_last) a.from a_before a.is_there (record { place = a.place; is_there = a.is_part }))
-          ]
+          | inl b_before ↦
+              let one = one_place_in_each nodes first (parts_of m) e each part (narrowed nodes first e a a.from a_before) (narrowed nodes first e b b.from b_before) in
+              record { above = one.above; place = one.place }
+          | inr b_last ↦ absurd (no_part nodes first (parts_of m) e each b.place part a.above a.node (root_of nodes first e m is b b_last) a.from a_before a.is_there (record { place = a.place; is_there = a.is_part }))
+        ]
         | inr a_last ↦ elim (cases_lt b.above e) [
-            | inl b_before ↦ absurd (no_part nodes first (parts_of m) e each a.place part b.above b.node (root_of nodes first e m is a a_last) b.from b_before b.is_there (record { place = b.place; is_there = b.is_part }))
-            | inr b_last ↦ record {
-                above = omega (arith, a.to, b.to);
-                place = once_among nodes first (parts_of m) e each a.place b.place part (root_of nodes first e m is a a_last) (root_of nodes first e m is b b_last);
-              }
-          ]
+          | inl b_before ↦ absurd (no_part nodes first (parts_of m) e each a.place part b.above b.node (root_of nodes first e m is a a_last) b.from b_before b.is_there (record { place = b.place; is_there = b.is_part }))
+          | inr b_last ↦ record {
+            above = omega (arith, a.to, b.to);
+            place = once_among nodes first (parts_of m) e each a.place b.place part (root_of nodes first e m is a a_last) (root_of nodes first e m is b b_last);
+          }
+        ]
       ]
 
   pub one_place_in_each : (nodes : List Node) (first : ℕ) (parts : List ℕ) (end : ℕ) → SpanEach nodes first parts end → (part : ℕ) (a b : PartPlace nodes first end part) → IsOnePlace a b
@@ -183,15 +183,15 @@ mutual
   one_place_in_each nodes first (p ∷ parts) end (next here rest) part a b =
       elim (cases_lt p a.above) [
         | inl a_after ↦ elim (cases_lt p b.above) [
-            | inl b_after ↦
-                let one = one_place_in_each nodes (suc p) parts end rest part (narrowed nodes (suc p) end a a_after a.to) (narrowed nodes (suc p) end b b_after b.to) in
-                record { above = one.above; place = one.place }
-            | inr b_within ↦ absurd (apart nodes first p parts end here rest part a b a_after b_within)
-          ]
+          | inl b_after ↦
+              let one = one_place_in_each nodes (suc p) parts end rest part (narrowed nodes (suc p) end a a_after a.to) (narrowed nodes (suc p) end b b_after b.to) in
+              record { above = one.above; place = one.place }
+          | inr b_within ↦ absurd (apart nodes first p parts end here rest part a b a_after b_within)
+        ]
         | inr a_within ↦ elim (cases_lt p b.above) [
-            | inl b_after ↦ absurd (apart nodes first p parts end here rest part b a b_after a_within)
-            | inr b_within ↦
-                let one = one_place_in nodes first p here part (narrowed nodes first (suc p) a a.from (omega arith)) (narrowed nodes first (suc p) b b.from (omega arith)) in
-                record { above = one.above; place = one.place }
-          ]
+          | inl b_after ↦ absurd (apart nodes first p parts end here rest part b a b_after a_within)
+          | inr b_within ↦
+              let one = one_place_in nodes first p here part (narrowed nodes first (suc p) a a.from (omega arith)) (narrowed nodes first (suc p) b b.from (omega arith)) in
+              record { above = one.above; place = one.place }
+        ]
       ]

@@ -8,3 +8,4 @@ pub mod NodeResults
 pub mod Limits
 pub mod CanonicalText
 pub mod Drafting
+pub mod Examples

@@ -7,6 +7,8 @@
 
 pub mod canonical;
 pub mod draft;
+#[cfg(test)]
+mod examples;
 pub mod expr;
 pub mod ids;
 pub mod limits;

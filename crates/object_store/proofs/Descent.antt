@@ -1,22 +1,26 @@
 -- Going down from a node through classes and first parts of products, which have no token of their own: in a node that has an object no such way comes back to a node, so it is short.
-use Rattle.std.proofs.Common.{◌≡◌, ◌↔◌, ℕ, zero, suc, ◌+◌, ◌<◌, ◌≤◌, inl, inr, List, [], ◌∷◌, ◌++◌, length, arith, refl, sym, ◌∙◌, ap, subst, Bool, true, false, eqb, Option, Some, None}
+use Rattle.std.proofs.Common.{◌≡◌, ◌↔◌, ℕ, zero, suc, ◌+◌, ◌<◌, ◌≤◌, inl, inr, List, [], ◌∷◌, ◌++◌, length, arith, sym, subst, true, false, eqb, Some}
 use Rattle.std.specs.List.{list_any, IsDistinct, AllByRecursion}
 use Rattle.std.proofs.lemmas.Bool.Decides.{eqb_tells}
 use Rattle.std.proofs.lemmas.Map.Keys.{IsDistinct-cons}
 use Rattle.std.proofs.lemmas.Map.Steps.{length-le_from_distinct_below}
 use Rattle.bz_model.specs.Spec.{Spec, Node, node_at, range_at, node_of, range_of, body_of}
-use Rattle.bz_model.specs.Object.{Object, Objects, none, more, Has, ClassHas, HasWithin, Belongs}
+use Rattle.bz_model.specs.Object.{Object, none, more, Has, ClassHas, HasWithin, Belongs}
 use Rattle.bz_model.specs.Object.Object.{Unit_, Dot, Pick, Tuple, SeqOf, SetOf, CycOf}
-use Rattle.bz_model.specs.Measures.{tree_nodes, all_nodes}
+use Rattle.bz_model.specs.Measures.{tree_nodes}
 use Rattle.bz_laws.proofs.Nodes.{known}
+use Rattle.bz_laws.proofs.Samples.{AllByRecursion-append}
+use Rattle.class_system.specs.Sound.{IsSound}
 use Rattle.object_store.specs.declared.token.Token.{Token}
 use Rattle.object_store.specs.Tokens.{AreOf}
-use Rattle.object_store.proofs.NextToken.{First, first}
+use Rattle.object_store.specs.Walk.{AllBelow, Expands}
+use Rattle.object_store.proofs.InRange.{body-below, two-parts, product-parts}
+use Rattle.object_store.proofs.NextToken.{first, of-class, of-product}
 
 -- One step down: from a class to its body, from a product to its first part.
 pub data StepsTo (s : Spec) (e f : ℕ) : Type 0 where
-  body : (c : ℕ) → node_at s e ≡ Some (Node.Class c) → body_of s c ≡ Some f → StepsTo s e f
-  part : (parts : List ℕ) → node_at s e ≡ Some (Node.Product (f ∷ parts)) → StepsTo s e f
+  to_body : (c : ℕ) → node_at s e ≡ Some (Node.Class c) → body_of s c ≡ Some f → StepsTo s e f
+  to_part : (parts : List ℕ) → node_at s e ≡ Some (Node.Product (f ∷ parts)) → StepsTo s e f
 
 -- One step down or more.
 pub data Leads (s : Spec) (e : ℕ) : ℕ → Type 0 where
@@ -45,12 +49,12 @@ module _ (s : Spec) where
 
   -- a step down is to a smaller object
   step_down : {e f : ℕ} (m : ℕ) → StepsTo s e f → HasSmall s e (suc m) → HasSmall s f m
-  step_down {e} {f} m (StepsTo.body c at b) k = go k.height (known s (ClassHas s k.height) e at k.object k.within) k.small
+  step_down {e} {f} m (StepsTo.to_body c at b) k = go k.height (known s (ClassHas s k.height) e at k.object k.within) k.small
     where
       go : (h : ℕ) → ClassHas s h c k.object → h + tree_nodes k.object ≤ suc m → HasSmall s f m
       go zero w l = elim w [ ]
       go (suc h) w l = record { height = h; object = k.object; within = subst (λ n. Has s (ClassHas s h) (node_of s n) (range_of s n) k.object) b w; small = omega arith }
-  step_down {e} {f} m (StepsTo.part parts at) k = go k.object (known s (ClassHas s k.height) e at k.object k.within) k.small
+  step_down {e} {f} m (StepsTo.to_part parts at) k = go k.object (known s (ClassHas s k.height) e at k.object k.within) k.small
     where
       go : (o : Object) → Has s (ClassHas s k.height) (Some (Node.Product (f ∷ parts))) (range_at s e) o → k.height + tree_nodes o ≤ suc m → HasSmall s f m
       go (Tuple (more o os)) h l = record { height = k.height; object = o; within = h.0; small = omega arith }
@@ -82,9 +86,6 @@ module _ (s : Spec) where
 abbrev pub LeadTo : Spec → List ℕ → List ℕ → Type 0
 LeadTo s passed [] = Unit {0}
 LeadTo s passed (e ∷ es) = AllByRecursion (λ p. Leads s p e) passed
-
-abbrev pub AllBelow : ℕ → List ℕ → Type 0
-AllBelow n es = AllByRecursion (λ e. e < n) es
 
 -- What holds on a way down: the same tokens are asked for, and no node was passed twice, if there is an object.
 pub record Descent (s : Spec) (start now : List ℕ) (left : ℕ) : Type 0 where
@@ -159,3 +160,18 @@ module _ (s : Spec) where
       led : (es : List ℕ) → LeadTo s [] es
       led [] = tt
       led (e ∷ es) = tt
+
+-- A node with a token ends the way down; what lies behind a class or a product goes on.
+module _ (s : Spec) (sound : IsSound s) where
+  pub expanded : (e : ℕ) (es now : List ℕ) → Expands s e es now → (ts : List Token) → AreOf s (e ∷ es) ts ↔ AreOf s now ts
+  expanded e es now (Expands.class c body at b put) ts = let of = of-class s e c body es at b ts in (λ h. subst (λ fs. AreOf s fs ts) (sym put) (of.0 h), λ h. of.1 (subst (λ fs. AreOf s fs ts) put h))
+  expanded e es now (Expands.product parts at put) ts = let of = of-product s e parts es at ts in (λ h. subst (λ fs. AreOf s fs ts) (sym put) (of.0 h), λ h. of.1 (subst (λ fs. AreOf s fs ts) put h))
+
+  pub descent-expand : (start : List ℕ) (e left : ℕ) (es now : List ℕ) → Expands s e es now → Descent s start (e ∷ es) (suc left) → Descent s start now left
+  descent-expand start e left es now (Expands.class c body at b put) d =
+      subst (λ fs. Descent s start fs left) (sym put) (descent-step s start e body left es es (StepsTo.to_body c at b) (body-below s sound c body b, d.in_range.1) (of-class s e c body es at b) d)
+  descent-expand start e left es now (Expands.product parts at put) d = subst (λ fs. Descent s start fs left) (sym put) (go parts at (two-parts s sound e parts at) (product-parts s sound e parts at))
+    where
+      go : (ps : List ℕ) → node_at s e ≡ Some (Node.Product ps) → 2 ≤ length ps → AllBelow (length s.nodes) ps → Descent s start (ps ++ es) left
+      go [] at two range = absurd (omega arith)
+      go (p ∷ ps) at two range = descent-step s start e p left es (ps ++ es) (StepsTo.to_part ps at) (range.0, AllByRecursion-append (λ f. f < length s.nodes) ps es range.1 d.in_range.1) (of-product s e (p ∷ ps) es at) d

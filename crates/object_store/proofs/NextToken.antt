@@ -1,12 +1,12 @@
 -- What the first of several nodes makes of the tokens: a class and a product stand for their body and their parts, and any other node takes one token.
-use Rattle.std.proofs.Common.{◌≡◌, ◌↔◌, ℕ, zero, suc, List, [], ◌∷◌, ◌++◌, refl, sym, ◌∙◌, ap, subst, append_assoc, append-nil, Option, Some, None, replicate}
+use Rattle.std.proofs.Common.{◌≡◌, ◌↔◌, ℕ, zero, suc, List, [], ◌∷◌, ◌++◌, refl, sym, ◌∙◌, ap, subst, append_assoc, Option, Some, None, replicate}
 use Rattle.std.specs.Prelude.{slice_get}
 use Rattle.bz_model.specs.Spec.{Spec, Node, Range, node_at, range_at, node_of, range_of, body_of, IsInRange}
-use Rattle.bz_model.specs.Object.{Object, Objects, none, more, count, Has, HaveEach, HaveAll, ClassHas, Belongs}
+use Rattle.bz_model.specs.Object.{Object, Objects, none, more, count, Has, HaveEach, HaveAll, Belongs}
 use Rattle.bz_model.specs.Object.Object.{Unit_, Dot, Pick, Tuple, SeqOf, SetOf, CycOf}
 use Rattle.bz_model.specs.Making.{IsCounted}
 use Rattle.bz_laws.proofs.Leaves.{class-into, class-from}
-use Rattle.bz_laws.proofs.Nodes.{HasAt, ClassBelongs, known, unknown, belongs-has, belongs-of}
+use Rattle.bz_laws.proofs.Nodes.{ClassBelongs, known, unknown, belongs-has, belongs-of}
 use Rattle.object_store.specs.declared.token.Token.{Token}
 use Rattle.object_store.specs.declared.token.Token.TheVariants as token
 use Rattle.object_store.specs.Tokens.{tokens_of, tokens_all, BelongEach, AreOf}

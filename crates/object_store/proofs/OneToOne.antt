@@ -1,12 +1,12 @@
 -- From tokens and a node there is at most one object: two objects of one node whose tokens stand at the front of one list are the same, and so is what follows them.
-use Rattle.std.proofs.Common.{◌≡◌, ℕ, zero, suc, List, [], ◌∷◌, ◌++◌, refl, sym, ◌∙◌, ap, subst, append_assoc, Option, Some, None}
+use Rattle.std.proofs.Common.{◌≡◌, ℕ, zero, suc, List, [], ◌∷◌, ◌++◌, refl, sym, ◌∙◌, ap, subst, append_assoc, Option, Some}
 use Rattle.std.specs.Prelude.{slice_get}
 use Rattle.bz_model.specs.Spec.{Spec, Node, Range, node_at, range_at, node_of, range_of, body_of}
 use Rattle.bz_model.specs.Object.{Object, Objects, none, more, count, Has, HaveEach, HaveAll, ClassHas, Belongs}
 use Rattle.bz_model.specs.Object.Object.{Unit_, Dot, Pick, Tuple, SeqOf, SetOf, CycOf}
 use Rattle.object_store.specs.declared.token.Token.{Token}
 use Rattle.object_store.specs.declared.token.Token.TheVariants as token
-use Rattle.object_store.specs.Tokens.{tokens_of, tokens_all}
+use Rattle.object_store.specs.Tokens.{tokens_of, tokens_all, IsOf}
 
 -- two objects are the same wherever the tokens of both begin one list
 abbrev pub AreOne : Object → Object → Type 0
@@ -82,3 +82,10 @@ one-class s (suc h) (suc k) c o p a b = one-has s (ClassHas s h) (ClassHas s k) 
 -- two objects of one node whose tokens begin one list are the same
 pub one-object : (s : Spec) (e : ℕ) (o p : Object) → Belongs s e o → Belongs s e p → AreOne o p
 one-object s e o p a b = one-has s (ClassHas s a.0) (ClassHas s b.0) (one-class s a.0 b.0) (node_at s e) (range_at s e) o p a.1 b.1
+
+-- from tokens and a class there is at most one object
+pub one-of-class : (s : Spec) (c : ℕ) (tokens : List Token) (a b : IsOf s c tokens) → a.object ≡ b.object
+one-of-class s c tokens a b =
+    let same : b.body ≡ a.body = let p = a.is_body in let q = b.is_body in cc in
+    let both : tokens_of a.object ++ [] ≡ tokens_of b.object ++ [] = ap (λ ts. ts ++ []) (a.spelled ∙ sym b.spelled) in
+    (one-object s a.body a.object b.object a.belongs (subst (λ e. Belongs s e b.object) same b.belongs) [] [] both).0

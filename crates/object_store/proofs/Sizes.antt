@@ -1,5 +1,5 @@
 -- The number of atoms of tokens that follow one another, and of an object's tokens.
-use Rattle.std.proofs.Common.{◌≡◌, ℕ, suc, ◌+◌, ◌≤◌, List, [], ◌∷◌, ◌++◌, length, arith, refl, sym, ap, ◌∙◌, zero-add}
+use Rattle.std.proofs.Common.{◌≡◌, ◌+◌, ◌≤◌, List, [], ◌∷◌, ◌++◌, length, arith, refl, sym, zero-add}
 use Rattle.bz_model.specs.Object.{Object, Objects, none, more}
 use Rattle.bz_model.specs.Object.Object.{Unit_, Dot, Pick, Tuple, SeqOf, SetOf, CycOf}
 use Rattle.bz_model.specs.Measures.{size, sizes}

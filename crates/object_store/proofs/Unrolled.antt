@@ -1,5 +1,5 @@
 -- What runs stand for where one is put at the end, which is in front, or taken from there.
-use Rattle.std.proofs.Common.{◌≡◌, ℕ, zero, suc, ◌+◌, ◌-◌, ◌<◌, ◌≤◌, List, [], ◌∷◌, ◌++◌, arith, refl, sym, ◌∙◌, ap, subst, append_assoc, append-nil, replicate, length, take, take_all, slice_get, Some}
+use Rattle.std.proofs.Common.{◌≡◌, ℕ, zero, suc, ◌+◌, ◌-◌, ◌<◌, List, [], ◌∷◌, ◌++◌, arith, sym, ◌∙◌, ap, subst, append_assoc, append-nil, replicate, length, take, take_all, slice_get, Some}
 use Rattle.std.proofs.lemmas.Option.{slice_get_within}
 use Rattle.class_system.proofs.Results.{take-at}
 use Rattle.object_store.specs.declared.pending.Run.{Run}
@@ -27,7 +27,7 @@ pub unrolled-first : (runs : List Run) (r : Run) → HaveSome runs → slice_get
 unrolled-first runs r h at =
     let within = slice_get_within runs (length runs - 1) r at in
     let front = take (length runs - 1) runs in
-    let all : take (suc (length runs - 1)) runs ≡ runs = take_all (suc (length runs - 1)) runs (omega arith) in
+    let all : take (length runs - 1 + 1) runs ≡ runs = take_all (length runs - 1 + 1) runs (omega arith) in
     let whole : runs ≡ front ++ r ∷ [] = sym all ∙ take-at runs (length runs - 1) r at in
     let some = HaveSome-rest front r (subst HaveSome whole h) in
     let is : unrolled runs ≡ (r.node.0 ∷ replicate (r.times - 1) r.node.0) ++ unrolled front = ap unrolled whole ∙ unrolled-push front r ∙ ap (λ es. es ++ unrolled front) (replicate-first r.times r.node.0 some.1) in

@@ -1,2 +1,4 @@
 pub mod Tokens
 pub mod Runs
+pub mod Walk
+pub mod Examples

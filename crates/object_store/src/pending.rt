@@ -1,5 +1,5 @@
 //! Nodes that wait to be visited, with spare room.
-ghost use Rattle.std.specs.Prelude.{◌≡◌, ◌+◌, ◌<◌, ◌≤◌, [], ◌∷◌, ◌++◌, map, length, replicate, option_map, option_to_list, IsOk, OnOk, OnErr, slice_get, IsTrue, ◌↔◌};
+ghost use Rattle.std.specs.Prelude.{◌≡◌, ◌+◌, ◌<◌, ◌≤◌, [], ◌∷◌, ◌++◌, map, length, replicate, option_map, option_to_list, IsOk, OnOk, OnErr, IfNone, IsTrue, ◌↔◌, slice_get};
 ghost use Rattle.class_system.specs.Views.{number};
 
 use class_system::ids::ExprId;
@@ -54,9 +54,17 @@ impl Pending {
 
     /// Forgets all that waits. Gives no memory back.
     pub fn clear(&mut self)
-        ensures { self.new.items ≡ [] }
+        ensures items { self.new.items ≡ [] }
+        ensures spare { self.old.spare ≤ self.new.spare }
     {
         self.runs.clear();
+    }
+
+    /// Whether nothing waits. Takes no memory.
+    pub fn is_empty(&self) -> bool
+        ensures { IsTrue result ↔ (self.now.items ≡ []) }
+    {
+        self.first().is_none()
     }
 
     /// The next node; None exactly where nothing waits. Takes no memory.
@@ -70,6 +78,7 @@ impl Pending {
     /// Takes the next node; None exactly where nothing waits. Takes no memory.
     pub fn pop(&mut self) -> Option<ExprId>
         ensures items { self.old.items ≡ option_to_list (option_map number result) ++ self.new.items }
+        ensures none { IfNone result (self.old.items ≡ []) }
         ensures spare { self.old.spare ≤ self.new.spare }
     {
         let Run { node, times } = self.runs.pop()?;

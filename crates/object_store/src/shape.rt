@@ -1,8 +1,12 @@
 //! Shapes: lists of tokens in preorder, with spare room.
-ghost use Rattle.std.specs.Prelude.{◌≡◌, ◌+◌, ◌<◌, ◌≤◌, [], ◌∷◌, ◌++◌, IsOk, OnOk, OnErr};
-ghost use Rattle.object_store.specs.Tokens.{size_of};
+ghost use Rattle.std.specs.Prelude.{◌≡◌, ◌+◌, ◌<◌, ◌≤◌, [], ◌∷◌, ◌++◌, ◌↔◌, length, IsTrue, IsOk, IfOk, OnOk, OnErr};
+ghost use Rattle.object_store.specs.Tokens.{size_of, IsOf};
 
+use crate::pending::Pending;
 use crate::token::Token;
+use crate::walk::takes_all;
+use class_system::ids::ClassId;
+use class_system::system::System;
 use std::alloc::{AllocError, Global};
 use std::marker::Model;
 
@@ -37,6 +41,15 @@ impl Shape {
         }
     }
 
+    /// Forgets all tokens. Gives no memory back.
+    pub fn clear(&mut self)
+        ensures items { self.new.items ≡ [] }
+        ensures spare { self.old.spare ≤ self.new.spare }
+    {
+        self.content.clear();
+        self.dots = 0;
+    }
+
     /// Takes memory for at least `more` further tokens. The list stays as it was in any case.
     pub fn reserve(&mut self, more: usize) -> Result<(), AllocError>
         ensures items { self.new.items ≡ self.old.items }
@@ -69,5 +82,20 @@ impl Shape {
         ensures { result.now ≡ self.now.items }
     {
         self.content.as_slice()
+    }
+
+    /// Whether the tokens are those of one object of a class.
+    ///
+    /// It walks over the tokens with a stack of nodes of its own, in steps that need a token or go
+    /// down a way without one, which is at most as long as there are nodes. A refusal comes for want
+    /// of memory alone.
+    pub fn is_of(&self, system: &System, c: ClassId) -> Result<bool, AllocError>
+        requires in_range { c.0 < length system.now.names }
+        ensures is_of { IfOk result (λ b. IsTrue b ↔ IsOf system.now c.0 self.now.items) }
+    {
+        system.known();
+        let mut pending = Pending::new(*self.content.allocator());
+        pending.push(system.body(c), 1)?;
+        takes_all(system, &mut pending, self.tokens())
     }
 }

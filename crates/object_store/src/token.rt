@@ -1,5 +1,5 @@
 //! Tokens of a shape.
-ghost use Rattle.std.specs.Prelude.{◌≡◌};
+ghost use Rattle.std.specs.Prelude.{◌≡◌, ◌↔◌, IsTrue};
 
 /// A node of an object's tree. Tuples and class references have none.
 #[derive(Clone, Copy, Debug, PartialEq, Eq)]
@@ -24,6 +24,26 @@ impl Token {
         match self {
             Token::Dot => 1,
             Token::Pick(_) | Token::Count(_) | Token::Unit => 0,
+        }
+    }
+
+    /// Whether this is the token of a neutral object.
+    pub(crate) fn is_unit(self) -> bool
+        ensures { IsTrue result ↔ (self ≡ Token.Unit) }
+    {
+        match self {
+            Token::Unit => true,
+            Token::Pick(_) | Token::Count(_) | Token::Dot => false,
+        }
+    }
+
+    /// Whether this is the token of an atom.
+    pub(crate) fn is_dot(self) -> bool
+        ensures { IsTrue result ↔ (self ≡ Token.Dot) }
+    {
+        match self {
+            Token::Dot => true,
+            Token::Pick(_) | Token::Count(_) | Token::Unit => false,
         }
     }
 }

@@ -1,5 +1,5 @@
 -- The values of a range of numbers of parts, from the sums that run over their terms.
-use Rattle.std.proofs.Common.{◌≡◌, ℕ, zero, suc, ◌+◌, ◌-◌, ◌*◌, ◌/◌, ◌^◌, ◌<◌, ◌≤◌, min, max, ◌⊎◌, inl, inr, Bool, true, false, List, [], ◌∷◌, drop, sum, replicate, Option, Some, None, cond, refl, sym, ◌∙◌, ap, subst, arith, ⊎_elim, pow_pos, add-zero, leb-true, leb-false}
+use Rattle.std.proofs.Common.{◌≡◌, ℕ, zero, suc, ◌+◌, ◌-◌, ◌*◌, ◌/◌, ◌^◌, ◌<◌, ◌≤◌, min, max, ◌⊎◌, inl, inr, Bool, true, false, drop, sum, Option, Some, None, cond, refl, sym, ◌∙◌, ap, subst, arith, ⊎_elim, pow_pos, add-zero}
 use Rattle.std.specs.Prelude.{nat_le, nat_lt, option_map, option_and_then, IfSome}
 use Rattle.std.specs.List.{list_all}
 use Rattle.std.proofs.Math.Nat.{mul-le-mul_left, mul-le-mul_right, mul-pos, div-le_of_le-mul, le_refl, le_trans}
@@ -8,7 +8,7 @@ use Rattle.std.proofs.lemmas.Bool.{cases_lt, lt-leb, le-leb, lt-ltb, le-ltb}
 use Rattle.fixed_enclosure.specs.Rounded.{greatest, saturated, fits, if_fits, Side, quotient_up, mul_down, mul_up, seq_down, seq_up}
 use Rattle.fixed_enclosure.proofs.Quotients.{quotient_up-least, if_fits-past}
 use Rattle.series_bounds.specs.Series.{Kind, carried_on, carried, term, terms, terms_from, sum_up, sum_capped, part_down, range_up, part_up, end_from, log_end, cyc_end, log_rest, cyc_up_to, from_down, from_up}
-use Rattle.series_bounds.specs.Running.{run_down, run_up, up_to, kept, summed_up, summed_down, carried_up, value_down, value_up, end_up, last_up}
+use Rattle.series_bounds.specs.Running.{run_down, up_to, kept, summed_up, summed_down, carried_up, value_down, value_up, end_up, last_up}
 use Rattle.series_bounds.specs.ExactSums.{first_term, IsAboveAll}
 use Rattle.series_bounds.proofs.Rules.{from_up-above}
 use Rattle.series_bounds.proofs.Running.{down-all, down-zeros, up-all}

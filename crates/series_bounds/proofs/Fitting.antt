@@ -1,5 +1,5 @@
 -- Lower values from low parts on have 64 bits, where F is below 64, and so have lower sums and products of values.
-use Rattle.std.proofs.Common.{◌≡◌, ℕ, zero, suc, ◌+◌, ◌-◌, ◌*◌, ◌/◌, ◌^◌, ◌<◌, ◌≤◌, true, false, List, [], ◌∷◌, take, drop, sum, Option, Some, None, cond, arith, ltb}
+use Rattle.std.proofs.Common.{ℕ, zero, suc, ◌+◌, ◌*◌, ◌/◌, ◌^◌, ◌<◌, ◌≤◌, true, false, List, [], ◌∷◌, take, drop, sum, Option, Some, None, cond, arith, ltb}
 use Rattle.std.specs.List.{list_all}
 use Rattle.std.proofs.Math.Nat.{le_refl, min-le_right}
 use Rattle.fixed_enclosure.specs.Rounded.{greatest, saturated, fits, Side, add_down, mul_down, seq_down}

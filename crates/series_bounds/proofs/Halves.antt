@@ -1,5 +1,5 @@
 -- A product divided by a power of 2, the factor taken in two halves, and quotients taken one after the other.
-use Rattle.std.proofs.Common.{◌≡◌, ℕ, suc, ◌+◌, ◌-◌, ◌*◌, ◌/◌, ◌%◌, ◌^◌, ◌<◌, ◌≤◌, sym, ◌∙◌, ap, subst, arith, pow_pos, pow-add}
+use Rattle.std.proofs.Common.{◌≡◌, ℕ, suc, ◌+◌, ◌-◌, ◌*◌, ◌/◌, ◌%◌, ◌^◌, ◌<◌, ◌≤◌, sym, ◌∙◌, ap, arith, pow_pos, pow-add}
 use Rattle.std.proofs.Math.Nat.{mul-add-div_right, div-div-eq-div-mul, div-le_of_le-mul, pow-le-pow_right, mul-le-mul_right, mul-pos, mod-add-div, le_antisymm}
 use Rattle.std.proofs.lemmas.Nat.{mul-le}
 use Rattle.fixed_enclosure.specs.Rounded.{quotient_up}

@@ -1,7 +1,7 @@
 -- The upper logarithm is monotone, though the number of terms that it sums depends on its argument.
 -- Where a lesser argument sums fewer terms, its rest is one unit at most, and the greater argument has a further
 -- term of one unit at least.
-use Rattle.std.proofs.Common.{◌≡◌, ℕ, zero, suc, ◌+◌, ◌-◌, ◌*◌, ◌/◌, ◌^◌, ◌<◌, ◌≤◌, ◌⊎◌, Bool, true, false, ◌&&◌, List, ◌∷◌, ◌++◌, length, drop, None, cond, refl, sym, ◌∙◌, subst, ap, arith, leb, inl, inr, ⊎_elim}
+use Rattle.std.proofs.Common.{◌≡◌, ℕ, zero, suc, ◌+◌, ◌-◌, ◌*◌, ◌^◌, ◌<◌, ◌≤◌, ◌⊎◌, Bool, true, false, ◌&&◌, List, ◌∷◌, ◌++◌, length, drop, None, cond, refl, sym, ◌∙◌, subst, ap, arith, leb, inl, inr, ⊎_elim}
 use Rattle.std.specs.Prelude.{sum}
 use Rattle.std.specs.List.{list_all}
 use Rattle.std.proofs.Math.Nat.{mul-le-mul_right, mul-pos, le_trans, le_refl, pow-le-pow_right}

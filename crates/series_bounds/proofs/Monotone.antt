@@ -1,12 +1,12 @@
 -- Upper operations are monotone: where one has a value, it has one for arguments that are no greater, and that is no greater.
-use Rattle.std.proofs.Common.{◌≡◌, ℕ, zero, suc, ◌+◌, ◌-◌, ◌*◌, ◌/◌, ◌^◌, ◌<◌, ◌≤◌, ◌⊎◌, min, Bool, true, false, ◌&&◌, List, [], ◌∷◌, drop, Option, Some, None, cond, refl, sym, subst, ap, arith, ltb, leb, inl, inr, ⊎_elim}
-use Rattle.std.specs.Prelude.{sum, option_and_then}
+use Rattle.std.proofs.Common.{◌≡◌, ℕ, zero, suc, ◌+◌, ◌*◌, ◌^◌, ◌<◌, ◌≤◌, ◌⊎◌, min, Bool, true, false, ◌&&◌, List, [], ◌∷◌, drop, Some, None, cond, refl, sym, subst, arith, ltb, leb, inl, inr, ⊎_elim}
+use Rattle.std.specs.Prelude.{sum}
 use Rattle.std.specs.List.{fold, list_all}
-use Rattle.std.proofs.Math.Nat.{mul-pos, le_trans, le_refl, div-lt_iff_lt-mul}
+use Rattle.std.proofs.Math.Nat.{mul-pos, le_trans, le_refl}
 use Rattle.std.proofs.lemmas.Nat.{pow_pos, mul-le}
 use Rattle.std.proofs.lemmas.Bool.{cases_lt, le-leb, lt-leb, leb-true}
 use Rattle.fixed_enclosure.specs.UpperValues.{IsNoGreater, AreAtMost}
-use Rattle.fixed_enclosure.specs.Rounded.{greatest, fits, if_fits, quotient_up, of_both, Side, add_up, mul_up, seq_up}
+use Rattle.fixed_enclosure.specs.Rounded.{greatest, fits, if_fits, Side, mul_up, seq_up}
 use Rattle.series_bounds.specs.Series.{Kind, divisor, carried_on, carried, term, terms_from, terms, sum_up, sum_capped, range_up, part_up, from_up, exp_up}
 use Rattle.fixed_enclosure.proofs.Quotients.{quotient_up-monotone}
 use Rattle.fixed_enclosure.proofs.Monotone.{if_fits-monotone, mul_up-monotone, seq_up-monotone, and_then-below}

@@ -3,7 +3,7 @@ use Rattle.std.proofs.Common.{◌≡◌, ℕ, zero, suc, ◌+◌, ◌-◌, ◌*�
 use native.Mathlib.Decide.{ℕ_discrete}
 use Rattle.std.specs.List.{list_all}
 use Rattle.bz_model.specs.Fraction.{AtMost, units}
-use Rattle.fixed_enclosure.specs.Rounded.{Side, greatest, saturated, fits, if_fits, quotient_up, mul_up, seq_down, seq_up}
+use Rattle.fixed_enclosure.specs.Rounded.{Side, greatest, fits, if_fits, quotient_up, mul_up, seq_down, seq_up}
 use Rattle.series_bounds.specs.Series.{Kind, carried, terms, sum_down, sum_up, part_down, range_up, part_up, cyc_end, log_rest, cyc_up_to, from_down, from_up}
 use Rattle.series_bounds.specs.ExactSums.{first_term, exact, sum_from, IsReached}
 use Rattle.fixed_enclosure.proofs.Quotients.{saturated-le, guarded, fitting}

@@ -1,7 +1,6 @@
 -- A sum that runs term by term is the sum that the rules define.
-use Rattle.std.proofs.Common.{◌≡◌, ℕ, zero, suc, ◌+◌, ◌-◌, ◌*◌, ◌<◌, ◌≤◌, min, Bool, true, false, ◌&&◌, List, [], ◌∷◌, take, drop, replicate, sum, nat_lt, Option, Some, None, cond, refl, sym, ◌∙◌, ap, subst, zero-add, arith, ⊎_elim}
+use Rattle.std.proofs.Common.{◌≡◌, ℕ, zero, suc, ◌+◌, ◌-◌, ◌*◌, ◌<◌, ◌≤◌, ◌&&◌, List, [], ◌∷◌, take, drop, replicate, sum, nat_lt, Some, None, cond, refl, sym, ◌∙◌, ap, subst, zero-add, arith, ⊎_elim}
 use Rattle.std.specs.List.{list_all}
-use Rattle.std.proofs.Math.Nat.{le_refl}
 use Rattle.std.proofs.lemmas.Bool.{cases_lt, le-leb, lt-leb, lt-ltb, le-ltb}
 use Rattle.std.proofs.lemmas.List.Sums.{sum_by-cons}
 use Rattle.fixed_enclosure.specs.Rounded.{greatest, saturated, fits}

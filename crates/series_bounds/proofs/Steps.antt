@@ -1,10 +1,10 @@
 -- One step of a running sum over the terms of a series, and where it may end.
-use Rattle.std.proofs.Common.{◌≡◌, ℕ, zero, suc, ◌+◌, ◌-◌, ◌*◌, ◌/◌, ◌^◌, ◌<◌, ◌≤◌, min, ◌⊎◌, inl, inr, List, [], ◌∷◌, replicate, Option, Some, None, refl, sym, ◌∙◌, ap, subst, arith, ⊎_elim, pow_pos}
-use Rattle.std.proofs.Math.Nat.{mul-le-mul_left, mul-le-mul_right, mul-pos, lt-div-mul-add, zero-div, pow-le-pow_right}
+use Rattle.std.proofs.Common.{◌≡◌, ℕ, zero, suc, ◌+◌, ◌-◌, ◌*◌, ◌/◌, ◌^◌, ◌<◌, ◌≤◌, ◌∷◌, replicate, Option, Some, None, refl, sym, ◌∙◌, ap, subst, arith, ⊎_elim}
+use Rattle.std.proofs.Math.Nat.{mul-le-mul_right, lt-div-mul-add, zero-div, pow-le-pow_right}
 use Rattle.std.proofs.lemmas.Bool.{cases_lt}
 use Rattle.fixed_enclosure.specs.Rounded.{greatest, saturated, Side, quotient_up}
 use Rattle.fixed_enclosure.proofs.Quotients.{quotient_up-above, quotient_up-least}
-use Rattle.series_bounds.specs.Series.{Kind, divisor, carried_on, carried, term, terms_from, terms, part_down}
+use Rattle.series_bounds.specs.Series.{Kind, divisor, carried_on, carried, term, terms_from}
 use Rattle.series_bounds.specs.Running.{kept, run_down, up_to, run_up, IsFlat, summed_up, summed_down, carried_up}
 use Rattle.series_bounds.proofs.Running.{kept-before, down-step, down-past-before, down-past-after, down-all, down-full, down-zeros, up-step, up-past, up-over, up-same, up_to-within}
 use Rattle.series_bounds.proofs.Monotone.{divisor_pos}

@@ -1,5 +1,5 @@
 -- Each rounded term is on its side of the exact one.
-use Rattle.std.proofs.Common.{◌≡◌, ℕ, zero, suc, ◌+◌, ◌-◌, ◌*◌, ◌/◌, ◌^◌, ◌<◌, ◌≤◌, List, [], ◌∷◌, sum, arith, pow_pos, subst}
+use Rattle.std.proofs.Common.{◌≡◌, ℕ, zero, suc, ◌+◌, ◌*◌, ◌/◌, ◌^◌, ◌≤◌, List, [], ◌∷◌, sum, arith, pow_pos, subst}
 use Rattle.std.proofs.Math.Nat.{mul-le-mul_right, mul-pos, div-mul-le_self}
 use Rattle.std.proofs.lemmas.List.Sums.{sum_by-cons}
 use Rattle.bz_model.specs.Fraction.{Fraction, AtMost, times, whole, units, power}

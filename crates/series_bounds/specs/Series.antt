@@ -1,6 +1,6 @@
 -- The series of the counted constructions in units of 2^-f, rounded to a side: their terms, the sums of terms, and
 -- the values of a range of numbers of parts.
-use Rattle.std.specs.Prelude.{ℕ, zero, suc, ◌+◌, ◌-◌, ◌*◌, ◌/◌, ◌^◌, min, max, nat_le, nat_lt, List, [], ◌∷◌, sum, take, drop, Option, Some, None, option_and_then, if◌then◌else◌}
+use Rattle.std.specs.Prelude.{ℕ, zero, suc, ◌+◌, ◌-◌, ◌*◌, ◌^◌, min, max, nat_le, nat_lt, List, [], ◌∷◌, sum, take, drop, Option, Some, None, option_and_then, if◌then◌else◌}
 use Rattle.std.specs.List.{list_all}
 use Rattle.bz_model.specs.Spec.{Range}
 use Rattle.fixed_enclosure.specs.Rounded.{greatest, saturated, fits, if_fits, Side, quotient_up, quotient, mul_down, mul_up, seq_down, seq_up}
@@ -103,31 +103,36 @@ from_up Kind.Seq f a (suc low) = option_and_then (mul_up f (carried Side.Up Kind
 from_up Kind.Set f a low = if nat_le a (16 * 2 ^ f) then sum_up low (terms Side.Up Kind.Set f a 128) (2 * carried Side.Up Kind.Set f a 128) else None
 from_up Kind.Cyc f a low = if nat_lt a (2 ^ f) then cyc_up_to f a low (cyc_end Side.Up f a low) else None
 
--- The exponential.
+-- The lower exponential.
 abbrev pub exp_down : (f a : ℕ) → ℕ
 exp_down f a = from_down Kind.Set f a 0
 
+-- The upper exponential.
 abbrev pub exp_up : (f a : ℕ) → Option ℕ
 exp_up f a = from_up Kind.Set f a 0
 
--- The logarithm of 1 / (1 - a).
+-- The lower logarithm of 1 / (1 - a).
 abbrev pub log_down : (f a : ℕ) → ℕ
 log_down f a = from_down Kind.Cyc f a 1
 
+-- The upper logarithm of 1 / (1 - a).
 abbrev pub log_up : (f a : ℕ) → Option ℕ
 log_up f a = from_up Kind.Cyc f a 1
 
--- The value of a range of numbers of parts.
+-- The lower value from low to a high, or from low on where there is no high.
 abbrev pub ranged_down : Kind → (f a low : ℕ) → (high : Option ℕ) → ℕ
 ranged_down kind f a low None = from_down kind f a low
 ranged_down kind f a low (Some high) = part_down kind f a low high
 
+-- The upper value from low to a high, or from low on where there is no high.
 abbrev pub ranged_up : Kind → (f a low : ℕ) → (high : Option ℕ) → Option ℕ
 ranged_up kind f a low None = from_up kind f a low
 ranged_up kind f a low (Some high) = range_up kind f a low high
 
+-- The lower value of a range of numbers of parts.
 abbrev pub counted_down : Kind → (f : ℕ) → Range → (a : ℕ) → ℕ
 counted_down kind f range a = ranged_down kind f a range.low range.high
 
+-- The upper value of a range of numbers of parts.
 abbrev pub counted_up : Kind → (f : ℕ) → Range → (a : ℕ) → Option ℕ
 counted_up kind f range a = ranged_up kind f a range.low range.high

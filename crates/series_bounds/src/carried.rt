@@ -59,13 +59,7 @@ pub fn term_down(kind: Construction, place: u64, c: u128) -> u128
 {
     match kind {
         Construction::Sequence | Construction::Set => c,
-        Construction::Cycle => {
-            if place == 0 {
-                0
-            } else {
-                divide(c, place)
-            }
-        }
+        Construction::Cycle => { if place == 0 { 0 } else { divide(c, place) } }
     }
 }
 

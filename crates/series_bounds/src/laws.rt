@@ -16,16 +16,14 @@ use fixed_enclosure::Hi;
 pub fn exp_is_monotone<const F: u32>(a: Hi<F>, b: Hi<F>)
     requires no_greater { a.0 ≤ b.0 }
     ensures monotone { IsNoGreater (exp_up F a.entry.0) (exp_up F b.entry.0) }
-{
-}
+{}
 
 /// The logarithm of a has an upper value, no greater one, wherever that of b has one.
 pub fn log_is_monotone<const F: u32>(a: Hi<F>, b: Hi<F>)
     requires fraction_bits { (24 ≤ F) × (F ≤ 56) }
     requires no_greater { a.0 ≤ b.0 }
     ensures monotone { IsNoGreater (log_up F a.entry.0) (log_up F b.entry.0) }
-{
-}
+{}
 
 /// The value from `low` to `i` with a cap is no greater for a part and a cap that are no greater.
 pub fn part_is_monotone<const F: u32>(a: Hi<F>, b: Hi<F>, low: u64, i: u64, c: Hi<F>, d: Hi<F>)
@@ -33,8 +31,7 @@ pub fn part_is_monotone<const F: u32>(a: Hi<F>, b: Hi<F>, low: u64, i: u64, c: H
     ensures sequences { part_up Kind.Seq F a.entry.0 low i c.entry.0 ≤ part_up Kind.Seq F b.entry.0 low i d.entry.0 }
     ensures sets { part_up Kind.Set F a.entry.0 low i c.entry.0 ≤ part_up Kind.Set F b.entry.0 low i d.entry.0 }
     ensures cycles { part_up Kind.Cyc F a.entry.0 low i c.entry.0 ≤ part_up Kind.Cyc F b.entry.0 low i d.entry.0 }
-{
-}
+{}
 
 /// The value from `low` to `i` of a is there, and no greater, wherever that of b is there.
 pub fn range_is_monotone<const F: u32>(a: Hi<F>, b: Hi<F>, low: u64, i: u64)
@@ -42,8 +39,7 @@ pub fn range_is_monotone<const F: u32>(a: Hi<F>, b: Hi<F>, low: u64, i: u64)
     ensures sequences { IsNoGreater (range_up Kind.Seq F a.entry.0 low i) (range_up Kind.Seq F b.entry.0 low i) }
     ensures sets { IsNoGreater (range_up Kind.Set F a.entry.0 low i) (range_up Kind.Set F b.entry.0 low i) }
     ensures cycles { IsNoGreater (range_up Kind.Cyc F a.entry.0 low i) (range_up Kind.Cyc F b.entry.0 low i) }
-{
-}
+{}
 
 /// The value from `low` on of a is there, and no greater, wherever that of b is there.
 pub fn from_is_monotone<const F: u32>(a: Hi<F>, b: Hi<F>, low: u64)
@@ -52,5 +48,4 @@ pub fn from_is_monotone<const F: u32>(a: Hi<F>, b: Hi<F>, low: u64)
     ensures sequences { IsNoGreater (from_up Kind.Seq F a.entry.0 low) (from_up Kind.Seq F b.entry.0 low) }
     ensures sets { IsNoGreater (from_up Kind.Set F a.entry.0 low) (from_up Kind.Set F b.entry.0 low) }
     ensures cycles { IsNoGreater (from_up Kind.Cyc F a.entry.0 low) (from_up Kind.Cyc F b.entry.0 low) }
-{
-}
+{}

@@ -15,6 +15,11 @@ pub mod sequences;
 pub mod sets;
 mod sums;
 
-pub use cycles::{cyc_from_hi, cyc_from_lo, cyc_part_hi, cyc_part_lo, cyc_range_hi, log_hi, log_lo};
+pub use cycles::{
+    cyc_from_hi, cyc_from_lo, cyc_part_hi, cyc_part_lo, cyc_range_hi, log_hi, log_lo,
+};
 pub use sequences::{seq_from_hi, seq_from_lo, seq_part_hi, seq_part_lo, seq_range_hi};
 pub use sets::{exp_hi, exp_lo, set_from_hi, set_from_lo, set_part_hi, set_part_lo, set_range_hi};
+
+#[cfg(test)]
+mod tests;

@@ -35,7 +35,9 @@ pub fn lower_sum<const F: u32>(kind: Construction, a: u64, low: u64, i: u64) -> 
 /// An upper sum up to a term, and the number carried to that term.
 #[derive(Clone, Copy)]
 pub struct Summed {
+    /// The sum, in units of `2^-F`.
     pub sum: u64,
+    /// The number carried to the last term that was summed.
     pub carried: u128,
 }
 
@@ -43,7 +45,13 @@ pub struct Summed {
 ///
 /// It ends at the first term of which all later ones are copies.
 #[inline]
-pub fn upper_sum<const F: u32>(kind: Construction, a: u64, low: u64, i: u64, most: u64) -> Option<Summed>
+pub fn upper_sum<const F: u32>(
+    kind: Construction,
+    a: u64,
+    low: u64,
+    i: u64,
+    most: u64,
+) -> Option<Summed>
     requires fraction_bits { (24 ≤ F) × (F ≤ 56) }
     requires places { (low ≤ 64) × (i ≤ 1000000) }
     ensures exact { option_map (λ s. s.sum) result ≡ summed_up (kind_of kind) F a most low i }
@@ -85,7 +93,10 @@ fn flat_sum(low: u64, place: u64, count: u64, carried: u128, sum: u64, most: u64
     if total > u128::from(most) {
         return None;
     }
-    Some(Summed { sum: total as u64, carried })
+    Some(Summed {
+        sum: total as u64,
+        carried,
+    })
 }
 
 /// What a term adds to a sum from `low` on: nothing before `low`.

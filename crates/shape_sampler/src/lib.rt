@@ -1,2 +1,12 @@
 //! Attempts: one node of a class's object is visited at a time.
+//! Attempts: shapes made node by node from tape bits.
+//!
+//! A session visits one pending node at a time (`specs/Visit.antt`). When nothing is pending, its
+//! shape is the one that ideal making makes for every list of numbers in the cells drawn; when it
+//! is over the room, so is ideal making (`specs/Belonging.antt`). No clause says that an attempt
+//! ever ends, or that memory suffices.
 #![tactic(auto)]
+
+mod placing;
+pub mod session;
+pub mod stepped;

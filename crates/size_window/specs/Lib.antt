@@ -1,1 +1,3 @@
 pub mod RunByBits
+pub mod Ideally
+pub mod Follows

@@ -1,5 +1,5 @@
 -- What the table decides is ideal, since the oracle's table is sound for the system.
-use Rattle.std.proofs.Common.{length, map, arith}
+use Rattle.std.proofs.Common.{arith}
 use Rattle.std.proofs.lemmas.List.{length-map}
 use Rattle.class_system.specs.Views.{number}
 use Rattle.choice_draw.proofs.UnionIdeal.{union-ideal}

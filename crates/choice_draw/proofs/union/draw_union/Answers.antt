@@ -1,10 +1,10 @@
 -- The draw goes on bit by bit as the definition's does, where the tape's bits are told; each value is decided by the oracle's table, which is sound.
-use Rattle.std.proofs.Common.{◌≡◌, ℕ, ◌+◌, ◌<◌, ◌≤◌, map, length, Option, Some, None, arith, sym, ◌∙◌, ap}
+use Rattle.std.proofs.Common.{◌≡◌, ◌+◌, map, Some, None, arith, sym, ◌∙◌, ap}
 use Rattle.std.proofs.lemmas.List.{length-map}
 use Rattle.bz_model.specs.Spec.{Node}
 use Rattle.bit_tape.specs.Tape.{bits_of}
 use Rattle.class_system.specs.Views.{number}
-use Rattle.choice_draw.specs.Decision.{Choice, union_decision, taken}
+use Rattle.choice_draw.specs.Decision.{Choice, union_decision}
 use Rattle.choice_draw.proofs.UnionParts.{within}
 use Rattle.choice_draw.proofs.UnionIdeal.{decision-by, union-ideal}
 use Rattle.choice_draw.proofs.Ticks.{ticks-add}

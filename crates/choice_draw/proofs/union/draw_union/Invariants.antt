@@ -2,7 +2,7 @@ use Rattle.std.proofs.Common.{◌≡◌, ℕ, ◌+◌, ◌-◌, ◌^◌, ◌<◌
 use Rattle.std.specs.Prelude.{IfSome}
 use Rattle.bz_model.specs.Oracle.{cost_between}
 use Rattle.bit_tape.specs.Tape.{TapeSource, Belongs, bits_of}
-use Rattle.choice_draw.specs.Decision.{Choice, level_for, union_decision}
+use Rattle.choice_draw.specs.Decision.{level_for, union_decision}
 use Rattle.choice_draw.proofs.DrawsOn.{DrawsOn}
 use Rattle.choice_draw.proofs.union.draw_union.Given as goal
 

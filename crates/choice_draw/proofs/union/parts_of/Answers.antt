@@ -1,5 +1,5 @@
 -- The arm's parts are those of the union, whose node is sound and within the limits.
-use Rattle.std.proofs.Common.{◌≡◌, ℕ, ◌<◌, ◌≤◌, map, length, Some, arith, sym, ◌∙◌, ap}
+use Rattle.std.proofs.Common.{◌≡◌, map, Some, sym, ◌∙◌, ap}
 use Rattle.bz_model.specs.Spec.{Node, node_at}
 use Rattle.class_system.specs.Views.{spec_node, number}
 use Rattle.choice_draw.proofs.UnionParts.{parts-two, parts-few, parts-in_range}

@@ -1,5 +1,4 @@
-use Rattle.std.proofs.Common.{◌≡◌, ℕ, ◌+◌, ◌*◌, ◌^◌, ◌/◌, ◌≤◌, ◌<◌, suc, arith, subst, sym}
-use Rattle.choice_draw.specs.Whole.{Decides}
+use Rattle.std.proofs.Common.{arith}
 use Rattle.choice_draw.proofs.WholeNumbers.{decides-begin, straddles-none}
 use Rattle.choice_draw.proofs.whole.decide_whole.Goals as goal
 

@@ -1,8 +1,8 @@
 -- The draw goes on bit by bit as the definition's does, where the tape's bits are told.
-use Rattle.std.proofs.Common.{◌≡◌, ℕ, ◌+◌, ◌<◌, Option, Some, None, arith, sym, ◌∙◌, ap}
+use Rattle.std.proofs.Common.{arith, sym, ◌∙◌, ap}
 use Rattle.bit_tape.specs.Tape.{bits_of}
 use Rattle.choice_draw.specs.Decision.{whole_decision}
-use Rattle.choice_draw.proofs.ToldDraws.{told-first, told-on, told-value, told-ended, told-failed, told-straddles}
+use Rattle.choice_draw.proofs.ToldDraws.{told-on, told-value, told-ended, told-failed, told-straddles}
 use Rattle.choice_draw.proofs.whole.draw_whole.Goals as goal
 
 pub bits-preserved : goal.bits-preserved

@@ -1,4 +1,4 @@
-use Rattle.std.proofs.Common.{◌≡◌, ℕ, ◌+◌, ◌-◌, ◌*◌, ◌^◌, ◌<◌, ◌≤◌, Option, Some, None, sym, ◌∙◌, ap, subst, refl, arith}
+use Rattle.std.proofs.Common.{◌-◌, ◌*◌, ◌^◌, ◌≤◌, sym, ◌∙◌, arith}
 use Rattle.std.proofs.Math.Nat.{mul-pos, le_trans}
 use Rattle.series_bounds.proofs.Ends.{cycle-past, cycle-none, cycle-some, rest-product, rest-divisor, quotient_up-within}
 use Rattle.series_bounds.proofs.ranges.cycle_from_hi.Goals as goal

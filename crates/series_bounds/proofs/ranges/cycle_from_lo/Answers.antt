@@ -1,4 +1,4 @@
-use Rattle.std.proofs.Common.{◌≡◌, ℕ, ◌+◌, ◌-◌, ◌*◌, ◌^◌, ◌<◌, ◌≤◌, Option, Some, None, sym, ◌∙◌, ap, subst, refl, arith, inl, inr}
+use Rattle.std.proofs.Common.{◌∙◌, refl, arith}
 use Rattle.series_bounds.proofs.Ends.{cycle_down-is, cycle_down-past}
 use Rattle.series_bounds.proofs.ranges.cycle_from_lo.Goals as goal
 

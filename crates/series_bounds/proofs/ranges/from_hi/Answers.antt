@@ -1,4 +1,4 @@
-use Rattle.std.proofs.Common.{◌≡◌, ℕ, ◌+◌, ◌-◌, ◌*◌, ◌^◌, ◌<◌, ◌≤◌, Option, Some, None, sym, ◌∙◌, ap, subst, refl, arith, inl, inr}
+use Rattle.std.proofs.Common.{◌∙◌}
 use Rattle.series_bounds.specs.Running.{kind_of}
 use Rattle.series_bounds.proofs.Ends.{value_up-is, above-value}
 use Rattle.series_bounds.proofs.ranges.from_hi.Goals as goal

@@ -1,4 +1,4 @@
-use Rattle.std.proofs.Common.{◌≡◌, ℕ, ◌+◌, ◌-◌, ◌*◌, ◌^◌, ◌<◌, ◌≤◌, Option, Some, None, sym, ◌∙◌, ap, subst, refl, arith, inl, inr}
+use Rattle.std.proofs.Common.{sym, ◌∙◌, subst}
 use Rattle.series_bounds.specs.Running.{kind_of}
 use Rattle.series_bounds.specs.ExactSums.{IsReached}
 use Rattle.series_bounds.proofs.Rules.{from_down-reached}

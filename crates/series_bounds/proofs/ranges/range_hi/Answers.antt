@@ -1,5 +1,4 @@
-use Rattle.std.proofs.Common.{◌≡◌, ℕ, ◌+◌, ◌-◌, ◌*◌, ◌^◌, ◌<◌, ◌≤◌, Option, Some, None, sym, ◌∙◌, ap, subst, refl, arith, inl, inr}
-use Rattle.std.specs.Prelude.{option_map}
+use Rattle.std.proofs.Common.{sym, ◌∙◌, arith}
 use Rattle.series_bounds.specs.Running.{kind_of}
 use Rattle.series_bounds.proofs.Rules.{range_up-above}
 use Rattle.series_bounds.proofs.Ends.{range-is}

@@ -1,5 +1,5 @@
-use Rattle.std.proofs.Common.{◌≡◌, ℕ, ◌+◌, ◌-◌, ◌*◌, ◌^◌, ◌<◌, ◌≤◌, Option, Some, None, sym, ◌∙◌, ap, subst, refl, arith, inl, inr}
-use Rattle.std.specs.Prelude.{option_and_then, option_map}
+use Rattle.std.proofs.Common.{◌≡◌, ◌∙◌, ap, arith}
+use Rattle.std.specs.Prelude.{option_and_then}
 use Rattle.fixed_enclosure.specs.Rounded.{Side, mul_up}
 use Rattle.series_bounds.specs.Series.{Kind, carried}
 use Rattle.series_bounds.proofs.Ends.{seq_up-zero, seq_up-later, seq_from_up-none}

@@ -1,4 +1,4 @@
-use Rattle.std.proofs.Common.{◌≡◌, ℕ, ◌^◌, ◌≤◌}
+use Rattle.std.proofs.Common.{◌≡◌, ◌^◌, ◌≤◌}
 use Rattle.fixed_enclosure.specs.Rounded.{Side}
 use Rattle.series_bounds.specs.Series.{Kind, carried}
 use Rattle.series_bounds.proofs.ranges.sequence_from_hi.Given as goal

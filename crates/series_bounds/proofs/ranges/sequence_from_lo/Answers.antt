@@ -1,4 +1,4 @@
-use Rattle.std.proofs.Common.{◌≡◌, ℕ, ◌+◌, ◌-◌, ◌*◌, ◌^◌, ◌<◌, ◌≤◌, Option, Some, None, sym, ◌∙◌, ap, subst, refl, arith, inl, inr}
+use Rattle.std.proofs.Common.{◌≡◌, ◌∙◌, ap, arith}
 use Rattle.fixed_enclosure.specs.Rounded.{Side}
 use Rattle.series_bounds.specs.Series.{Kind, carried}
 use Rattle.series_bounds.proofs.Ends.{seq_down-zero, seq_down-later, seq_from_down-full}

@@ -1,4 +1,4 @@
-use Rattle.std.proofs.Common.{◌≡◌, ℕ, ◌+◌, ◌-◌, ◌*◌, ◌^◌, ◌<◌, ◌≤◌, Option, Some, None, sym, ◌∙◌, ap, subst, refl, arith}
+use Rattle.std.proofs.Common.{sym, ◌∙◌, arith}
 use Rattle.series_bounds.proofs.Ends.{set-past, set-none, set-some}
 use Rattle.series_bounds.proofs.ranges.set_from_hi.Goals as goal
 

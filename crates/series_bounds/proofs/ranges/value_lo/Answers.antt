@@ -1,4 +1,4 @@
-use Rattle.std.proofs.Common.{◌≡◌, ℕ, ◌+◌, ◌-◌, ◌*◌, ◌^◌, ◌<◌, ◌≤◌, Option, Some, None, sym, ◌∙◌, ap, subst, refl, arith, inl, inr}
+use Rattle.std.proofs.Common.{◌∙◌, refl}
 use Rattle.series_bounds.proofs.Ends.{set_down-is}
 use Rattle.series_bounds.proofs.ranges.value_lo.Goals as goal
 

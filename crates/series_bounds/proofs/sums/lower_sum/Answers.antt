@@ -1,4 +1,4 @@
-use Rattle.std.proofs.Common.{◌≡◌, ℕ, ◌+◌, ◌-◌, ◌*◌, ◌^◌, ◌<◌, ◌≤◌, sym, refl, arith}
+use Rattle.std.proofs.Common.{sym, refl, arith}
 use Rattle.series_bounds.specs.Running.{kind_of}
 use Rattle.series_bounds.proofs.Steps.{one_bits, lower-starts, lower-next, lower-past-before, lower-past-after, lower-last, lower-zero, lower-full, none_summed, carried_bits-down}
 use Rattle.series_bounds.proofs.sums.lower_sum.Goals as goal

@@ -1,7 +1,7 @@
-use Rattle.std.proofs.Common.{◌≡◌, ℕ, ◌+◌, ◌-◌, ◌*◌, ◌^◌, ◌<◌, ◌≤◌, Option, Some, None, sym, ◌∙◌, ap, subst, refl, arith}
+use Rattle.std.proofs.Common.{◌≡◌, ◌+◌, ◌-◌, sym, ◌∙◌, subst, refl, arith}
 use Rattle.std.specs.Prelude.{IfSome}
 use Rattle.series_bounds.specs.Running.{kind_of}
-use Rattle.series_bounds.proofs.Steps.{one_bits, upper-starts, upper-next, upper-past, upper-over, upper-last, upper-flat, carried_up-later, carried_up-starts, carried-next, carried_bits-up}
+use Rattle.series_bounds.proofs.Steps.{one_bits, upper-starts, upper-next, upper-past, upper-over, upper-flat, carried_up-later, carried_up-starts, carried-next, carried_bits-up}
 use Rattle.series_bounds.proofs.sums.upper_sum.Goals as goal
 
 pub terms-init : goal.terms-init

@@ -1,4 +1,4 @@
-use Rattle.std.proofs.Common.{◌≡◌, ℕ, suc, ◌+◌, ◌-◌, ◌^◌, ◌<◌, ◌≤◌}
+use Rattle.std.proofs.Common.{◌≡◌, suc, ◌-◌, ◌^◌, ◌<◌, ◌≤◌}
 use Rattle.fixed_enclosure.specs.Rounded.{Side}
 use Rattle.series_bounds.specs.Series.{terms_from}
 use Rattle.series_bounds.specs.Running.{kind_of, run_up, summed_up, carried_up}

@@ -1,6 +1,5 @@
 -- The node of the last run is the first that waits.
-use Rattle.std.proofs.Common.{◌≡◌, ◌-◌, length, slice_get, Some, sym, ◌∙◌, ap, subst}
-use Rattle.object_store.specs.declared.pending.Run.{Run}
+use Rattle.std.proofs.Common.{◌-◌, length, slice_get, sym, ◌∙◌, ap}
 use Rattle.object_store.proofs.Unrolled.{unrolled-first}
 use Rattle.object_store.proofs.pending.Pending.first.Goals as goal
 

@@ -1,6 +1,5 @@
 -- A run with one node less, or without its only node.
-use Rattle.std.proofs.Common.{arith, ◌≡◌, ◌-◌, ◌<◌, ◌∷◌, [], ◌++◌, replicate, refl, sym, ◌∙◌, ap, subst}
-use Rattle.object_store.specs.declared.pending.Run.{Run}
+use Rattle.std.proofs.Common.{arith, ◌≡◌, ◌-◌, ◌<◌, ◌∷◌, ◌++◌, replicate, sym, ◌∙◌, ap, subst}
 use Rattle.object_store.specs.Runs.{unrolled, HaveSome}
 use Rattle.object_store.proofs.Unrolled.{unrolled-push, HaveSome-push, HaveSome-rest, replicate-first}
 use Rattle.object_store.proofs.pending.Pending.pop.Goals as goal

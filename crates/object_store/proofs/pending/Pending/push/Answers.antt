@@ -1,6 +1,5 @@
 -- One run more.
-use Rattle.std.proofs.Common.{rules, arith, ◌≡◌, ◌∷◌, [], ◌++◌, replicate, refl, sym, ◌∙◌, ap, subst}
-use Rattle.object_store.specs.declared.pending.Run.{Run}
+use Rattle.std.proofs.Common.{◌++◌, replicate, sym, ◌∙◌, ap, subst}
 use Rattle.object_store.specs.Runs.{unrolled, HaveSome}
 use Rattle.object_store.proofs.Unrolled.{unrolled-push, HaveSome-push}
 use Rattle.object_store.proofs.pending.Pending.push.Goals as goal

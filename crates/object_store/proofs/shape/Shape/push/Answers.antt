@@ -1,6 +1,6 @@
 -- One token more has as many atoms more as the token has.
-use Rattle.std.proofs.Common.{◌≡◌, ◌+◌, ◌∷◌, [], ◌++◌, arith, ap, ◌∙◌, length}
-use Rattle.object_store.specs.Tokens.{token_size, size_of}
+use Rattle.std.proofs.Common.{arith, ap, ◌∙◌}
+use Rattle.object_store.specs.Tokens.{size_of}
 use Rattle.object_store.proofs.Sizes.{size_of-push, size_of-le}
 use Rattle.object_store.proofs.shape.Shape.push.Goals as goal
 

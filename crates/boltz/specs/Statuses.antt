@@ -1,0 +1,11 @@
+-- The numbers of the program's answers.
+use Rattle.std.specs.Prelude.{ℕ}
+use Rattle.boltz.specs.declared.status.Status.{Status}
+
+abbrev pub status_number : Status → ℕ
+status_number Status.Done = 0
+status_number Status.WordsRefused = 2
+status_number Status.SpecRefused = 3
+status_number Status.ReadFault = 8
+status_number Status.WriteFault = 9
+status_number Status.OutOfMemory = 10

@@ -1,0 +1,36 @@
+//! The program's answers.
+ghost use Rattle.std.specs.Prelude.{◌≡◌};
+ghost use Rattle.boltz.specs.Statuses.{status_number};
+
+/// What the program answers.
+#[derive(Clone, Copy, Debug, PartialEq, Eq)]
+pub enum Status {
+    /// All that was asked is written.
+    Done,
+    /// No command has these words.
+    WordsRefused,
+    /// The specification is refused, or isn't drawn from yet.
+    SpecRefused,
+    /// A read failed.
+    ReadFault,
+    /// A write failed.
+    WriteFault,
+    /// Memory is wanting. Nothing is written.
+    OutOfMemory,
+}
+
+impl Status {
+    /// The number with which the process exits.
+    pub fn number(self) -> u8
+        ensures { result ≡ status_number self }
+    {
+        match self {
+            Status::Done => 0,
+            Status::WordsRefused => 2,
+            Status::SpecRefused => 3,
+            Status::ReadFault => 8,
+            Status::WriteFault => 9,
+            Status::OutOfMemory => 10,
+        }
+    }
+}

@@ -1,0 +1,3 @@
+pub mod Unrolled
+pub mod Steps
+pub mod Ways

@@ -1,0 +1,25 @@
+-- What entries stand for where one is put at the end, which is in front, or taken from there.
+use Rattle.std.proofs.Common.{◌≡◌, ℕ, zero, suc, ◌+◌, ◌-◌, ◌<◌, ◌≤◌, List, [], ◌∷◌, ◌++◌, arith, refl, sym, ◌∙◌, ap, append_assoc, append-nil, replicate}
+use Rattle.object_text.specs.declared.todo.Entry.{Entry}
+use Rattle.object_text.specs.Todos.{unrolled, entry_items, IsSomething, AreSome}
+
+pub unrolled-push : (entries : List Entry) (x : Entry) → unrolled (entries ++ x ∷ []) ≡ entry_items x ++ unrolled entries
+unrolled-push [] x = sym (append-nil (entry_items x))
+unrolled-push (y ∷ entries) x = ap (λ es. es ++ entry_items y) (unrolled-push entries x) ∙ append_assoc (entry_items x) (unrolled entries) (entry_items y)
+
+pub AreSome-push : (entries : List Entry) (x : Entry) → AreSome entries → IsSomething x → AreSome (entries ++ x ∷ [])
+AreSome-push [] x h k = (k, tt)
+AreSome-push (y ∷ entries) x h k = (h.0, AreSome-push entries x h.1 k)
+
+pub AreSome-rest : (entries : List Entry) (x : Entry) → AreSome (entries ++ x ∷ []) → AreSome entries × IsSomething x
+AreSome-rest [] x h = (tt, h.0)
+AreSome-rest (y ∷ entries) x h = let k = AreSome-rest entries x h.1 in ((h.0, k.0), k.1)
+
+-- where one was put at the end
+pub unrolled-put : (old now : List Entry) (x : Entry) → now ≡ old ++ x ∷ [] → unrolled now ≡ entry_items x ++ unrolled old
+unrolled-put old now x e = ap unrolled e ∙ unrolled-push old x
+
+-- some of one thing begin with one
+pub replicate-first : {A : Type 0} → (n : ℕ) (a : A) → 0 < n → replicate n a ≡ a ∷ replicate (n - 1) a
+replicate-first zero a h = absurd (omega arith)
+replicate-first (suc n) a h = let k : suc n - 1 ≡ n = omega arith in ap (λ m. a ∷ replicate m a) (sym k)

@@ -1,0 +1,2 @@
+pub mod Todos
+pub mod Printing

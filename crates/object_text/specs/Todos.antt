@@ -1,0 +1,38 @@
+-- What is still to be printed.
+use Rattle.std.specs.Prelude.{ℕ, ◌<◌, List, [], ◌∷◌, ◌++◌, replicate}
+use Rattle.class_system.specs.declared.ids.ExprId.{ExprId}
+use Rattle.object_text.specs.declared.todo.Todo.{Todo}
+use Rattle.object_text.specs.declared.todo.Todo.TheVariants.{Byte, Node}
+use Rattle.object_text.specs.declared.todo.Entry.{Entry}
+use Rattle.object_text.specs.declared.todo.Entry.TheVariants as entry
+
+-- An object of each node, with a space before each.
+abbrev pub spaced_objects : List ExprId → List Todo
+spaced_objects [] = []
+spaced_objects (e ∷ es) = Byte 32 ∷ Node e ∷ spaced_objects es
+
+-- An object of each node, with a space between each two.
+abbrev pub joined_objects : List ExprId → List Todo
+joined_objects [] = []
+joined_objects (e ∷ es) = Node e ∷ spaced_objects es
+
+-- What an entry stands for.
+abbrev pub entry_items : Entry → List Todo
+entry_items (entry.Byte byte) = Byte byte ∷ []
+entry_items (entry.Objects e n) = Node e ∷ spaced_objects (replicate n e)
+entry_items (entry.Spaced e n) = spaced_objects (replicate n e)
+
+-- What entries stand for, the last entry first.
+abbrev pub unrolled : List Entry → List Todo
+unrolled [] = []
+unrolled (x ∷ entries) = unrolled entries ++ entry_items x
+
+-- The entry stands for something.
+abbrev pub IsSomething : Entry → Type 0
+IsSomething (entry.Spaced e n) = 0 < n
+IsSomething _ = Unit {0}
+
+-- No entry is empty.
+abbrev pub AreSome : List Entry → Type 0
+AreSome [] = Unit {0}
+AreSome (x ∷ entries) = IsSomething x × AreSome entries

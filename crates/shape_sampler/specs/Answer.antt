@@ -1,0 +1,77 @@
+-- What a step's answer tells of the visit.
+use Rattle.std.specs.Prelude.{◌≡◌, ◌≢◌, ℕ, Bool, List, [], ◌∷◌, ◌++◌, slice_get, Option, Some, None}
+use Rattle.bz_model.specs.declared.cell.Cell.{Cell}
+use Rattle.bz_model.specs.declared.cell.Bounds.{Bounds}
+use Rattle.bz_model.specs.Fraction.{Fraction}
+use Rattle.bz_model.specs.Spec.{Spec}
+use Rattle.bz_model.specs.Cell.{IsInCell}
+use Rattle.bz_model.specs.Ideal.{IsIdealOption}
+use Rattle.object_store.specs.declared.token.Token.TheVariants as token
+use Rattle.choice_draw.specs.Decision.{Choice, IsUnion, union_decision}
+use Rattle.choice_draw.specs.Draw.{bit_of}
+use Rattle.shape_sampler.specs.declared.stepped.Stepped.{Stepped}
+use Rattle.shape_sampler.specs.declared.stepped.Stepped.TheVariants.{Moved, Made, Overshot, Straddles, Ended, ReadFault, OutOfMemory}
+use Rattle.shape_sampler.specs.Visit.{Chooser, Attempt, Visited, visit, atom_visited, with_pending}
+use Rattle.shape_sampler.specs.State.{SessionState, attempt_of, Leaves}
+use Rattle.shape_sampler.specs.Belonging.{Belonging, IsIdealShape, IsIdealOver}
+
+-- The visit that an answer tells, where it isn't want of memory: the session as it is now, so many bits being used now.
+abbrev pub told_visit : Stepped → (now : SessionState) → (used : ℕ) → Visited
+told_visit Moved now used = Visited.Went (attempt_of now used)
+told_visit Made now used = Visited.Went (attempt_of now used)
+told_visit Overshot now used = Visited.Over (attempt_of now used)
+told_visit (Straddles node cell) now used = Visited.Straddled node.0 cell
+told_visit Ended now used = Visited.Ended used
+told_visit ReadFault now used = Visited.Failed used
+told_visit OutOfMemory now used = Visited.Went (attempt_of now used)
+
+-- The place at which the shelf failed, where the answer is that it did.
+abbrev pub fault_place : Stepped → (used : ℕ) → Option ℕ
+fault_place ReadFault used = Some used
+fault_place _ used = None
+
+-- A chooser decides by a table of bounds at the unions of a specification.
+pub record ChoosesBy (s : Spec) (table : (level node : ℕ) → Bounds) (c : Chooser) : Type 0 where
+  pub same_spec : c.spec ≡ s
+  pub at_unions : (e room : ℕ) → IsUnion s e → c.decide e room ≡ union_decision s table e
+
+-- An answer is that of the visit from the state before, over these bits; the shelf fails only if the answer says so, and then after the bits used. Want of memory tells nothing.
+pub record IsVisit (c : Chooser) (bits : ℕ → Option Bool) (before : SessionState) (start : ℕ) (answer : Stepped) (now : SessionState) (used : ℕ) : Type 0 where
+  pub same : answer ≢ OutOfMemory → told_visit answer now used ≡ visit c (bit_of bits (fault_place answer used)) (attempt_of before start)
+
+-- What was made is the shape that ideal making makes for every list of numbers in the cells; what was overshot is over for every such list.
+abbrev pub IsIdealAnswer : (s : Spec) (x : Fraction) → Stepped → (now : SessionState) → Type 0
+IsIdealAnswer s x Made now = IsIdealShape s x now.whole now.tokens now.cells
+IsIdealAnswer s x Overshot now = IsIdealOver s x now.whole now.cells
+IsIdealAnswer s x _ now = Unit {0}
+
+-- The answer and the session after the visit of a node that takes no number: what the visit makes of an attempt and of the nodes after the first pending one.
+pub record IsPlainVisit (visited : Attempt → (rest : List ℕ) → Visited) (before : SessionState) (answer : Stepped) (now : SessionState) : Type 0 where
+  pub leaves : Leaves answer before now
+  pub same : answer ≢ OutOfMemory → (e : ℕ) (rest : List ℕ) (used : ℕ) → before.pending ≡ e ∷ rest → told_visit answer now used ≡ visited (attempt_of before used) rest
+
+-- An atom is visited with the room that the attempt has left.
+abbrev pub room_atom_visited : Attempt → (rest : List ℕ) → Visited
+room_atom_visited a rest = atom_visited a rest a.room
+
+-- These nodes are put in the place of the first pending one.
+abbrev pub replaced_by : (nodes : List ℕ) → Attempt → (rest : List ℕ) → Visited
+replaced_by nodes a rest = Visited.Went (with_pending a (nodes ++ rest))
+
+-- An option was drawn that is the ideal one for every number of its cell; its part is pending in the union's place, after its token and cell.
+pub record HasPicked (s : Spec) (x : Fraction) (e : ℕ) (parts : List ℕ) (before now : SessionState) : Type 0 where
+  pub option : ℕ
+  pub part : ℕ
+  pub cell : Cell
+  pub is_part : slice_get parts option ≡ Some part
+  pub ideal : (u : Fraction) → IsInCell cell.k cell.b u → IsIdealOption s x u e option
+  pub tokens : now.tokens ≡ before.tokens ++ token.Pick option ∷ []
+  pub cells : now.cells ≡ before.cells ++ cell ∷ []
+  pub room : now.room ≡ before.room
+  pub pending : (rest : List ℕ) → before.pending ≡ e ∷ rest → now.pending ≡ part ∷ rest
+
+-- A union was visited: where the answer is Moved, an option was picked.
+pub record IsPickVisit (s : Spec) (x : Fraction) (e : ℕ) (parts : List ℕ) (before : SessionState) (answer : Stepped) (now : SessionState) : Type 0 where
+  pub never_made : answer ≢ Made
+  pub never_over : answer ≢ Overshot
+  pub picks : answer ≡ Moved → HasPicked s x e parts before now

@@ -1,0 +1,307 @@
+//! Sessions: attempts, made one visit at a time.
+ghost use Rattle.std.specs.Prelude.{◌≡◌, ◌≢◌, ℕ, ◌+◌, ◌-◌, ◌≤◌, ◌↔◌, max, [], ◌∷◌, List, map, slice_get, Some, None, IfSome, IsSome, IfOk, OnOk, OnErr, IsTrue};
+ghost use Rattle.bz_model.specs.Fraction.{Fraction};
+ghost use Rattle.bz_model.specs.Spec.{Spec, Node, node_at, body_of};
+ghost use Rattle.bz_model.specs.Oracle.{cost_between};
+ghost use Rattle.class_system.specs.Views.{number};
+ghost use Rattle.bit_tape.specs.Tape.{TapeSource, Belongs, bits_of, HasFault};
+ghost use Rattle.choice_draw.specs.Decision.{level_for};
+ghost use Rattle.shape_sampler.specs.Ready.{IsReady};
+ghost use Rattle.shape_sampler.specs.Visit.{Chooser, leaf_visited};
+ghost use Rattle.shape_sampler.specs.State.{SessionState, SessionBelongs, begun_state, Leaves, IsStop, stopped_by};
+ghost use Rattle.shape_sampler.specs.Answer.{ChoosesBy, IsVisit, IsIdealAnswer, IsPlainVisit, IsPickVisit, room_atom_visited, replaced_by};
+
+use crate::placing::{answer, put_cell, put_token, replace_first};
+use crate::stepped::Stepped;
+use bit_tape::tape::Tape;
+use bz_model::cell::Cell;
+use bz_model::cells::Cells;
+use bz_model::oracle::Oracle;
+use bz_model::steps::Steps;
+use bz_outside::shelf::Shelf;
+use choice_draw::drawn::Drawn;
+use choice_draw::union::draw_union;
+use class_system::expr::Expr;
+use class_system::ids::{ClassId, ExprId};
+use class_system::system::System;
+use object_store::pending::Pending;
+use object_store::shape::Shape;
+use object_store::token::Token;
+use std::alloc::{AllocError, Global};
+use std::marker::Model;
+use std::sync::ledger::Ledger;
+use well_founded::examination::Founded;
+
+/// An attempt at an object of class 0 within a room, and what stopped it.
+#[derive(Drop)]
+pub struct Session {
+    root: ExprId,
+    whole: u64,
+    pending: Pending,
+    shape: Shape,
+    cells: Cells,
+    room: u64,
+    stopped: Option<Stepped>,
+}
+
+impl Model for Session {
+    ghost use Rattle.shape_sampler.specs.State.{SessionState, IsStop};
+
+    ghost Value = { SessionState };
+
+    ghost view = { λ s. record { root = s.root.0; whole = s.whole; pending = s.pending.items; tokens = s.shape.items; cells = s.cells.items; room = s.room; stopped = s.stopped } };
+
+    ghost invariant = { λ s. IsStop s.stopped };
+}
+
+impl Session {
+    /// A session before its first attempt. Takes no memory yet.
+    pub fn new(alloc: Global, founded: &Founded, room: u64) -> Result<Session, AllocError>
+        requires room { room ≤ 1000000 }
+        ensures root { IfOk result (λ s. body_of founded.now 0 ≡ Some s.root) }
+        ensures whole { IfOk result (λ s. s.whole ≡ room) }
+        ensures idle { IfOk result (λ s. (s.pending ≡ []) × (s.tokens ≡ []) × (s.cells ≡ []) × (s.stopped ≡ None)) }
+        ensures belongs { IfOk result (λ s. (x : Fraction) → SessionBelongs founded.now x s) }
+    {
+        let system = founded.system();
+        system.known();
+        Ok(Session {
+            root: system.body(ClassId(0)),
+            whole: room,
+            pending: Pending::new(alloc),
+            shape: Shape::new(alloc),
+            cells: Cells::new(alloc),
+            room,
+            stopped: None,
+        })
+    }
+
+    /// Starts an attempt: the body of class 0 is pending, tokens and cells are empty, the room is
+    /// whole, and nothing stopped it. A refusal leaves the session as it was.
+    pub fn begin(&mut self) -> Result<(), AllocError>
+        ensures ok { OnOk result (self.new ≡ begun_state self.old) }
+        ensures err { OnErr result (self.new ≡ self.old) }
+        ensures belongs { (s : Spec) (x : Fraction) → SessionBelongs s x self.old → SessionBelongs s x self.new }
+    {
+        self.pending.reserve(1)?;
+        self.pending.clear();
+        self.pending.push(self.root, 1)?;
+        self.shape.clear();
+        self.cells.clear();
+        self.room = self.whole;
+        self.stopped = None;
+        Ok(())
+    }
+
+    /// The tokens so far. Takes no memory.
+    pub fn shape(&self) -> &Shape
+        ensures { result.now.items ≡ self.now.tokens }
+    {
+        &self.shape
+    }
+
+    /// The cells so far, in the order drawn. Takes no memory.
+    pub fn cells(&self) -> &[Cell]
+        ensures { result.now ≡ self.now.cells }
+    {
+        self.cells.items()
+    }
+
+    /// Whether nodes are pending. Takes no memory.
+    pub fn pending(&self) -> bool
+        ensures { IsTrue result ↔ (self.now.pending ≢ []) }
+    {
+        !self.pending.is_empty()
+    }
+
+    /// Visits the first pending node, by its kind.
+    ///
+    /// A neutral leaf adds `Unit`; an atom adds `Dot` and lowers the room, and is `Overshot` at room
+    /// 0; a class puts its body in its place and a product its parts; a union draws its option,
+    /// adds `Pick` and puts that part in its place. The memory of a visit is taken before its first
+    /// bit. After `Straddles`, `Ended` or `ReadFault` the session answers the same until `begin`,
+    /// and touches nothing.
+    pub fn step<const F: u32, O: Oracle<F>, S: Shelf, L: Ledger>(
+        &mut self,
+        founded: &Founded,
+        oracle: &mut O,
+        tape: &mut Tape,
+        shelf: &mut S,
+        steps: &mut Steps<L>,
+    ) -> Stepped
+        requires fraction { (24 ≤ F) × (F ≤ 56) }
+        requires ready { IsReady founded.now }
+        requires spec { O.spec oracle.old ≡ founded.now }
+        requires session { SessionBelongs founded.now (O.x oracle.old) self.old }
+        requires pending { self.old.pending ≢ [] }
+        requires tape { Belongs (S.content shelf.old) tape.old }
+
+        ensures again { IfSome self.old.stopped (λ stop. (result ≡ stop) × (self.new ≡ self.old)) }
+        ensures stopped { IsSome self.old.stopped → (tape.new ≡ tape.old) × (oracle.new ≡ oracle.old) }
+        ensures no_memory { result ≡ Stepped.OutOfMemory → (self.new ≡ self.old) × (tape.new ≡ tape.old) × (oracle.new ≡ oracle.old) }
+        ensures leaves { self.old.stopped ≡ None → Leaves result self.old self.new }
+        ensures exact { self.old.stopped ≡ None → IfSome (bits_of tape.old.source (S.content shelf.old)) (λ bits. (c : Chooser) → ChoosesBy founded.now (O.table oracle.old) c → IsVisit c bits self.old tape.old.used result self.new tape.new.used) }
+        ensures ideal { IsIdealAnswer founded.now (O.x oracle.old) result self.new }
+        ensures session { SessionBelongs founded.now (O.x oracle.old) self.new }
+
+        ensures spec { O.spec oracle.new ≡ O.spec oracle.old }
+        ensures x { O.x oracle.new ≡ O.x oracle.old }
+        ensures table { O.table oracle.new ≡ O.table oracle.old }
+        ensures cost { O.cost oracle.new ≡ O.cost oracle.old }
+        ensures raised { O.raised oracle.new ≡ max (O.raised oracle.old) (level_for (tape.new.used - tape.old.used)) }
+        ensures ticks { steps.new ≤ steps.old + cost_between (O.cost oracle.old) (O.raised oracle.old) (O.raised oracle.new) }
+
+        ensures used { (tape.old.used ≤ tape.new.used) × (tape.new.used ≤ tape.old.used + 60) }
+        ensures source { tape.new.source ≡ tape.old.source }
+        ensures tape { Belongs (S.content shelf.new) tape.new }
+        ensures content { S.content shelf.new ≡ S.content shelf.old }
+        ensures counts { (other : List ℕ) → S.faults shelf.old other ≤ S.faults shelf.new other }
+        ensures cause { self.old.stopped ≡ None → result ≡ Stepped.ReadFault → HasFault tape.old.source (S.faults shelf.old) (S.faults shelf.new) }
+        ensures seeded { (seed : ℕ) → tape.old.source ≡ TapeSource.Seeded seed → shelf.new ≡ shelf.old }
+    {
+        if let Some(stop) = self.stopped {
+            return stop;
+        }
+        let system = founded.system();
+        system.known();
+        let Some(e) = self.pending.first() else {
+            unreachable!()
+        };
+        match system.node(e) {
+            Expr::Empty(_) => self.visit_leaf(),
+            Expr::Atom(_) => self.visit_atom(),
+            Expr::Class(c) => self.visit_class(system.body(*c)),
+            Expr::Product(parts) => self.visit_product(parts.items()),
+            Expr::Union(parts) => {
+                self.visit_union(system, e, parts.items(), oracle, tape, shelf, steps)
+            }
+            Expr::Seq(_) | Expr::Set(_) | Expr::Cyc(_) => unreachable!(),
+        }
+    }
+
+    /// A neutral leaf adds its token.
+    fn visit_leaf(&mut self) -> Stepped
+        requires running { self.old.stopped ≡ None }
+        requires pending { self.old.pending ≢ [] }
+        ensures { IsPlainVisit leaf_visited self.old result self.new }
+    {
+        if self.shape.reserve(1).is_err() || self.pending.reserve(0).is_err() {
+            return Stepped::OutOfMemory;
+        }
+        put_token(&mut self.shape, Token::Unit);
+        replace_first(&mut self.pending, &[]);
+        answer(&self.pending)
+    }
+
+    /// An atom adds its token and lowers the room, and is over at room 0.
+    fn visit_atom(&mut self) -> Stepped
+        requires running { self.old.stopped ≡ None }
+        requires pending { self.old.pending ≢ [] }
+        ensures { IsPlainVisit room_atom_visited self.old result self.new }
+    {
+        if self.room == 0 {
+            self.pending.clear();
+            return Stepped::Overshot;
+        }
+        if self.shape.reserve(1).is_err() {
+            return Stepped::OutOfMemory;
+        }
+        put_token(&mut self.shape, Token::Dot);
+        replace_first(&mut self.pending, &[]);
+        self.room -= 1;
+        answer(&self.pending)
+    }
+
+    /// A class puts its body in its place.
+    fn visit_class(&mut self, body: ExprId) -> Stepped
+        requires running { self.old.stopped ≡ None }
+        requires pending { self.old.pending ≢ [] }
+        ensures { IsPlainVisit (replaced_by (body.0 ∷ [])) self.old result self.new }
+    {
+        if self.pending.reserve(1).is_err() {
+            return Stepped::OutOfMemory;
+        }
+        replace_first(&mut self.pending, &[body]);
+        answer(&self.pending)
+    }
+
+    /// A product puts its parts in its place, in order.
+    fn visit_product(&mut self, parts: &[ExprId]) -> Stepped
+        requires running { self.old.stopped ≡ None }
+        requires pending { self.old.pending ≢ [] }
+        ensures { IsPlainVisit (replaced_by (map number parts.now)) self.old result self.new }
+    {
+        if self.pending.reserve(parts.len()).is_err() {
+            return Stepped::OutOfMemory;
+        }
+        replace_first(&mut self.pending, parts);
+        answer(&self.pending)
+    }
+
+    /// A union draws its option and puts that part in its place.
+    fn visit_union<const F: u32, O: Oracle<F>, S: Shelf, L: Ledger>(
+        &mut self,
+        system: &System,
+        node: ExprId,
+        parts: &[ExprId],
+        oracle: &mut O,
+        tape: &mut Tape,
+        shelf: &mut S,
+        steps: &mut Steps<L>,
+    ) -> Stepped
+        requires fraction { (24 ≤ F) × (F ≤ 56) }
+        requires spec { O.spec oracle.old ≡ system.now }
+        requires union { node_at system.now node.0 ≡ Some (Node.Union (map number parts.now)) }
+        requires running { self.old.stopped ≡ None }
+        requires first { slice_get self.old.pending 0 ≡ Some node.0 }
+        requires tape { Belongs (S.content shelf.old) tape.old }
+
+        ensures no_memory { result ≡ Stepped.OutOfMemory → (self.new ≡ self.old) × (tape.new ≡ tape.old) × (oracle.new ≡ oracle.old) }
+        ensures leaves { Leaves result self.old self.new }
+        ensures exact { IfSome (bits_of tape.old.source (S.content shelf.old)) (λ bits. (c : Chooser) → ChoosesBy system.now (O.table oracle.old) c → IsVisit c bits self.old tape.old.used result self.new tape.new.used) }
+        ensures picks { IsPickVisit system.now (O.x oracle.old) node.0 (map number parts.now) self.old result self.new }
+
+        ensures spec { O.spec oracle.new ≡ O.spec oracle.old }
+        ensures x { O.x oracle.new ≡ O.x oracle.old }
+        ensures table { O.table oracle.new ≡ O.table oracle.old }
+        ensures cost { O.cost oracle.new ≡ O.cost oracle.old }
+        ensures raised { O.raised oracle.new ≡ max (O.raised oracle.old) (level_for (tape.new.used - tape.old.used)) }
+        ensures ticks { steps.new ≤ steps.old + cost_between (O.cost oracle.old) (O.raised oracle.old) (O.raised oracle.new) }
+
+        ensures used { (tape.old.used ≤ tape.new.used) × (tape.new.used ≤ tape.old.used + 60) }
+        ensures source { tape.new.source ≡ tape.old.source }
+        ensures tape { Belongs (S.content shelf.new) tape.new }
+        ensures content { S.content shelf.new ≡ S.content shelf.old }
+        ensures counts { (other : List ℕ) → S.faults shelf.old other ≤ S.faults shelf.new other }
+        ensures cause { result ≡ Stepped.ReadFault → HasFault tape.old.source (S.faults shelf.old) (S.faults shelf.new) }
+        ensures seeded { (seed : ℕ) → tape.old.source ≡ TapeSource.Seeded seed → shelf.new ≡ shelf.old }
+    {
+        if self.pending.reserve(1).is_err()
+            || self.shape.reserve(1).is_err()
+            || self.cells.reserve(1).is_err()
+        {
+            return Stepped::OutOfMemory;
+        }
+        match draw_union(system, node, oracle, tape, shelf, steps) {
+            Drawn::Value { value, cell } => {
+                put_token(&mut self.shape, Token::Pick(value as u32));
+                put_cell(&mut self.cells, cell);
+                replace_first(&mut self.pending, &[parts[value as usize]]);
+                Stepped::Moved
+            }
+            Drawn::Straddles { cell } => self.stop(Stepped::Straddles { node, cell }),
+            Drawn::Ended => self.stop(Stepped::Ended),
+            Drawn::ReadFault => self.stop(Stepped::ReadFault),
+        }
+    }
+
+    /// Stops the session by an answer.
+    fn stop(&mut self, answer: Stepped) -> Stepped
+        requires { IsStop (Some answer) }
+        ensures answer { result ≡ answer }
+        ensures stopped { self.new ≡ stopped_by self.old answer }
+    {
+        self.stopped = Some(answer);
+        answer
+    }
+}

@@ -1,0 +1,34 @@
+-- What a drawing's course has to do with the ideal run.
+use Rattle.std.specs.Prelude.{◌≡◌, ℕ, List, [], ◌∷◌, ◌++◌, length}
+use Rattle.bz_model.specs.declared.cell.Cell.{Cell}
+use Rattle.bz_model.specs.Fraction.{Fraction}
+use Rattle.bz_model.specs.Spec.{Spec}
+use Rattle.bz_model.specs.Cell.{AreInCells}
+use Rattle.bz_model.specs.Run.{Window, Kept, IdealRun}
+use Rattle.object_store.specs.Tokens.{tokens_of}
+use Rattle.size_window.specs.RunByBits.{Limits, Entry, Course}
+
+-- An entry is of a kept object: it has the object's tokens and its labels.
+pub record IsEntryOf (k : Kept) (e : Entry) : Type 0 where
+  pub tokens : tokens_of k.object ≡ e.tokens
+  pub labels : k.labels ≡ e.labels
+
+-- Entries are of kept objects, in order.
+abbrev pub AreEntriesOf : List Kept → List Entry → Type 0
+AreEntriesOf [] [] = Unit {0}
+AreEntriesOf (k ∷ ks) (e ∷ es) = IsEntryOf k e × AreEntriesOf ks es
+AreEntriesOf _ _ = ⊥
+
+-- The window of limits.
+abbrev pub window_of : Limits → Window
+window_of l = record { min = l.min; max = l.max; count = l.count }
+
+-- A course follows the ideal run where its cells are those of finished attempts and others after them, and for all numbers in the cells of the finished attempts, and any further numbers, the ideal run keeps the objects of its entries, throws away as many attempts, and leaves the further numbers.
+pub record Follows (s : Spec) (x : Fraction) (limits : Limits) (c : Course) : Type 0 where
+  pub finished : List Cell
+  pub others : List Cell
+  pub cells : c.cells ≡ finished ++ others
+  pub kept : List Kept
+  pub entries : AreEntriesOf kept c.entries
+  pub number : length kept ≡ c.state.kept
+  pub run : (us rest : List Fraction) → AreInCells us finished → IdealRun s x (window_of limits) (us ++ rest) kept c.state.thrown rest

@@ -1,0 +1,9 @@
+pub mod Bytes
+pub mod Tokens
+pub mod Grammar
+pub mod LanguageOne
+pub mod Machine
+pub mod Tables
+pub mod Faults
+pub mod Reading
+pub mod Building

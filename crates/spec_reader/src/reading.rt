@@ -1,0 +1,284 @@
+//! From the bytes of a text to a system.
+ghost use Rattle.std.specs.Prelude.{◌≡◌, ◌^◌, ◌<◌, ◌≤◌, ◌+◌, [], take, length, IfOk, IfErr, IfSome, IfNone, OnOk};
+ghost use Rattle.class_system.specs.Views.{spec_mode};
+ghost use Rattle.class_system.specs.Limits.{IsWithinLimits};
+ghost use Rattle.spec_reader.specs.Machine.{Start, Moded, Lines, Failed, step, run, mode_read};
+ghost use Rattle.spec_reader.specs.Reading.{plain_tokens, StandFor, TokensFault, Grammar, Refuses, limit_fault};
+ghost use Rattle.spec_reader.specs.Building.{FailsAt, IsEnded, IsParsed, IsNamed, IsStop, IsStopOf};
+
+use crate::fault::SpecFault;
+use crate::reader::Reader;
+use crate::sums::{Expects, Frame, Sums};
+use crate::tokens::{Placed, Token};
+use crate::{lexer, names};
+use class_system::draft::{Draft, Mode};
+use class_system::limits::BuildFault;
+use class_system::system::System;
+use std::alloc::{AllocError, Global};
+
+/// The most bytes of a text.
+const MOST_BYTES: usize = 65_536;
+
+/// The mode that a word names.
+fn mode_named(word: &[u8]) -> Option<Mode>
+    ensures named { IfSome result (λ m. mode_read word.now ≡ Moded (spec_mode m)) }
+    ensures none { IfNone result (mode_read word.now ≡ Failed) }
+{
+    if word == b"unlabelled".as_slice() {
+        Some(Mode::Unlabelled)
+    } else if word == b"labelled".as_slice() {
+        Some(Mode::Labelled)
+    } else {
+        None
+    }
+}
+
+/// The mode that a token names.
+fn mode_of(token: &Token) -> Option<Mode>
+    ensures named { IfSome result (λ m. step Start token.now ≡ Moded (spec_mode m)) }
+    ensures none { IfNone result (step Start token.now ≡ Failed) }
+{
+    match token {
+        Token::Name(word) => mode_named(word.bytes()),
+        _ => None,
+    }
+}
+
+/// The mode that the first line gives, or the place of the first token that can't stand.
+fn mode_line(tokens: &[Placed]) -> Result<Mode, usize>
+    requires ended { IsEnded tokens.now }
+    ensures long { IfOk result (λ m. 2 ≤ length tokens.now) }
+    ensures mode { IfOk result (λ m. run Start (plain_tokens (take 2 tokens.now))
+        ≡ Lines (record { mode = spec_mode m; definitions = [] })) }
+    ensures stops { IfErr result (FailsAt Start tokens.now) }
+{
+    let [first, second, ..] = tokens else {
+        return Err(0);
+    };
+    let Some(mode) = mode_of(&first.token) else {
+        return Err(0);
+    };
+    match second.token {
+        Token::LineEnd => Ok(mode),
+        _ => Err(1),
+    }
+}
+
+/// The fault of a token that can't stand.
+fn syntax_at(tokens: &[Placed], place: usize) -> SpecFault
+    requires { FailsAt Start tokens.now place }
+    ensures { TokensFault tokens.now result }
+{
+    let placed = &tokens[place];
+    SpecFault::Syntax {
+        line: placed.line,
+        column: placed.column,
+    }
+}
+
+/// Why lines give no tables: a token can't stand, or memory ran out.
+#[derive(Debug, Drop)]
+enum Stop {
+    At(usize),
+    OutOfMemory,
+}
+
+/// The fault of a stop in the lines, which begin behind two tokens.
+fn stop_fault(tokens: &[Placed], stop: Stop) -> SpecFault
+    requires few { length tokens.now < 2 ^ 24 }
+    requires stops { IsStopOf tokens.now stop }
+    ensures fault { TokensFault tokens.now result }
+{
+    match stop {
+        Stop::At(place) => syntax_at(tokens, place + 2),
+        Stop::OutOfMemory => SpecFault::OutOfMemory,
+    }
+}
+
+/// A draft with the names that begin lines.
+fn named_draft(alloc: Global, mode: Mode, lines: &[Placed]) -> Result<Draft, AllocError>
+    requires few { length lines.now < 2 ^ 24 }
+    ensures named { IfOk result (IsNamed (spec_mode mode) lines.now) }
+{
+    let mut draft = Draft::new(alloc, mode);
+    names::add_names(alloc, &mut draft, lines)?;
+    Ok(draft)
+}
+
+/// The tables of lines.
+fn parse(alloc: Global, mode: Mode, lines: &[Placed]) -> Result<Draft, Stop>
+    requires few { length lines.now < 2 ^ 24 }
+    requires ended { IsEnded lines.now }
+    ensures ok { IfOk result (IsParsed (spec_mode mode) lines.now) }
+    ensures stops { IfErr result (IsStop (spec_mode mode) lines.now) }
+{
+    let Ok(draft) = named_draft(alloc, mode, lines) else {
+        return Err(Stop::OutOfMemory);
+    };
+    let frame = Frame::new(alloc);
+    let outers = Vec::new(alloc);
+    let sums = Sums {
+        draft,
+        frame,
+        outers,
+    };
+    let expects = Expects::Line;
+    let mut reader = Reader { sums, expects };
+    match reader.take_all(alloc, lines) {
+        Ok(None) => {}
+        Ok(Some(place)) => return Err(Stop::At(place)),
+        Err(_) => return Err(Stop::OutOfMemory),
+    }
+    let Reader { sums, expects: _ } = reader;
+    let Sums { draft, .. } = sums;
+    Ok(draft)
+}
+
+/// The tables of a text's tokens.
+fn read_tokens(alloc: Global, tokens: &[Placed]) -> Result<Draft, SpecFault>
+    requires few { length tokens.now < 2 ^ 24 }
+    requires ended { IsEnded tokens.now }
+    ensures ok { IfOk result (StandFor tokens.now) }
+    ensures fault { IfErr result (TokensFault tokens.now) }
+{
+    let mode = match mode_line(tokens) {
+        Ok(mode) => mode,
+        Err(place) => return Err(syntax_at(tokens, place)),
+    };
+    let lines = &tokens[2..];
+    let draft = match parse(alloc, mode, lines) {
+        Ok(draft) => draft,
+        Err(stop) => return Err(stop_fault(tokens, stop)),
+    };
+    match names::first_fault(alloc, &draft, lines) {
+        Ok(None) => Ok(draft),
+        Ok(Some(fault)) => Err(fault),
+        Err(_) => Err(SpecFault::OutOfMemory),
+    }
+}
+
+/// The fault of a broken limit.
+fn limit_fault(fault: BuildFault) -> SpecFault
+    ensures exact { result ≡ limit_fault fault }
+{
+    match fault {
+        BuildFault::OutOfMemory => SpecFault::OutOfMemory,
+        BuildFault::TooManyClasses { .. }
+        | BuildFault::TooManyParts { .. }
+        | BuildFault::TooDeep { .. }
+        | BuildFault::TooManyNodes { .. } => SpecFault::Limit(fault),
+    }
+}
+
+/// Reads the text of a specification.
+///
+/// The refusals are tested in the order in which `SpecFault` has them, a whole text's `Syntax` before
+/// its first `Undefined`, `Twice` or `NeedsLabels`. `OutOfMemory` may come at any point.
+pub fn read_spec(alloc: Global, bytes: &[u8]) -> Result<System, SpecFault>
+    ensures read { IfOk result (Grammar bytes.now) }
+    ensures few { OnOk result (length bytes.now ≤ 65536) }
+    ensures limits { IfOk result IsWithinLimits }
+    ensures refused { IfErr result (Refuses bytes.now) }
+{
+    if bytes.len() > MOST_BYTES {
+        let len = bytes.len() as u64;
+        return Err(SpecFault::TooLong { len });
+    }
+    if let Some(place) = lexer::first_not_text(bytes) {
+        let place = place as u64;
+        return Err(SpecFault::NotText { place });
+    }
+    let Ok(tokens) = lexer::tokens(alloc, bytes) else {
+        return Err(SpecFault::OutOfMemory);
+    };
+    let draft = match read_tokens(alloc, tokens.as_slice()) {
+        Ok(draft) => draft,
+        Err(fault) => return Err(fault),
+    };
+    match System::build(alloc, draft) {
+        Ok(system) => Ok(system),
+        Err(fault) => Err(limit_fault(fault)),
+    }
+}
+
+#[cfg(test)]
+mod tests {
+    use super::*;
+    use std::test::Fail;
+
+    fn fault_of(alloc: Global, text: &[u8]) -> Option<SpecFault> {
+        match read_spec(alloc, text) {
+            Ok(_) => None,
+            Err(fault) => Some(fault),
+        }
+    }
+
+    fn syntax(line: u32, column: u32) -> Option<SpecFault> {
+        Some(SpecFault::Syntax { line, column })
+    }
+
+    #[test]
+    fn each_refusal_has_its_place(rt: HostRuntime) {
+        let undefined = Some(SpecFault::Undefined { line: 2, column: 7 });
+        let undefined_first = Some(SpecFault::Undefined { line: 2, column: 5 });
+        let twice = Some(SpecFault::Twice { line: 3 });
+        let needs_labels = Some(SpecFault::NeedsLabels { line: 2, column: 5 });
+        let not_text = Some(SpecFault::NotText { place: 15 });
+        let table = [
+            (b"unlabelled\nC = Set(Z)\n".as_slice(), needs_labels),
+            (b"unlabelled\nC = Z +\n".as_slice(), syntax(2, 8)),
+            (b"unlabelled\nC = Z +".as_slice(), syntax(2, 8)),
+            (b"unlabelled\nC = Z*D\n".as_slice(), undefined),
+            (b"unlabelled\nC = Z\nC = E\n".as_slice(), twice),
+            (b"unlabelled\nC = D\nC = E\n".as_slice(), undefined_first),
+            (b"unlabelled\nC = Seq=0(Z)\n".as_slice(), syntax(2, 9)),
+            (b"unlabelled\nC = Seq>=65(Z)\n".as_slice(), syntax(2, 10)),
+            (b"unlabelled\nC = Seq<=3(E)\n".as_slice(), None),
+            (b"labelled\nC = Cyc>=1(Z)\n".as_slice(), None),
+            (b"unlabelled\nC = E:_1 + Z:2b # two\n\n".as_slice(), None),
+            (b"unlabelled\nC = E:\n".as_slice(), syntax(2, 6)),
+            (b"unlabelled\n".as_slice(), syntax(2, 1)),
+            (b"".as_slice(), syntax(1, 1)),
+            (b"unlabelled\nC = \x00".as_slice(), not_text),
+        ];
+        for (text, want) in table {
+            assert_eq!(rt; fault_of(rt.alloc(), text), want);
+        }
+    }
+
+    #[test]
+    fn parentheses_make_no_node_of_their_own(rt: HostRuntime) -> Result<(), Fail> {
+        let mut text = b"unlabelled\nC = ".to_vec(rt.alloc())?;
+        text.extend_from_slice(vec![in rt.alloc(); b'('; 30_000]?.as_slice())?;
+        assert_eq!(rt; fault_of(rt.alloc(), text.as_slice()), syntax(2, 30_005));
+        text.push(b'Z')?;
+        text.push(b'\n')?;
+        assert_eq!(rt; fault_of(rt.alloc(), text.as_slice()), syntax(2, 30_006));
+        Ok(())
+    }
+
+    #[test]
+    fn what_is_read_is_printed(rt: HostRuntime) -> Result<(), Fail> {
+        let text = b"labelled\nT = (E + Z:x) + Set>=2(T*U)\nU = (Z*Z)*Cyc(Z)\n".as_slice();
+        let Ok(system) = read_spec(rt.alloc(), text) else {
+            assert!(rt; false);
+            return Ok(());
+        };
+        assert_eq!(rt; system.to_text()?.as_slice(), text);
+        Ok(())
+    }
+
+    #[test]
+    fn limits_are_told(rt: HostRuntime) -> Result<(), Fail> {
+        let mut text = b"unlabelled\nC = Z".to_vec(rt.alloc())?;
+        for _ in 0..64 {
+            text.extend_from_slice(b"+Z")?;
+        }
+        let parts = Some(SpecFault::Limit(BuildFault::TooManyParts { count: 65 }));
+        assert_eq!(rt; fault_of(rt.alloc(), text.as_slice()), parts);
+        let blanks = vec![in rt.alloc(); b' '; 65_537]?;
+        let long = Some(SpecFault::TooLong { len: 65_537 });
+        assert_eq!(rt; fault_of(rt.alloc(), blanks.as_slice()), long);
+        Ok(())
+    }
+}
