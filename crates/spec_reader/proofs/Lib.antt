@@ -16,3 +16,4 @@ pub mod Terms
 pub mod Sounds
 pub mod OneText
 pub mod One
+pub mod OneRefusal

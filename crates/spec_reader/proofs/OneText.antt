@@ -19,7 +19,7 @@ use Rattle.spec_reader.specs.Faults.{first_fault}
 use Rattle.spec_reader.specs.Reading.{plain_tokens, StandFor, Grammar, IsMisplaced, HasFault, BreaksLimit, Refuses}
 use Rattle.spec_reader.proofs.MachineReads.{reads}
 
-same_read : (us : List Token) (m n : Mode) (ds es : List Definition) → IsText us m ds → IsText us n es → ◌≡◌ {A = Before} (record { mode = m; definitions = ds }) (record { mode = n; definitions = es })
+pub same_read : (us : List Token) (m n : Mode) (ds es : List Definition) → IsText us m ds → IsText us n es → ◌≡◌ {A = Before} (record { mode = m; definitions = ds }) (record { mode = n; definitions = es })
 same_read us m n ds es a b =
     let both : Done (record { mode = m; definitions = ds }) ≡ Done (record { mode = n; definitions = es }) = sym (reads a) ∙ reads b in
     cc
@@ -43,18 +43,21 @@ not_both : (b : Bool) → b ≡ true → ¬ (not b ≡ true)
 not_both true e n = absurd (cc)
 not_both false e n = absurd (cc)
 
-all_text : (bytes : List ℕ) (place : ℕ) → AllPass is_text bytes → ¬ (position (λ b. not (is_text b)) bytes ≡ Some place)
+pub all_text : (bytes : List ℕ) (place : ℕ) → AllPass is_text bytes → ¬ (position (λ b. not (is_text b)) bytes ≡ Some place)
 all_text bytes place all e =
     let at = position-Some (λ b. not (is_text b)) bytes place 0 e in
     not_both (is_text (get_or bytes place 0)) (passes_at is_text bytes place (list_all-from_AllPass is_text bytes all) at.0) at.1
 
-not_misplaced : (ts : List Placed) (s : Spec) (line column : ℕ) → StandFor ts s → ¬ (IsMisplaced ts line column)
-not_misplaced ts s line column f m =
+pub text_not_misplaced : (ts : List Placed) (mode : Mode) (ds : List Definition) (line column : ℕ) → IsText (plain_tokens ts) mode ds → ¬ (IsMisplaced ts line column)
+text_not_misplaced ts mode ds line column t m =
     let split : ts ≡ (m.before ++ m.token ∷ []) ++ m.behind = m.is_there ∙ sym (append_assoc m.before (m.token ∷ []) m.behind) in
-    let plain_split : plain_tokens ts ≡ plain_tokens (m.before ++ m.token ∷ []) ++ plain_tokens m.behind = ap (λ us. plain_tokens us) split ∙ map-append (λ (t : Placed). t.token) (m.before ++ m.token ∷ []) m.behind in
-    m.ends (record { further = plain_tokens m.behind; mode = f.mode; definitions = f.definitions; is_text = subst (λ us. IsText us f.mode f.definitions) plain_split f.is_text })
+    let plain_split : plain_tokens ts ≡ plain_tokens (m.before ++ m.token ∷ []) ++ plain_tokens m.behind = ap (λ us. plain_tokens us) split ∙ map-append (λ (q : Placed). q.token) (m.before ++ m.token ∷ []) m.behind in
+    m.ends (record { further = plain_tokens m.behind; mode = mode; definitions = ds; is_text = subst (λ us. IsText us mode ds) plain_split t })
 
-not_faulty : (ts : List Placed) (s : Spec) (fault : SpecFault) → StandFor ts s → ¬ (HasFault ts fault)
+not_misplaced : (ts : List Placed) (s : Spec) (line column : ℕ) → StandFor ts s → ¬ (IsMisplaced ts line column)
+not_misplaced ts s line column f m = text_not_misplaced ts f.mode f.definitions line column f.is_text m
+
+pub not_faulty : (ts : List Placed) (s : Spec) (fault : SpecFault) → StandFor ts s → ¬ (HasFault ts fault)
 not_faulty ts s fault f h =
     let same = same_read (plain_tokens ts) f.mode h.mode f.definitions h.definitions f.is_text h.is_text in
     let none : first_fault h.mode (names_of h.definitions) [] true (drop 2 ts) ≡ None = subst (λ (q : Before). first_fault q.mode (names_of q.definitions) [] true (drop 2 ts) ≡ None) same f.no_fault in

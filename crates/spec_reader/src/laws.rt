@@ -1,5 +1,5 @@
 //! Laws of texts. Each function's contract is a law over every text, and its body does nothing.
-ghost use Rattle.std.specs.Prelude.{◌≡◌, ℕ, ◌≤◌, List, length};
+ghost use Rattle.std.specs.Prelude.{◌≡◌, ◌≢◌, ℕ, ◌≤◌, List, length};
 ghost use Rattle.bz_model.specs.Spec.{Spec, Mode};
 ghost use Rattle.class_system.specs.Limits.{IsWithinLimits};
 ghost use Rattle.spec_reader.specs.declared.fault.SpecFault.{SpecFault};
@@ -18,6 +18,12 @@ pub fn a_text_stands_for_one_specification()
 pub fn what_stands_is_not_refused()
     ensures accepted { (bytes : List ℕ) (s : Spec) (f : SpecFault) → length bytes ≤ 65536 → Grammar bytes s
         → IsWithinLimits s → Refuses bytes f → f ≡ SpecFault.OutOfMemory }
+{}
+
+/// A text is refused for one reason, want of memory aside.
+pub fn a_text_has_one_refusal()
+    ensures one { (bytes : List ℕ) (f g : SpecFault) → f ≢ SpecFault.OutOfMemory → g ≢ SpecFault.OutOfMemory
+        → Refuses bytes f → Refuses bytes g → f ≡ g }
 {}
 
 /// Each text of language 1, which has no bounds, is a text with the same definitions, whose tables
