@@ -3,7 +3,7 @@ use Rattle.std.specs.Prelude.{◌≡◌, ◌≢◌, ℕ, List, ◌++◌, length,
 use Rattle.bz_model.specs.Spec.{Spec}
 use Rattle.bz_model.specs.WellFounded.{IsWellFounded}
 use Rattle.bz_outside.specs.Outside.{Rose, Appends, AppendsFront}
-use Rattle.class_system.specs.Canonical.{canonical_text}
+use Rattle.class_system.specs.CanonicalText.{canonical_text}
 use Rattle.class_system.specs.Limits.{IsWithinLimits}
 use Rattle.spec_reader.specs.Reading.{Grammar, Refuses}
 use Rattle.spec_reader.specs.declared.fault.SpecFault.{SpecFault}
@@ -48,17 +48,17 @@ spec_text s = canonical_text s ++ spec_end_line (length s.names) (length s.nodes
 -- An answer with the text that it writes, and where it comes.
 pub data Answers (w : World) : Status → List ℕ → Type 0 where
   -- no command has these words
-  words_refused : NamesNone w.words → Answers w Status.WordsRefused words_line
+  words_refused : {text : List ℕ} → NamesNone w.words → text ≡ words_line → Answers w Status.WordsRefused text
   -- a read of the specification's file failed in the call
-  not_read : (c : Command) → Names w.words c → Rose (w.before (file_of c)) (w.after (file_of c)) → Answers w Status.ReadFault read_line
+  not_read : {text : List ℕ} → (c : Command) → Names w.words c → Rose (w.before (file_of c)) (w.after (file_of c)) → text ≡ read_line → Answers w Status.ReadFault text
   -- the text is no specification, or breaks a limit
-  text_refused : (c : Command) (read : List ℕ) (fault : SpecFault) → IsAsked w c read → fault ≢ SpecFault.OutOfMemory → Refuses read fault → Answers w Status.SpecRefused (text_line fault)
+  text_refused : {text : List ℕ} → (c : Command) (read : List ℕ) (fault : SpecFault) → IsAsked w c read → fault ≢ SpecFault.OutOfMemory → Refuses read fault → text ≡ text_line fault → Answers w Status.SpecRefused text
   -- the specification isn't well founded
-  unfounded : (c : Command) (read : List ℕ) (s : Spec) (cause : UnfoundedCause) → IsAsked w c read → IsAccepted read s → cause ≢ UnfoundedCause.OutOfMemory → TellsCause s cause → Answers w Status.SpecRefused (cause_line s cause)
+  unfounded : {text : List ℕ} → (c : Command) (read : List ℕ) (s : Spec) (cause : UnfoundedCause) → IsAsked w c read → IsAccepted read s → cause ≢ UnfoundedCause.OutOfMemory → TellsCause s cause → text ≡ cause_line s cause → Answers w Status.SpecRefused text
   -- the specification is printed
-  printed : (file read : List ℕ) (s : Spec) → IsAsked w (Command.Spec file) read → IsAccepted read s → IsWellFounded s → Answers w Status.Done (spec_text s)
+  printed : {text : List ℕ} → (file read : List ℕ) (s : Spec) → IsAsked w (Command.Spec file) read → IsAccepted read s → IsWellFounded s → text ≡ spec_text s → Answers w Status.Done text
   -- no specification is drawn from yet
-  not_yet : (c : Command) (read : List ℕ) (s : Spec) → Draws c → IsAsked w c read → IsAccepted read s → IsWellFounded s → Answers w Status.SpecRefused not_yet_line
+  not_yet : {text : List ℕ} → (c : Command) (read : List ℕ) (s : Spec) → Draws c → IsAsked w c read → IsAccepted read s → IsWellFounded s → text ≡ not_yet_line → Answers w Status.SpecRefused text
 
 -- What the sink tells before a call and after it, with its counts of failed writes.
 pub record Output : Type 0 where

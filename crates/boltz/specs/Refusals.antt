@@ -1,5 +1,5 @@
 -- The lines that tell why a command is refused.
-use Rattle.std.specs.Prelude.{ℕ, ◌<◌, List, [], ◌++◌, length, decimal, codes, slice_index}
+use Rattle.std.specs.Prelude.{ℕ, ◌<◌, List, [], ◌++◌, length, decimal, codes, slice_get, unwrap_or}
 use Rattle.bz_model.specs.Spec.{Spec}
 use Rattle.class_system.specs.declared.limits.BuildFault.{BuildFault}
 use Rattle.spec_reader.specs.declared.fault.SpecFault.{SpecFault}
@@ -41,11 +41,15 @@ text_line (SpecFault.NeedsLabels line column) = codes "refused spec needs labels
 text_line (SpecFault.Limit fault) = limit_line fault
 text_line SpecFault.OutOfMemory = []
 
+-- The name of a class.
+abbrev pub class_name : Spec → ℕ → List ℕ
+class_name s c = unwrap_or (slice_get s.names c) []
+
 -- Why a specification isn't well founded; nothing is told of want of memory.
 abbrev pub cause_line : Spec → UnfoundedCause → List ℕ
-cause_line s (UnfoundedCause.NoObject c) = codes "refused spec no object " ++ (slice_index s.names c.0 ++ feed)
+cause_line s (UnfoundedCause.NoObject c) = codes "refused spec no object " ++ (class_name s c.0 ++ feed)
 cause_line s (UnfoundedCause.ZeroPart e) = codes "refused spec zero part node " ++ (decimal e.0 ++ feed)
-cause_line s (UnfoundedCause.ZeroLoop c) = codes "refused spec zero loop " ++ (slice_index s.names c.0 ++ feed)
+cause_line s (UnfoundedCause.ZeroLoop c) = codes "refused spec zero loop " ++ (class_name s c.0 ++ feed)
 cause_line s UnfoundedCause.OutOfMemory = []
 
 -- The class that a cause tells of is there.

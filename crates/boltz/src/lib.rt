@@ -4,5 +4,7 @@
 pub mod first_form;
 pub mod lines;
 pub mod refusals;
+pub mod report;
+pub mod run;
 pub mod status;
 pub mod words;

@@ -1,5 +1,6 @@
 //! The lines that tell why a command is refused.
-ghost use Rattle.std.specs.Prelude.{◌≡◌, ◌++◌, codes, IfOk, string_bytes};
+ghost use Rattle.std.specs.Prelude.{◌≡◌, ◌≢◌, ◌++◌, codes, IfOk, OnOk, string_bytes};
+ghost use Rattle.well_founded.specs.declared.cause.UnfoundedCause.{UnfoundedCause};
 ghost use Rattle.boltz.specs.Lines.{feed};
 ghost use Rattle.boltz.specs.Refusals.{limit_line, text_line, cause_line, IsNamed};
 
@@ -10,7 +11,7 @@ use spec_reader::fault::SpecFault;
 use std::alloc::{AllocError, Global};
 use well_founded::cause::UnfoundedCause;
 
-/// Why a text is no specification.
+/// Why a text is no specification; `Err` where that is want of memory.
 pub fn text_refusal(alloc: Global, fault: SpecFault) -> Result<String, AllocError>
     ensures { IfOk result (λ text. string_bytes text ≡ text_line fault) }
 {
@@ -51,14 +52,15 @@ fn limit_refusal(alloc: Global, fault: BuildFault) -> Result<String, AllocError>
     }
 }
 
-/// Why a specification isn't well founded.
+/// Why a specification isn't well founded; `Err` where that is want of memory.
 pub fn cause_refusal(
     alloc: Global,
     system: &System,
     cause: UnfoundedCause,
 ) -> Result<Vec<u8>, AllocError>
     requires in_range { IsNamed system.now cause }
-    ensures { IfOk result (λ text. text.items ≡ cause_line system.now cause) }
+    ensures line { IfOk result (λ text. text.items ≡ cause_line system.now cause) }
+    ensures memory { OnOk result (cause ≢ UnfoundedCause.OutOfMemory) }
 {
     match cause {
         UnfoundedCause::NoObject(class) => named(alloc, "no object", system.name(class)),
@@ -74,11 +76,12 @@ pub fn cause_refusal(
 
 /// A refusal with the name of a class.
 fn named(alloc: Global, why: &str, name: &Word) -> Result<Vec<u8>, AllocError>
-    ensures { IfOk result (λ text. text.items ≡ codes "refused spec " ++ (why.now ++ (codes " " ++ (name.now ++ feed)))) }
+    ensures { IfOk result (λ text. text.items ≡ (codes "refused spec " ++ (why.now ++ codes " ")) ++ (name.now ++ feed)) }
 {
     let head = format!(in alloc; "refused spec {why} ")?;
-    let mut line = head.into_bytes();
+    let mut line = Vec::new(alloc);
+    line.extend_from_slice(head.as_bytes())?;
     line.extend_from_slice(name.bytes())?;
-    line.push(b'\n')?;
+    line.extend_from_slice(b"\n")?;
     Ok(line)
 }

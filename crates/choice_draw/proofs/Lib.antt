@@ -9,3 +9,4 @@ pub mod UnionIdeal
 pub mod DrawsOn
 pub mod ToldDraws
 pub mod Ticks
+pub mod TwoAtomsSound

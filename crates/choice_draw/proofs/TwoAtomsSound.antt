@@ -4,7 +4,7 @@ use Rattle.std.specs.Prelude.{slice_get, slice_index}
 use Rattle.std.specs.List.{AllByRecursion}
 use Rattle.bz_model.specs.declared.cell.Bounds.{Bounds}
 use Rattle.bz_model.specs.Fraction.{units}
-use Rattle.bz_model.specs.Spec.{Spec, Mode, Node, Range, node_at}
+use Rattle.bz_model.specs.Spec.{Spec, Mode, Node, Range, node_at, node_of, range_of}
 use Rattle.bz_model.specs.Object.{Object, Has, ClassHas, Belongs}
 use Rattle.bz_model.specs.Ideal.{option_of}
 use Rattle.bz_model.specs.Measures.{size, tree_nodes}
@@ -14,7 +14,7 @@ use Rattle.bz_model.specs.Oracle as oracle
 use Rattle.bz_model.specs.Oracle.{AreCosts, Encloses}
 use Rattle.bz_laws.proofs.Bounds.{below-lower, above-higher}
 use Rattle.bz_laws.proofs.Leaves.{above-atom, below-atom}
-use Rattle.bz_laws.proofs.Unions.{above-union, below-union, union-has, unpick, BelongsAt}
+use Rattle.bz_laws.proofs.Unions.{above-union, below-union, has-union, unpick}
 use Rattle.class_system.specs.Sound.{IsSound, HasTwoParts, RefersBelow, HasLeafWord, SuitsMode, HasTextRange}
 use Rattle.class_system.specs.Words.{IsName, IsLeafWord}
 use Rattle.class_system.specs.NodeOrder.Spans.{tree}
@@ -79,12 +79,12 @@ has_dot s R word r _ h = elim h [ ]
 
 -- an object of C is the pick of an atom
 few_nodes : (o : Object) → Belongs two_atoms 2 o → tree_nodes o ≤ 2
-few_nodes o b = let pick = union-has two_atoms 2 (0 ∷ 1 ∷ []) refl o b in subst (λ q. tree_nodes q ≤ 2) (sym pick.form) (small (option_of o) (unpick o) pick.part_has)
+few_nodes o b = let pick = has-union two_atoms (ClassHas two_atoms b.0) (0 ∷ 1 ∷ []) (Some plain) o b.1 in subst (λ q. tree_nodes q ≤ 2) (sym pick.form) (small b.0 (option_of o) (unpick o) pick.part_has)
   where
-    small : (i : ℕ) (q : Object) → BelongsAt two_atoms (slice_get (0 ∷ 1 ∷ []) i) q → tree_nodes (Object.Pick i q) ≤ 2
-    small zero q has = subst (λ p. tree_nodes (Object.Pick 0 p) ≤ 2) (sym (has_dot two_atoms (ClassHas two_atoms has.0) [] (Some plain) q has.1)) (lit≤ tt)
-    small (suc zero) q has = subst (λ p. tree_nodes (Object.Pick 1 p) ≤ 2) (sym (has_dot two_atoms (ClassHas two_atoms has.0) [] (Some plain) q has.1)) (lit≤ tt)
-    small (suc (suc i)) q has = absurd has.1
+    small : (h i : ℕ) (q : Object) → Has two_atoms (ClassHas two_atoms h) (node_of two_atoms (slice_get (0 ∷ 1 ∷ []) i)) (range_of two_atoms (slice_get (0 ∷ 1 ∷ []) i)) q → tree_nodes (Object.Pick i q) ≤ 2
+    small h zero q has = subst (λ p. tree_nodes (Object.Pick 0 p) ≤ 2) (sym (has_dot two_atoms (ClassHas two_atoms h) [] (Some plain) q has)) (lit≤ tt)
+    small h (suc zero) q has = subst (λ p. tree_nodes (Object.Pick 1 p) ≤ 2) (sym (has_dot two_atoms (ClassHas two_atoms h) [] (Some plain) q has)) (lit≤ tt)
+    small h (suc (suc i)) q has = absurd has
 
 pub two_atoms-founded : IsWellFounded two_atoms
 two_atoms-founded = record {

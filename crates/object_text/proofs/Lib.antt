@@ -1,3 +1,4 @@
 pub mod Unrolled
 pub mod Steps
 pub mod Ways
+pub mod Tokens

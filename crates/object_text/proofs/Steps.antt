@@ -1,13 +1,12 @@
 -- What a node prints: a class what its body prints, and any other node its own bytes before what its parts print.
-use Rattle.std.proofs.Common.{◌≡◌, ℕ, zero, suc, List, [], ◌∷◌, ◌++◌, map, take, drop, refl, sym, ◌∙◌, ap, subst, append_assoc, append-nil, Option, Some, None, replicate, decimal, codes}
+use Rattle.std.proofs.Common.{◌≡◌, ℕ, zero, suc, List, [], ◌∷◌, ◌++◌, map, drop, refl, sym, ◌∙◌, ap, subst, append_assoc, append-nil, Option, Some, None, replicate, decimal, codes}
 use Rattle.std.specs.Prelude.{slice_get}
-use Rattle.std.specs.List.{join_with_byte}
 use Rattle.std.proofs.Math.Seq.{take-nil, drop-nil}
-use Rattle.bz_model.specs.Spec.{Spec, Mode, Node, Range, node_at, range_at, node_of, range_of, body_of}
-use Rattle.bz_model.specs.Object.{Object, Objects, none, more, count, Has, HaveEach, HaveAll, ClassHas, HasWithin, Belongs}
+use Rattle.bz_model.specs.Spec.{Spec, Mode, Node, node_at, range_at, node_of, range_of, body_of}
+use Rattle.bz_model.specs.Object.{Object, Objects, none, more, count, Has, HaveEach, HaveAll, ClassHas}
 use Rattle.bz_model.specs.Object.Object.{Unit_, Dot, Pick, Tuple, SeqOf}
 use Rattle.bz_model.specs.Measures.{size}
-use Rattle.bz_model.specs.ObjectText.{Arrangement, PartText, least_label, leaf_text, label_text, spaced, text_by, texts_of_each, texts_of_all, class_text, text_within, object_text}
+use Rattle.bz_model.specs.ObjectText.{Arrangement, PartText, least_label, leaf_text, label_text, spaced, text_by, texts_of_each, texts_of_all, class_text, text_within}
 use Rattle.bz_laws.proofs.Nodes.{known}
 use Rattle.class_system.specs.Views.{number}
 use Rattle.class_system.specs.declared.ids.ExprId.{ExprId}

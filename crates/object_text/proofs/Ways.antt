@@ -1,23 +1,22 @@
 -- What is to be printed, seen as nodes that wait for tokens.
-use Rattle.std.proofs.Common.{◌≡◌, ℕ, zero, suc, ◌-◌, ◌<◌, ◌≤◌, arith, List, [], ◌∷◌, ◌++◌, map, length, refl, sym, ◌∙◌, ap, subst, append-nil, Option, Some, None}
-use Rattle.std.specs.Prelude.{slice_get}
+use Rattle.std.proofs.Common.{◌≡◌, ℕ, zero, suc, ◌-◌, ◌<◌, ◌≤◌, arith, List, [], ◌∷◌, ◌++◌, map, length, refl, sym, ◌∙◌, ap, subst, Option, Some, None}
 use Rattle.std.proofs.lemmas.Option.{slice_get_within}
-use Rattle.bz_model.specs.Spec.{Spec, Node, Range, node_at, range_at, node_of, range_of, body_of}
-use Rattle.bz_model.specs.Object.{Object, Objects, none, more, Has, ClassHas, Belongs}
-use Rattle.bz_model.specs.Object.Object.{Unit_, Dot, Pick, Tuple, SeqOf, SetOf, CycOf}
+use Rattle.bz_model.specs.Spec.{Spec, Node, Range, node_at, range_at}
+use Rattle.bz_model.specs.Object.{Object, none, more, Has, ClassHas, Belongs}
+use Rattle.bz_model.specs.Object.Object.{Unit_, Dot, Pick, SeqOf, SetOf, CycOf}
 use Rattle.bz_laws.proofs.Nodes.{known}
 use Rattle.class_system.specs.Views.{number}
 use Rattle.class_system.specs.declared.ids.ExprId.{ExprId}
 use Rattle.object_store.specs.declared.token.Token.{Token}
 use Rattle.object_store.specs.declared.token.Token.TheVariants as token
-use Rattle.object_store.specs.Tokens.{tokens_of, tokens_all, BelongEach, AreOf}
+use Rattle.object_store.specs.Tokens.{tokens_of, tokens_all, AreOf}
 use Rattle.class_system.specs.Sound.{IsSound}
 use Rattle.object_store.specs.Walk.{AllBelow, HasToken, IsTokenNode, Expands}
 use Rattle.object_store.proofs.Descent.{Descent, descent-expand, too_long}
 use Rattle.object_text.specs.declared.todo.Todo.{Todo}
 use Rattle.object_text.specs.declared.todo.Todo.TheVariants as todo
 use Rattle.object_text.specs.Todos.{joined_objects, spaced_objects}
-use Rattle.object_text.specs.Printing.{PrintsObject, Prints, ArePrinted, nodes_of}
+use Rattle.object_text.specs.Printing.{Prints, ArePrinted, nodes_of}
 
 -- The nodes of joined objects are these.
 nodes-spaced : (es : List ExprId) (later : List Todo) → nodes_of (spaced_objects es ++ later) ≡ map number es ++ nodes_of later

@@ -1,5 +1,5 @@
 -- What is still to be printed.
-use Rattle.std.specs.Prelude.{ℕ, ◌<◌, List, [], ◌∷◌, ◌++◌, replicate}
+use Rattle.std.specs.Prelude.{◌<◌, List, [], ◌∷◌, ◌++◌, replicate}
 use Rattle.class_system.specs.declared.ids.ExprId.{ExprId}
 use Rattle.object_text.specs.declared.todo.Todo.{Todo}
 use Rattle.object_text.specs.declared.todo.Todo.TheVariants.{Byte, Node}

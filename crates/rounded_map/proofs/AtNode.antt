@@ -1,6 +1,6 @@
 -- The value of each node, from the values of all nodes.
-use Rattle.std.proofs.Common.{◌≡◌, ℕ, zero, suc, ◌+◌, ◌<◌, ◌≤◌, List, [], ◌∷◌, ◌++◌, length, map, take, get_or, refl, sym, ap, ◌∙◌, arith, append_assoc, append-nil, length-append, Option, Some, None, slice_get}
-use Rattle.std.specs.Prelude.{slice_index, zip}
+use Rattle.std.proofs.Common.{◌≡◌, ℕ, zero, suc, ◌+◌, ◌<◌, List, [], ◌∷◌, ◌++◌, length, map, take, get_or, refl, sym, ap, ◌∙◌, arith, append_assoc, append-nil, length-append, Option, Some, None, slice_get}
+use Rattle.std.specs.Prelude.{slice_index}
 use Rattle.std.specs.List.{AllByRecursion}
 use Rattle.std.proofs.lemmas.Option.{slice_get_within, same_Some, get_or_from_slice_get}
 use Rattle.bz_model.specs.Spec.{Spec, Node, Range, node_at, range_at}
@@ -8,8 +8,7 @@ use Rattle.bz_laws.specs.Sound.{EachPart}
 use Rattle.class_system.specs.NodeResults.{node_results, ranged_nodes}
 use Rattle.class_system.specs.Sound.{IsSound}
 use Rattle.class_system.proofs.Results.{zip-at}
-use Rattle.fixed_enclosure.specs.Rounded.{atom_up}
-use Rattle.series_bounds.specs.Series.{Kind, counted_down, counted_up}
+use Rattle.series_bounds.specs.Series.{Kind, counted_down}
 use Rattle.series_bounds.specs.Lists.{total_down, product_down, total_up, product_up}
 use Rattle.rounded_map.specs.RoundedMap.{Setting, value_at, value_down, value_up, values_down, values_up}
 use Rattle.rounded_map.proofs.LaidOut.{parts_below}

@@ -1,14 +1,13 @@
 -- What the rounded map's values bound, and what they are reached by.
-use Rattle.std.proofs.Common.{◌≡◌, ℕ, zero, suc, ◌<◌, ◌≤◌, List, [], ◌∷◌, length, map, min, max, refl, sym, ap, subst, ◌∙◌, arith, Option, Some, None, replicate, slice_get, Result, Ok, Err}
+use Rattle.std.proofs.Common.{◌≡◌, ℕ, zero, suc, ◌<◌, ◌≤◌, List, [], ◌∷◌, length, map, max, refl, sym, ap, subst, ◌∙◌, arith, Option, Some, None, replicate, slice_get, Result, Ok, Err}
 use Rattle.std.specs.Prelude.{slice_index, is_some, IsTrue, OnOk}
 use Rattle.std.proofs.lemmas.List.{length-map}
 use Rattle.std.proofs.Math.ListN.{length-replicate}
 use Rattle.std.proofs.lemmas.Option.{slice_get_within, same_Some}
-use Rattle.bz_model.specs.Fraction.{Fraction, AtMost, units, ratio}
+use Rattle.bz_model.specs.Fraction.{Fraction, units, ratio}
 use Rattle.bz_model.specs.Spec.{Spec, body_of}
 use Rattle.bz_model.specs.Object.{HasWithin, Belongs}
 use Rattle.bz_model.specs.Totals.{Above, Below}
-use Rattle.bz_laws.specs.Values.{Covers}
 use Rattle.bz_laws.proofs.Bounds.{below-max, above-min}
 use Rattle.bz_laws.proofs.Sweeps.{below-zero}
 use Rattle.bz_laws.proofs.Values.{covers-belongs, covers-height, covers-height_zero, reached-belongs, post_fixed-entries}
@@ -16,10 +15,10 @@ use Rattle.class_system.specs.Sound.{IsSound}
 use Rattle.class_system.proofs.Soundness.{body_in_range}
 use Rattle.fixed_enclosure.specs.UpperValues.{IsNoGreater, AreNoGreater}
 use Rattle.series_bounds.proofs.Fractions.{units-mono}
-use Rattle.rounded_map.specs.RoundedMap.{Setting, setting, value_at, at_each, lesser, repeated, values_down, values_up, bodies_down, bodies_up, sweep_down, sweep_up, IsPostFixed}
+use Rattle.rounded_map.specs.RoundedMap.{Setting, setting, amount, value_at, at_each, lesser, repeated, values_down, values_up, bodies_down, sweep_down, sweep_up, IsPostFixed}
 use Rattle.rounded_map.specs.Bounding.{AreAbove, AreAboveWithin, AreBelow, ValuesAbove, ValuesAboveWithin, ValuesBelow}
 use Rattle.rounded_map.proofs.LaidOut.{laid_out}
-use Rattle.rounded_map.proofs.Covering.{amount, told, up, down, values-cover, values-reached}
+use Rattle.rounded_map.proofs.Covering.{told, up, down, values-cover, values-reached}
 
 module _ (s : Spec) (x : Fraction) (F : ℕ) (sound : IsSound s) (classes : List ℕ) where
   abbrev vs : List (Option ℕ)
@@ -167,3 +166,31 @@ post_fixed-found t classes values bodies values_are bodies_are h = record {
       subst (λ (us : List (Option ℕ)). AreNoGreater (map (value_at us) t.spec.bodies) (map Some classes)) values_are
       (subst (λ (bs : List ℕ). AreNoGreater (map (value_at values) bs) (map Some classes)) bodies_are h);
 }
+
+-- At a fraction within the limits the ratio of its parts has these parts.
+at_least_one : (d : ℕ) → 1 ≤ d → max d 1 ≡ d
+at_least_one d h = omega arith
+
+pub sweeps-reached-at : (s : Spec) (num den F n : ℕ) → IsSound s → 1 ≤ den → AreBelow s (ratio num den) F (repeated (sweep_down (setting s num den F)) n (replicate (length s.bodies) 0))
+sweeps-reached-at s num den F n sound positive =
+    subst (λ d. AreBelow s (ratio num den) F (repeated (sweep_down (setting s num d F)) n (replicate (length s.bodies) 0))) (at_least_one den positive) (sweeps-reached s (ratio num den) F sound n)
+
+pub values-below-at : (s : Spec) (num den F : ℕ) (classes values : List ℕ) → IsSound s → 1 ≤ den → values ≡ values_down (setting s num den F) classes → AreBelow s (ratio num den) F classes → ValuesBelow s (ratio num den) F values
+values-below-at s num den F classes values sound positive are entries =
+    subst (λ vs. ValuesBelow s (ratio num den) F vs) (sym are)
+    (subst (λ d. ValuesBelow s (ratio num den) F (values_down (setting s num d F) classes)) (at_least_one den positive) (values-below s (ratio num den) F sound classes entries))
+
+pub values-above-at : (s : Spec) (num den F : ℕ) (classes : List ℕ) (values : List (Option ℕ)) → IsSound s → 1 ≤ den → values ≡ values_up (setting s num den F) classes → AreAbove s (ratio num den) F classes → ValuesAbove s (ratio num den) F values
+values-above-at s num den F classes values sound positive are entries =
+    subst (λ (vs : List (Option ℕ)). ValuesAbove s (ratio num den) F vs) (sym are)
+    (subst (λ d. ValuesAbove s (ratio num den) F (values_up (setting s num d F) classes)) (at_least_one den positive) (values-above s (ratio num den) F sound classes entries))
+
+pub sweep-below-at : (s : Spec) (num den F : ℕ) (classes swept : List ℕ) → IsSound s → 1 ≤ den → length classes ≡ length s.bodies → swept ≡ sweep_down (setting s num den F) classes → AreBelow s (ratio num den) F classes → AreBelow s (ratio num den) F swept
+sweep-below-at s num den F classes swept sound positive lengths is entries =
+    subst (λ vs. AreBelow s (ratio num den) F vs) (sym is)
+    (subst (λ d. AreBelow s (ratio num den) F (sweep_down (setting s num d F) classes)) (at_least_one den positive) (sweep-below s (ratio num den) F sound classes lengths entries))
+
+pub sweep-above-at : (s : Spec) (num den F : ℕ) (classes swept : List ℕ) → IsSound s → 1 ≤ den → length classes ≡ length s.bodies → swept ≡ sweep_up (setting s num den F) classes → AreAbove s (ratio num den) F classes → AreAbove s (ratio num den) F swept
+sweep-above-at s num den F classes swept sound positive lengths is entries =
+    subst (λ vs. AreAbove s (ratio num den) F vs) (sym is)
+    (subst (λ d. AreAbove s (ratio num den) F (sweep_up (setting s num d F) classes)) (at_least_one den positive) (sweep-above s (ratio num den) F sound classes lengths entries))

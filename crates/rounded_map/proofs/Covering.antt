@@ -1,5 +1,5 @@
 -- Upper values cover the nodes, and lower values are reached by them.
-use Rattle.std.proofs.Common.{◌≡◌, ℕ, zero, suc, ◌-◌, ◌^◌, ◌<◌, ◌≤◌, List, [], ◌∷◌, map, refl, sym, ap, subst, ◌∙◌, arith, Option, Some, None, slice_get}
+use Rattle.std.proofs.Common.{◌≡◌, ℕ, zero, suc, ◌-◌, ◌^◌, ◌≤◌, List, [], ◌∷◌, map, refl, sym, ap, subst, ◌∙◌, arith, Option, Some, None}
 use Rattle.std.specs.Prelude.{slice_index, sum, is_some, Bool, IsTrue, option_and_then}
 use Rattle.std.specs.List.{AllByRecursion}
 use Rattle.std.proofs.lemmas.List.Sums.{sum_by-cons}
@@ -12,22 +12,16 @@ use Rattle.bz_laws.specs.Terms.{term, product_by}
 use Rattle.bz_laws.specs.Sound.{EachPart}
 use Rattle.bz_laws.specs.Values.{CoversTerms, CoversNode, Covers, IsReachedByTerms, IsReachedByNode, AreReached}
 use Rattle.class_system.specs.Sound.{IsSound}
-use Rattle.class_system.proofs.Soundness.{IsUsable, has_range, seq_range, set_range, cycle_range}
-use Rattle.fixed_enclosure.specs.Rounded.{atom_down, atom_up}
+use Rattle.class_system.proofs.Soundness.{has_range, seq_range, set_range, cycle_range}
 use Rattle.fixed_enclosure.proofs.Enclosing.{atom_down-below, atom_up-above}
-use Rattle.series_bounds.specs.Series.{Kind, counted_down, counted_up, ranged_down, ranged_up}
-use Rattle.series_bounds.specs.Lists.{total_down, product_down, total_up, product_up, product_of}
+use Rattle.series_bounds.specs.Series.{Kind, counted_up, ranged_down, ranged_up}
+use Rattle.series_bounds.specs.Lists.{product_down, product_of}
 use Rattle.series_bounds.specs.ExactSums.{exact, sum_from, first_term}
 use Rattle.series_bounds.proofs.Fractions.{AtMost-trans, AtMost-refl, plus-mono, times-mono, units-mono, units-plus, units-plus', zero-least}
-use Rattle.series_bounds.proofs.Lists.{HasValues, product_down-le, product_up-ge, total_down-le, total_up-is}
+use Rattle.series_bounds.proofs.Lists.{product_down-le, product_up-ge, total_down-le, total_up-is}
 use Rattle.series_bounds.proofs.Rules.{part_down-reached, range_up-above, from_down-reached, from_up-above}
-use Rattle.rounded_map.specs.RoundedMap.{Setting, setting, value_at, value_down, value_up, values_down, values_up}
+use Rattle.rounded_map.specs.RoundedMap.{setting, amount, value_at, value_down, value_up, values_down, values_up}
 use Rattle.rounded_map.proofs.AtNode.{value_down-at, value_up-at}
-
--- The number of a value, 0 where there is none.
-abbrev pub amount : Option ℕ → ℕ
-amount None = 0
-amount (Some v) = v
 
 -- The sums of the laws and of the series are the same.
 same-sum : (f : ℕ → Fraction) (j n : ℕ) → laws.sum_from f j n ≡ sum_from f j n

@@ -1,5 +1,5 @@
 -- Going through the nodes, one value after another.
-use Rattle.std.proofs.Common.{◌≡◌, ℕ, suc, ◌+◌, ◌<◌, ◌≤◌, List, [], ◌∷◌, ◌++◌, length, map, take, set, get_or, arith, sym, ap, subst, ◌∙◌, add-one, Some, slice_get}
+use Rattle.std.proofs.Common.{◌≡◌, ℕ, ◌+◌, ◌<◌, ◌≤◌, List, [], length, map, take, set, get_or, arith, sym, ap, subst, ◌∙◌, add-one, Some, slice_get}
 use Rattle.std.proofs.Math.Seq.{take-suc-set}
 use Rattle.std.proofs.lemmas.List.{take_all, length-map}
 use Rattle.bz_model.specs.Spec.{Spec, Node, Range, node_at, range_at}

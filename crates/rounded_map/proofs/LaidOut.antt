@@ -1,8 +1,8 @@
 -- A sound specification is laid out as the laws on totals need it.
-use Rattle.std.proofs.Common.{◌≡◌, ℕ, zero, suc, ◌<◌, List, [], ◌∷◌, length, refl, arith, Some, slice_get, subst, sym}
+use Rattle.std.proofs.Common.{◌≡◌, ℕ, suc, ◌<◌, List, [], ◌∷◌, refl, arith, Some, slice_get}
 use Rattle.std.specs.List.{AllByRecursion}
 use Rattle.bz_model.specs.Spec.{Spec, Node, range_at, node_at}
-use Rattle.bz_laws.specs.Sound.{EachPart, HasSomePart, LetsItsLow, HasSoundRange, IsLaidOut}
+use Rattle.bz_laws.specs.Sound.{EachPart, HasSomePart, HasSoundRange, IsLaidOut}
 use Rattle.class_system.specs.Sound.{IsSound}
 use Rattle.class_system.specs.NodeOrder.{parts_of}
 use Rattle.class_system.proofs.Soundness.{part_below, has_range, has_body, class_in_range, union_parts, body_in_range, seq_range, set_range, cycle_range}

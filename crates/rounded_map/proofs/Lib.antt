@@ -7,3 +7,5 @@ pub mod AtNode
 pub mod Covering
 pub mod MapMonotone
 pub mod Bounding
+pub mod SlopesRunning
+pub mod Replaced

@@ -1,6 +1,6 @@
 -- The rounded map is monotone: at a vector that is nowhere greater, each node has an upper value wherever it has one
 -- at the other vector, and it is no greater. So an upper sweep of a post-fixed vector is post-fixed.
-use Rattle.std.proofs.Common.{◌≡◌, ℕ, zero, suc, ◌≤◌, ◌<◌, ◌^◌, List, [], ◌∷◌, ◌++◌, length, Option, Some, None, refl, sym, ◌∙◌, subst, arith}
+use Rattle.std.proofs.Common.{ℕ, zero, suc, ◌≤◌, ◌<◌, ◌^◌, List, [], ◌∷◌, ◌++◌, Option, Some, None, arith}
 use Rattle.std.specs.Prelude.{slice_index, map, option_and_then}
 use Rattle.std.proofs.Math.Nat.{le_refl, le_trans}
 use Rattle.bz_model.specs.Spec.{Node, Range}

@@ -1,5 +1,5 @@
 -- The parts of a node, one after another, are in range where each is.
-use Rattle.std.proofs.Common.{◌≡◌, ℕ, zero, suc, ◌+◌, ◌-◌, ◌<◌, List, [], ◌∷◌, map, length, get_or, take, drop, arith, ap, subst, sym}
+use Rattle.std.proofs.Common.{◌≡◌, ℕ, suc, ◌-◌, ◌<◌, List, [], ◌∷◌, map, length, get_or, take, drop, arith, ap, subst, sym}
 use Rattle.std.proofs.lemmas.List.{take_all}
 use Rattle.class_system.specs.Each.{Each}
 use Rattle.class_system.specs.Views.{number}

@@ -2,7 +2,7 @@
 use Rattle.std.proofs.Common.{◌≡◌, ℕ, Option, Some, None, sym, ap, ◌∙◌}
 use Rattle.std.specs.Prelude.{option_and_then}
 use Rattle.bz_model.specs.Spec.{Range}
-use Rattle.series_bounds.specs.Series.{Kind, part_down, from_down, range_up, from_up, counted_down, counted_up, ranged_down, ranged_up}
+use Rattle.series_bounds.specs.Series.{Kind, part_down, from_down, from_up, counted_down, counted_up, ranged_down, ranged_up}
 
 pub without_high-down : (kind : Kind) (f : ℕ) (r : Range) (a v : ℕ) → r.high ≡ None → v ≡ from_down kind f a r.low → v ≡ counted_down kind f r a
 without_high-down kind f r a v none is = is ∙ ap (ranged_down kind f a r.low) (sym none)

@@ -1,12 +1,12 @@
 -- The derivative of the rounded map along a vector, rounded up, and the dual sweep.
-use Rattle.std.specs.Prelude.{ℕ, zero, suc, ◌-◌, ◌*◌, Bool, List, [], ◌∷◌, ◌++◌, map, sum, drop, slice_index, Option, Some, None, option_and_then, if◌then◌else◌}
+use Rattle.std.specs.Prelude.{ℕ, suc, ◌-◌, ◌*◌, List, [], ◌∷◌, ◌++◌, map, sum, drop, slice_index, Option, Some, None, option_and_then, if◌then◌else◌}
 use Rattle.std.specs.List.{list_all}
 use Rattle.bz_model.specs.Spec.{Node, Range}
 use Rattle.class_system.specs.NodeResults.{node_results, ranged_nodes}
 use Rattle.fixed_enclosure.specs.Rounded.{Side, of_both, fits, if_fits, add_up, mul_up, seq_up}
 use Rattle.series_bounds.specs.Series.{Kind, exp_up, terms}
 use Rattle.series_bounds.specs.Lists.{total_up, product_up}
-use Rattle.rounded_map.specs.RoundedMap.{Setting, value_at, all_values, bodies_up}
+use Rattle.rounded_map.specs.RoundedMap.{Setting, value_at, all_values}
 
 -- The products in which one part's value is replaced by its derivative, part after part.
 abbrev pub replaced_products : (f : ℕ) → (before values derivatives : List (Option ℕ)) → List (Option ℕ)
@@ -68,6 +68,10 @@ derivative_up t values d before (Node.Cyc part) range = counted_derivative Kind.
 abbrev pub derivatives_up : Setting → (values : List (Option ℕ)) → (d : List ℕ) → List (Option ℕ)
 derivatives_up t values d = node_results (derivative_up t values d) [] (ranged_nodes t.spec)
 
+-- A class's new number: 256 units and the derivative of its body.
+abbrev pub dual_at : (derivatives : List (Option ℕ)) → (body : ℕ) → Option ℕ
+dual_at derivatives body = of_both add_up (Some 256) (value_at derivatives body)
+
 -- A dual sweep: each class gets 256 units and the derivative of its body along the old vector.
 abbrev pub sweep_dual : Setting → (values : List (Option ℕ)) → (d : List ℕ) → Option (List ℕ)
-sweep_dual t values d = all_values (map (of_both add_up (Some 256)) (bodies_up t (derivatives_up t values d)))
+sweep_dual t values d = all_values (map (dual_at (derivatives_up t values d)) t.spec.bodies)

@@ -1,3 +1,5 @@
 pub mod RoundedMap
 pub mod Bounding
 pub mod Derivative
+pub mod CountedKinds
+pub mod SlopeSums

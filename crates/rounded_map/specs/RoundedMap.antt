@@ -20,6 +20,11 @@ pub record Setting : Type 0 where
 abbrev pub value_at : List (Option ℕ) → ℕ → Option ℕ
 value_at vs i = slice_index_or vs i None
 
+-- The number of a value, 0 where there is none.
+abbrev pub amount : Option ℕ → ℕ
+amount None = 0
+amount (Some v) = v
+
 -- All the values, where each is there.
 abbrev pub all_values : List (Option ℕ) → Option (List ℕ)
 all_values [] = Some []

@@ -1,5 +1,6 @@
 //! Lower values of the nodes, and lower sweeps.
 ghost use Rattle.std.specs.Prelude.{◌≡◌, ℕ, ◌+◌, ◌<◌, ◌≤◌, max, map, length, slice_index};
+ghost use Rattle.bz_model.specs.Fraction.{ratio};
 ghost use Rattle.bz_model.specs.Spec.{Spec};
 ghost use Rattle.class_system.specs.Each.{Each};
 ghost use Rattle.class_system.specs.Sound.{RefersBelow, HasTextRange, IsTextRange};
@@ -9,6 +10,7 @@ ghost use Rattle.fixed_enclosure.specs.Rounded.{atom_down};
 ghost use Rattle.series_bounds.specs.Series.{Kind, counted_down};
 ghost use Rattle.series_bounds.specs.Lists.{total_down, product_down};
 ghost use Rattle.rounded_map.specs.RoundedMap.{setting, at_each, value_down, values_down, sweep_down};
+ghost use Rattle.rounded_map.specs.Bounding.{AreBelow, ValuesBelow};
 
 use bz_model::fraction::Fraction;
 use bz_model::steps::Steps;
@@ -24,7 +26,8 @@ use std::sync::ledger::Ledger;
 /// The lower value of each node at the class vector.
 ///
 /// `classes` has one entry per class and `nodes` one per node, both in units of `2^-F`. `nodes` is
-/// overwritten. One tick. Takes no memory.
+/// overwritten. Where the entries are reached by the classes, the values are reached by the nodes. One
+/// tick. Takes no memory.
 pub fn eval_lo<const F: u32, L: Ledger>(
     system: &System,
     x: Fraction,
@@ -36,6 +39,7 @@ pub fn eval_lo<const F: u32, L: Ledger>(
     requires one_per_class { length classes.now ≡ length system.now.bodies }
     requires one_per_node { length nodes.old ≡ length system.now.nodes }
     ensures values { nodes.new ≡ values_down (setting system.now x.num x.den F) classes.now }
+    ensures reached { AreBelow system.now (ratio x.num x.den) F classes.now → ValuesBelow system.now (ratio x.num x.den) F nodes.new }
     ensures ticks { steps.new ≡ steps.old + 1 }
 {
     steps.tick();
@@ -52,8 +56,8 @@ pub fn eval_lo<const F: u32, L: Ledger>(
 /// One lower sweep: each class gets the greater of its entry and its body's lower value.
 ///
 /// `classes` has one entry per class and `nodes` one per node, both in units of `2^-F`. `nodes` is
-/// overwritten. One tick. Takes no memory. A step of Kleene iteration (Pivoteau, Salvy and Soria
-/// 2012).
+/// overwritten. Where the old entries are reached by the classes, the new ones are. One tick. Takes no
+/// memory. A step of Kleene iteration (Pivoteau, Salvy and Soria 2012).
 pub fn sweep_lo<const F: u32, L: Ledger>(
     system: &System,
     x: Fraction,
@@ -66,6 +70,7 @@ pub fn sweep_lo<const F: u32, L: Ledger>(
     requires one_per_node { length nodes.old ≡ length system.now.nodes }
     ensures swept { classes.new ≡ sweep_down (setting system.now x.num x.den F) classes.old }
     ensures values { nodes.new ≡ values_down (setting system.now x.num x.den F) classes.old }
+    ensures reached { AreBelow system.now (ratio x.num x.den) F classes.old → AreBelow system.now (ratio x.num x.den) F classes.new }
     ensures ticks { steps.new ≡ steps.old + 1 }
 {
     eval_lo::<F, L>(system, x, classes, nodes, steps);

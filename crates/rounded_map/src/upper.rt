@@ -11,7 +11,7 @@ ghost use Rattle.fixed_enclosure.specs.Rounded.{atom_up, add_up, mul_up, of_both
 ghost use Rattle.series_bounds.specs.Series.{Kind, counted_up};
 ghost use Rattle.series_bounds.specs.Lists.{total_up, product_up};
 ghost use Rattle.rounded_map.specs.RoundedMap.{setting, at_each, lesser, value_at, value_up, values_up, bodies_up, sweep_up, IsPostFixed, IsFirstAbove, IsFirstMissing};
-ghost use Rattle.rounded_map.specs.Bounding.{AreAbove};
+ghost use Rattle.rounded_map.specs.Bounding.{AreAbove, ValuesAbove};
 
 use bz_model::fraction::Fraction;
 use bz_model::steps::Steps;
@@ -27,7 +27,7 @@ use series_bounds::{
 use std::sync::ledger::Ledger;
 
 /// The most nodes of a system.
-const MOST_NODES: usize = 512;
+pub(crate) const MOST_NODES: usize = 512;
 
 /// A node has no upper value.
 #[derive(Clone, Copy, Debug, PartialEq, Eq)]
@@ -49,7 +49,7 @@ pub struct PostFault {
 ///
 /// `classes` has one entry per class and `nodes` one per node, both in units of `2^-F`. `nodes` is
 /// overwritten. `NoValue` comes exactly where a node has no upper value, with the least such node.
-/// One tick. Takes no memory.
+/// Where the entries bound the classes, the values bound the nodes. One tick. Takes no memory.
 pub fn eval_hi<const F: u32, L: Ledger>(
     system: &System,
     x: Fraction,
@@ -61,6 +61,7 @@ pub fn eval_hi<const F: u32, L: Ledger>(
     requires one_per_class { length classes.now ≡ length system.now.bodies }
     requires one_per_node { length nodes.old ≡ length system.now.nodes }
     ensures values { OnOk result (map Some nodes.new ≡ values_up (setting system.now x.num x.den F) classes.now) }
+    ensures bounds { OnOk result (AreAbove system.now (ratio x.num x.den) F classes.now → ValuesAbove system.now (ratio x.num x.den) F (map Some nodes.new)) }
     ensures fault { IfErr result (λ fault. IsFirstMissing (values_up (setting system.now x.num x.den F) classes.now) fault.node.0) }
     ensures ticks { steps.new ≡ steps.old + 1 }
 {
@@ -73,7 +74,7 @@ pub fn eval_hi<const F: u32, L: Ledger>(
 }
 
 /// Copies the values, up to the first that is missing.
-fn copy_values(values: &[Option<u64>], nodes: &mut [u64]) -> Result<(), NoValue>
+pub(crate) fn copy_values(values: &[Option<u64>], nodes: &mut [u64]) -> Result<(), NoValue>
     requires lengths { length nodes.old ≡ length values.now }
     requires few { length values.now ≤ 512 }
     ensures length { length nodes.new ≡ length values.now }
@@ -148,7 +149,7 @@ fn node_hi<const F: u32>(
 }
 
 /// The upper sum of the values of parts, added from left to right.
-fn union_hi(parts: &[ExprId], before: &[Option<u64>]) -> Option<u64>
+pub(crate) fn union_hi(parts: &[ExprId], before: &[Option<u64>]) -> Option<u64>
     requires parts { Each (λ p. p < length before.now) (map number parts.now) }
     ensures sum { result ≡ total_up (map (value_at before.now) (map number parts.now)) }
 {
@@ -163,7 +164,7 @@ fn union_hi(parts: &[ExprId], before: &[Option<u64>]) -> Option<u64>
 }
 
 /// The upper sum of two values, where both are there.
-fn add_hi(a: Option<u64>, b: Option<u64>) -> Option<u64>
+pub(crate) fn add_hi(a: Option<u64>, b: Option<u64>) -> Option<u64>
     ensures { result ≡ of_both add_up a b }
 {
     let sum = Hi::<0>(a?).add(Hi(b?))?;
@@ -187,7 +188,7 @@ fn product_hi<const F: u32>(parts: &[ExprId], before: &[Option<u64>]) -> Option<
 }
 
 /// The upper product of two values, where both are there.
-fn mul_hi<const F: u32>(a: Option<u64>, b: Option<u64>) -> Option<u64>
+pub(crate) fn mul_hi<const F: u32>(a: Option<u64>, b: Option<u64>) -> Option<u64>
     requires fraction_bits { (24 ≤ F) × (F ≤ 56) }
     ensures { result ≡ of_both (mul_up F) a b }
 {
@@ -244,7 +245,7 @@ fn cycle_hi<const F: u32>(part: Option<u64>, range: Range) -> Option<u64>
 /// entry where there is none.
 ///
 /// `classes` has one entry per class and `nodes` one per node, both in units of `2^-F`. `nodes` is
-/// overwritten. One tick. Takes no memory.
+/// overwritten. Where the old entries bound the classes, the new ones do. One tick. Takes no memory.
 pub fn sweep_hi<const F: u32, L: Ledger>(
     system: &System,
     x: Fraction,
@@ -256,6 +257,7 @@ pub fn sweep_hi<const F: u32, L: Ledger>(
     requires one_per_class { length classes.old ≡ length system.now.bodies }
     requires one_per_node { length nodes.old ≡ length system.now.nodes }
     ensures swept { classes.new ≡ sweep_up (setting system.now x.num x.den F) classes.old }
+    ensures bounds { AreAbove system.now (ratio x.num x.den) F classes.old → AreAbove system.now (ratio x.num x.den) F classes.new }
     ensures length { length nodes.new ≡ length nodes.old }
     ensures ticks { steps.new ≡ steps.old + 1 }
 {

@@ -1,5 +1,5 @@
 -- Lists of numbers in lists of cells: taken apart where the cells are, and one for every list of cells.
-use Rattle.std.proofs.Common.{◌≡◌, ℕ, suc, ◌*◌, ◌^◌, ◌<◌, ◌≤◌, List, [], ◌∷◌, ◌++◌, arith, refl, ap}
+use Rattle.std.proofs.Common.{◌≡◌, ◌^◌, List, [], ◌∷◌, ◌++◌, arith, refl, ap}
 use Rattle.std.proofs.lemmas.Nat.{pow_pos}
 use Rattle.bz_model.specs.declared.cell.Cell.{Cell}
 use Rattle.bz_model.specs.Fraction.{Fraction}

@@ -1,10 +1,10 @@
 -- One visit goes on as ideal making does: a lemma for each kind of node.
-use Rattle.std.proofs.Common.{◌≡◌, ◌⊎◌, inl, inr, ℕ, zero, suc, ◌≤◌, List, [], ◌∷◌, ◌++◌, refl, sym, ◌∙◌, ap, subst, append_assoc, append-nil, replicate, slice_get, Some}
+use Rattle.std.proofs.Common.{◌≡◌, ◌⊎◌, inl, inr, ℕ, suc, ◌≤◌, List, [], ◌∷◌, ◌++◌, refl, sym, ◌∙◌, ap, subst, append_assoc, append-nil, replicate, slice_get, Some}
 use Rattle.bz_model.specs.declared.cell.Cell.{Cell}
 use Rattle.bz_model.specs.Fraction.{Fraction}
 use Rattle.bz_model.specs.Spec.{Spec, Node, node_at, body_of}
 use Rattle.bz_model.specs.Cell.{IsInCell, AreInCells}
-use Rattle.bz_model.specs.Object.{Object, Objects, none, more, count}
+use Rattle.bz_model.specs.Object.{Object, Objects, more}
 use Rattle.bz_model.specs.Measures.{HasZero}
 use Rattle.bz_model.specs.Ideal.{IsIdealOption}
 use Rattle.bz_model.specs.Making.{Made, Just, Over, AllMade, All, AllOver, Makes, MakesEach, ClassMakes, IsCounted}
@@ -12,7 +12,7 @@ use Rattle.bz_model.specs.Making as making
 use Rattle.object_store.specs.declared.token.Token.{Token}
 use Rattle.object_store.specs.declared.token.Token.TheVariants as token
 use Rattle.object_store.specs.Tokens.{tokens_of, tokens_all}
-use Rattle.object_store.proofs.NextToken.{joined, tokens_all-joined, form-tokens}
+use Rattle.object_store.proofs.NextToken.{tokens_all-joined, form-tokens}
 use Rattle.shape_sampler.specs.Belonging.{MakesTokens, GoesOn, IsIdealOver}
 use Rattle.shape_sampler.proofs.Numbers.{apart, none_in, one_in}
 use Rattle.shape_sampler.proofs.Making.{leading, nothing, never_over, over_cases, parted, over_parted, count-made}

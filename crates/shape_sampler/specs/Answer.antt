@@ -1,19 +1,15 @@
 -- What a step's answer tells of the visit.
-use Rattle.std.specs.Prelude.{◌≡◌, ◌≢◌, ℕ, Bool, List, [], ◌∷◌, ◌++◌, slice_get, Option, Some, None}
-use Rattle.bz_model.specs.declared.cell.Cell.{Cell}
+use Rattle.std.specs.Prelude.{◌≡◌, ◌≢◌, ℕ, Bool, List, ◌∷◌, ◌++◌, Option, Some, None}
 use Rattle.bz_model.specs.declared.cell.Bounds.{Bounds}
 use Rattle.bz_model.specs.Fraction.{Fraction}
 use Rattle.bz_model.specs.Spec.{Spec}
-use Rattle.bz_model.specs.Cell.{IsInCell}
-use Rattle.bz_model.specs.Ideal.{IsIdealOption}
-use Rattle.object_store.specs.declared.token.Token.TheVariants as token
-use Rattle.choice_draw.specs.Decision.{Choice, IsUnion, union_decision}
-use Rattle.choice_draw.specs.Draw.{bit_of}
+use Rattle.choice_draw.specs.Decision.{IsUnion, union_decision}
+use Rattle.choice_draw.specs.Draw.{Bit, bit_of}
 use Rattle.shape_sampler.specs.declared.stepped.Stepped.{Stepped}
 use Rattle.shape_sampler.specs.declared.stepped.Stepped.TheVariants.{Moved, Made, Overshot, Straddles, Ended, ReadFault, OutOfMemory}
 use Rattle.shape_sampler.specs.Visit.{Chooser, Attempt, Visited, visit, atom_visited, with_pending}
 use Rattle.shape_sampler.specs.State.{SessionState, attempt_of, Leaves}
-use Rattle.shape_sampler.specs.Belonging.{Belonging, IsIdealShape, IsIdealOver}
+use Rattle.shape_sampler.specs.Belonging.{IsIdealShape, IsIdealOver}
 
 -- The visit that an answer tells, where it isn't want of memory: the session as it is now, so many bits being used now.
 abbrev pub told_visit : Stepped → (now : SessionState) → (used : ℕ) → Visited
@@ -39,14 +35,26 @@ pub record ChoosesBy (s : Spec) (table : (level node : ℕ) → Bounds) (c : Cho
 pub record IsVisit (c : Chooser) (bits : ℕ → Option Bool) (before : SessionState) (start : ℕ) (answer : Stepped) (now : SessionState) (used : ℕ) : Type 0 where
   pub same : answer ≢ OutOfMemory → told_visit answer now used ≡ visit c (bit_of bits (fault_place answer used)) (attempt_of before start)
 
+-- An answer is that of the visit by every chooser of the specification, over any bits, so many being used before and after.
+pub record IsVisitOfAll (s : Spec) (before : SessionState) (answer : Stepped) (now : SessionState) : Type 0 where
+  pub same : (c : Chooser) (bit : ℕ → Bit) (used : ℕ) → c.spec ≡ s → told_visit answer now used ≡ visit c bit (attempt_of before used)
+
 -- What was made is the shape that ideal making makes for every list of numbers in the cells; what was overshot is over for every such list.
 abbrev pub IsIdealAnswer : (s : Spec) (x : Fraction) → Stepped → (now : SessionState) → Type 0
 IsIdealAnswer s x Made now = IsIdealShape s x now.whole now.tokens now.cells
 IsIdealAnswer s x Overshot now = IsIdealOver s x now.whole now.cells
 IsIdealAnswer s x _ now = Unit {0}
 
+-- An answer that needs no tape: it is none of a straddling cell, the tape's end and a failed read.
+abbrev pub IsPlainAnswer : Stepped → Type 0
+IsPlainAnswer (Straddles node cell) = ⊥
+IsPlainAnswer Ended = ⊥
+IsPlainAnswer ReadFault = ⊥
+IsPlainAnswer _ = Unit {0}
+
 -- The answer and the session after the visit of a node that takes no number: what the visit makes of an attempt and of the nodes after the first pending one.
 pub record IsPlainVisit (visited : Attempt → (rest : List ℕ) → Visited) (before : SessionState) (answer : Stepped) (now : SessionState) : Type 0 where
+  pub plain : IsPlainAnswer answer
   pub leaves : Leaves answer before now
   pub same : answer ≢ OutOfMemory → (e : ℕ) (rest : List ℕ) (used : ℕ) → before.pending ≡ e ∷ rest → told_visit answer now used ≡ visited (attempt_of before used) rest
 
@@ -57,21 +65,3 @@ room_atom_visited a rest = atom_visited a rest a.room
 -- These nodes are put in the place of the first pending one.
 abbrev pub replaced_by : (nodes : List ℕ) → Attempt → (rest : List ℕ) → Visited
 replaced_by nodes a rest = Visited.Went (with_pending a (nodes ++ rest))
-
--- An option was drawn that is the ideal one for every number of its cell; its part is pending in the union's place, after its token and cell.
-pub record HasPicked (s : Spec) (x : Fraction) (e : ℕ) (parts : List ℕ) (before now : SessionState) : Type 0 where
-  pub option : ℕ
-  pub part : ℕ
-  pub cell : Cell
-  pub is_part : slice_get parts option ≡ Some part
-  pub ideal : (u : Fraction) → IsInCell cell.k cell.b u → IsIdealOption s x u e option
-  pub tokens : now.tokens ≡ before.tokens ++ token.Pick option ∷ []
-  pub cells : now.cells ≡ before.cells ++ cell ∷ []
-  pub room : now.room ≡ before.room
-  pub pending : (rest : List ℕ) → before.pending ≡ e ∷ rest → now.pending ≡ part ∷ rest
-
--- A union was visited: where the answer is Moved, an option was picked.
-pub record IsPickVisit (s : Spec) (x : Fraction) (e : ℕ) (parts : List ℕ) (before : SessionState) (answer : Stepped) (now : SessionState) : Type 0 where
-  pub never_made : answer ≢ Made
-  pub never_over : answer ≢ Overshot
-  pub picks : answer ≡ Moved → HasPicked s x e parts before now

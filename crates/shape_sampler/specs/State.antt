@@ -1,9 +1,13 @@
 -- The state of a session.
-use Rattle.std.specs.Prelude.{◌≡◌, ◌≢◌, ℕ, ◌<◌, length, List, [], ◌∷◌, Option, Some, None}
+use Rattle.std.specs.Prelude.{◌≡◌, ◌≢◌, ℕ, ◌<◌, length, slice_index, List, [], ◌∷◌, Option, Some, None}
 use Rattle.bz_model.specs.declared.cell.Cell.{Cell}
 use Rattle.bz_model.specs.Fraction.{Fraction}
 use Rattle.bz_model.specs.Spec.{Spec, body_of}
+use Rattle.class_system.specs.declared.ids.ExprId.{ExprId}
+use Rattle.choice_draw.specs.declared.drawn.Drawn.{Drawn}
+use Rattle.choice_draw.specs.declared.drawn.Drawn.TheVariants as drawn
 use Rattle.object_store.specs.declared.token.Token.{Token}
+use Rattle.object_store.specs.declared.token.Token.TheVariants as token
 use Rattle.shape_sampler.specs.declared.stepped.Stepped.{Stepped}
 use Rattle.shape_sampler.specs.declared.stepped.Stepped.TheVariants.{Moved, Made, Overshot, Straddles, Ended, ReadFault, OutOfMemory}
 use Rattle.shape_sampler.specs.Visit.{Attempt}
@@ -65,3 +69,32 @@ IsStop (Some (Straddles node cell)) = Unit {0}
 IsStop (Some Ended) = Unit {0}
 IsStop (Some ReadFault) = Unit {0}
 IsStop _ = ⊥
+
+-- The answer to a draw at a union.
+abbrev pub union_answer : ExprId → Drawn → Stepped
+union_answer node (drawn.Value value cell) = Moved
+union_answer node (drawn.Straddles cell) = Straddles node cell
+union_answer node drawn.Ended = Ended
+union_answer node drawn.ReadFault = ReadFault
+
+-- What an answer leaves a session stopped by.
+abbrev pub stop_after : Stepped → Option Stepped
+stop_after (Straddles node cell) = Some (Straddles node cell)
+stop_after Ended = Some Ended
+stop_after ReadFault = Some ReadFault
+stop_after _ = None
+
+-- The tokens that an answer of a draw at a union adds: its option, where there is one.
+abbrev pub drawn_tokens : Drawn → List Token
+drawn_tokens (drawn.Value value cell) = token.Pick value ∷ []
+drawn_tokens _ = []
+
+-- The cells that an answer of a draw adds.
+abbrev pub drawn_cells : Drawn → List Cell
+drawn_cells (drawn.Value value cell) = cell ∷ []
+drawn_cells _ = []
+
+-- The part that was drawn is put in the place of the first pending node; without one the same nodes are pending.
+abbrev pub PutsPart : (parts : List ℕ) → Drawn → (before now : List ℕ) → Type 0
+PutsPart parts (drawn.Value value cell) before now = (e : ℕ) (rest : List ℕ) → before ≡ e ∷ rest → now ≡ slice_index parts value ∷ rest
+PutsPart parts _ before now = now ≡ before

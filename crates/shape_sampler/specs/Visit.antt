@@ -1,5 +1,5 @@
 -- One visit of an attempt: the first pending node is visited.
-use Rattle.std.specs.Prelude.{ℕ, zero, suc, ◌+◌, Bool, List, [], ◌∷◌, ◌++◌, replicate, slice_get, slice_index, Option, Some, None, if◌then◌else◌}
+use Rattle.std.specs.Prelude.{ℕ, zero, suc, ◌+◌, Bool, List, [], ◌∷◌, ◌++◌, replicate, slice_index, Option, Some, None, if◌then◌else◌}
 use Rattle.bz_model.specs.declared.cell.Cell.{Cell}
 use Rattle.bz_model.specs.Spec.{Spec, Node, node_at}
 use Rattle.object_store.specs.declared.token.Token.{Token}

@@ -1,4 +1,3 @@
-//! Attempts: one node of a class's object is visited at a time.
 //! Attempts: shapes made node by node from tape bits.
 //!
 //! A session visits one pending node at a time (`specs/Visit.antt`). When nothing is pending, its

@@ -1,11 +1,13 @@
 //! Tokens, cells and nodes, put where there is spare room.
 ghost use Rattle.std.specs.Prelude.{◌≡◌, ◌<◌, ◌≤◌, [], ◌∷◌, ◌++◌, map, length, ℕ, List};
 ghost use Rattle.class_system.specs.Views.{number};
-ghost use Rattle.shape_sampler.specs.State.{answer_for};
+ghost use Rattle.shape_sampler.specs.State.{answer_for, union_answer, stop_after, PutsPart, drawn_tokens, drawn_cells};
+ghost use Rattle.choice_draw.specs.Answer.{OnValue};
 
 use crate::stepped::Stepped;
 use bz_model::cell::Cell;
 use bz_model::cells::Cells;
+use choice_draw::drawn::Drawn;
 use class_system::ids::ExprId;
 use object_store::pending::Pending;
 use object_store::shape::Shape;
@@ -54,5 +56,52 @@ pub(crate) fn answer(pending: &Pending) -> Stepped
         Stepped::Made
     } else {
         Stepped::Moved
+    }
+}
+
+/// Puts what was drawn at a union: the option's token, its cell and its part.
+pub(crate) fn put_drawn(
+    pending: &mut Pending,
+    shape: &mut Shape,
+    cells: &mut Cells,
+    parts: &[ExprId],
+    drawn: Drawn,
+)
+    requires pending_spare { 0 < pending.old.spare }
+    requires shape_spare { 0 < shape.old.spare }
+    requires cells_spare { 0 < cells.old.spare }
+    requires in_range { OnValue drawn (λ i cell. i < length parts.now) }
+    requires few { length parts.now ≤ 64 }
+    ensures pending { PutsPart (map number parts.now) drawn pending.old.items pending.new.items }
+    ensures tokens { shape.new.items ≡ shape.old.items ++ drawn_tokens drawn }
+    ensures cells { cells.new.items ≡ cells.old.items ++ drawn_cells drawn }
+{
+    let Drawn::Value { value, cell } = drawn else {
+        return;
+    };
+    put_token(shape, Token::Pick(value as u32));
+    put_cell(cells, cell);
+    replace_first(pending, &[parts[value as usize]]);
+}
+
+/// The answer to a draw at a union.
+pub(crate) fn answer_to(node: ExprId, drawn: Drawn) -> Stepped
+    ensures { result ≡ union_answer node drawn }
+{
+    match drawn {
+        Drawn::Value { .. } => Stepped::Moved,
+        Drawn::Straddles { cell } => Stepped::Straddles { node, cell },
+        Drawn::Ended => Stepped::Ended,
+        Drawn::ReadFault => Stepped::ReadFault,
+    }
+}
+
+/// What an answer leaves a session stopped by.
+pub(crate) fn stop_of(answer: Stepped) -> Option<Stepped>
+    ensures { result ≡ stop_after answer }
+{
+    match answer {
+        Stepped::Straddles { .. } | Stepped::Ended | Stepped::ReadFault => Some(answer),
+        Stepped::Moved | Stepped::Made | Stepped::Overshot | Stepped::OutOfMemory => None,
     }
 }

@@ -1,17 +1,17 @@
 //! Sessions: attempts, made one visit at a time.
-ghost use Rattle.std.specs.Prelude.{◌≡◌, ◌≢◌, ℕ, ◌+◌, ◌-◌, ◌≤◌, ◌↔◌, max, [], ◌∷◌, List, map, slice_get, Some, None, IfSome, IsSome, IfOk, OnOk, OnErr, IsTrue};
+ghost use Rattle.std.specs.Prelude.{◌≡◌, ◌≢◌, ℕ, ◌+◌, ◌-◌, ◌<◌, ◌≤◌, ◌↔◌, max, [], ◌∷◌, List, map, length, slice_get, Some, None, IfSome, IsSome, IfOk, OnOk, OnErr, IsTrue};
 ghost use Rattle.bz_model.specs.Fraction.{Fraction};
 ghost use Rattle.bz_model.specs.Spec.{Spec, Node, node_at, body_of};
 ghost use Rattle.bz_model.specs.Oracle.{cost_between};
 ghost use Rattle.class_system.specs.Views.{number};
 ghost use Rattle.bit_tape.specs.Tape.{TapeSource, Belongs, bits_of, HasFault};
-ghost use Rattle.choice_draw.specs.Decision.{level_for};
+ghost use Rattle.choice_draw.specs.Decision.{IsUnion, level_for};
 ghost use Rattle.shape_sampler.specs.Ready.{IsReady};
 ghost use Rattle.shape_sampler.specs.Visit.{Chooser, leaf_visited};
-ghost use Rattle.shape_sampler.specs.State.{SessionState, SessionBelongs, begun_state, Leaves, IsStop, stopped_by};
-ghost use Rattle.shape_sampler.specs.Answer.{ChoosesBy, IsVisit, IsIdealAnswer, IsPlainVisit, IsPickVisit, room_atom_visited, replaced_by};
+ghost use Rattle.shape_sampler.specs.State.{SessionState, SessionBelongs, begun_state, Leaves};
+ghost use Rattle.shape_sampler.specs.Answer.{ChoosesBy, IsVisit, IsIdealAnswer, IsVisitOfAll, IsPlainAnswer, IsPlainVisit, room_atom_visited, replaced_by};
 
-use crate::placing::{answer, put_cell, put_token, replace_first};
+use crate::placing::{answer, answer_to, put_drawn, put_token, replace_first, stop_of};
 use crate::stepped::Stepped;
 use bit_tape::tape::Tape;
 use bz_model::cell::Cell;
@@ -167,14 +167,32 @@ impl Session {
         let Some(e) = self.pending.first() else {
             unreachable!()
         };
-        match system.node(e) {
+        if let Expr::Union(parts) = system.node(e) {
+            return self.visit_union(system, e, parts.items(), oracle, tape, shelf, steps);
+        }
+        self.visit_plain(system, e)
+    }
+
+    /// Visits a node that takes no number.
+    fn visit_plain(&mut self, system: &System, node: ExprId) -> Stepped
+        requires ready { IsReady system.now }
+        requires in_range { node.0 < length system.now.nodes }
+        requires plain { ¬ IsUnion system.now node.0 }
+        requires running { self.old.stopped ≡ None }
+        requires first { slice_get self.old.pending 0 ≡ Some node.0 }
+        ensures plain { IsPlainAnswer result }
+        ensures leaves { Leaves result self.old self.new }
+        ensures exact { result ≢ Stepped.OutOfMemory → IsVisitOfAll system.now self.old result self.new }
+        ensures session { (x : Fraction) → SessionBelongs system.now x self.old
+            → SessionBelongs system.now x self.new × IsIdealAnswer system.now x result self.new }
+    {
+        system.known();
+        match system.node(node) {
             Expr::Empty(_) => self.visit_leaf(),
             Expr::Atom(_) => self.visit_atom(),
             Expr::Class(c) => self.visit_class(system.body(*c)),
             Expr::Product(parts) => self.visit_product(parts.items()),
-            Expr::Union(parts) => {
-                self.visit_union(system, e, parts.items(), oracle, tape, shelf, steps)
-            }
+            Expr::Union(_) => unreachable!(),
             Expr::Seq(_) | Expr::Set(_) | Expr::Cyc(_) => unreachable!(),
         }
     }
@@ -185,7 +203,7 @@ impl Session {
         requires pending { self.old.pending ≢ [] }
         ensures { IsPlainVisit leaf_visited self.old result self.new }
     {
-        if self.shape.reserve(1).is_err() || self.pending.reserve(0).is_err() {
+        if self.shape.reserve(1).is_err() {
             return Stepped::OutOfMemory;
         }
         put_token(&mut self.shape, Token::Unit);
@@ -252,6 +270,7 @@ impl Session {
         requires fraction { (24 ≤ F) × (F ≤ 56) }
         requires spec { O.spec oracle.old ≡ system.now }
         requires union { node_at system.now node.0 ≡ Some (Node.Union (map number parts.now)) }
+        requires few { length parts.now ≤ 64 }
         requires running { self.old.stopped ≡ None }
         requires first { slice_get self.old.pending 0 ≡ Some node.0 }
         requires tape { Belongs (S.content shelf.old) tape.old }
@@ -259,7 +278,8 @@ impl Session {
         ensures no_memory { result ≡ Stepped.OutOfMemory → (self.new ≡ self.old) × (tape.new ≡ tape.old) × (oracle.new ≡ oracle.old) }
         ensures leaves { Leaves result self.old self.new }
         ensures exact { IfSome (bits_of tape.old.source (S.content shelf.old)) (λ bits. (c : Chooser) → ChoosesBy system.now (O.table oracle.old) c → IsVisit c bits self.old tape.old.used result self.new tape.new.used) }
-        ensures picks { IsPickVisit system.now (O.x oracle.old) node.0 (map number parts.now) self.old result self.new }
+        ensures session { SessionBelongs system.now (O.x oracle.old) self.old
+            → SessionBelongs system.now (O.x oracle.old) self.new × IsIdealAnswer system.now (O.x oracle.old) result self.new }
 
         ensures spec { O.spec oracle.new ≡ O.spec oracle.old }
         ensures x { O.x oracle.new ≡ O.x oracle.old }
@@ -282,26 +302,17 @@ impl Session {
         {
             return Stepped::OutOfMemory;
         }
-        match draw_union(system, node, oracle, tape, shelf, steps) {
-            Drawn::Value { value, cell } => {
-                put_token(&mut self.shape, Token::Pick(value as u32));
-                put_cell(&mut self.cells, cell);
-                replace_first(&mut self.pending, &[parts[value as usize]]);
-                Stepped::Moved
-            }
-            Drawn::Straddles { cell } => self.stop(Stepped::Straddles { node, cell }),
-            Drawn::Ended => self.stop(Stepped::Ended),
-            Drawn::ReadFault => self.stop(Stepped::ReadFault),
-        }
-    }
-
-    /// Stops the session by an answer.
-    fn stop(&mut self, answer: Stepped) -> Stepped
-        requires { IsStop (Some answer) }
-        ensures answer { result ≡ answer }
-        ensures stopped { self.new ≡ stopped_by self.old answer }
-    {
-        self.stopped = Some(answer);
+        system.known();
+        let drawn = draw_union(system, node, oracle, tape, shelf, steps);
+        put_drawn(
+            &mut self.pending,
+            &mut self.shape,
+            &mut self.cells,
+            parts,
+            drawn,
+        );
+        let answer = answer_to(node, drawn);
+        self.stopped = stop_of(answer);
         answer
     }
 }

@@ -1,14 +1,9 @@
 -- The way down, step by step.
-use Rattle.std.proofs.Common.{◌≡◌, ◌-◌, ◌≤◌, ◌<◌, zero, suc, ℕ, [], ◌∷◌, arith, sym, subst, ap, Some, None}
-use Rattle.bz_model.specs.Spec.{Spec}
-use Rattle.class_system.specs.declared.ids.ExprId.{ExprId}
-use Rattle.object_store.specs.Tokens.{AreOf}
-use Rattle.object_store.specs.Walk.{Expands}
-use Rattle.object_store.proofs.Descent.{Descent, descent-start, descent-expand, too_long}
-use Rattle.object_text.specs.declared.todo.Todo.{Todo}
+use Rattle.std.proofs.Common.{◌≤◌, ◌∷◌, arith, sym, subst}
+use Rattle.object_store.proofs.Descent.{Descent, descent-start}
 use Rattle.object_text.specs.declared.todo.Todo.TheVariants as todo
-use Rattle.object_text.specs.Printing.{Prints, ArePrinted, Goes, nodes_of, IsNextNode, ExpandsIf}
-use Rattle.object_text.proofs.Ways.{are-of, all-below, not_over, through}
+use Rattle.object_text.specs.Printing.{Prints, nodes_of, IsNextNode, ExpandsIf}
+use Rattle.object_text.proofs.Ways.{all-below, not_over, through}
 use Rattle.object_text.proofs.walk.descend.Goals as goal
 
 pub loop-e-init : goal.loop-e-init

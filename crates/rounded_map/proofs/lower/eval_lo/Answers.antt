@@ -1,7 +1,7 @@
-use Rattle.std.proofs.Common.{◌≡◌, ◌<◌, length, take, set, arith, refl}
+use Rattle.std.proofs.Common.{arith}
 use Rattle.std.proofs.lemmas.List.{length-take}
-use Rattle.class_system.specs.Views.{spec_node, spec_range}
 use Rattle.rounded_map.specs.RoundedMap.{setting, value_down}
+use Rattle.rounded_map.proofs.Bounding.{values-below-at}
 use Rattle.rounded_map.proofs.EachNode.{listed, written-more, written-all}
 use Rattle.rounded_map.proofs.lower.eval_lo.Goals as goal
 
@@ -20,3 +20,6 @@ pub returns-clause-values : goal.returns-clause-values
 returns-clause-values g c =
     let s = c.args.system.now in
     written-all (value_down (setting s c.args.x.num c.args.x.den g.row.F) c.args.classes.now) s c.loop-e.e c.loop-e.nodes c.loop-e.invariant (omega arith) (omega arith)
+
+pub returns-clause-reached : goal.returns-clause-reached
+returns-clause-reached g c = λ entries. values-below-at c.args.system.now c.args.x.num c.args.x.den g.row.F c.args.classes.now c.loop-e.nodes c.known.ensures.sound c.args.x.den_in_limits.0 (returns-clause-values g c) entries

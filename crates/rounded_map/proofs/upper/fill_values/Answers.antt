@@ -1,6 +1,5 @@
-use Rattle.std.proofs.Common.{◌≡◌, ◌<◌, length, take, set, arith, refl}
+use Rattle.std.proofs.Common.{arith}
 use Rattle.std.proofs.lemmas.List.{length-take}
-use Rattle.class_system.specs.Views.{spec_node, spec_range}
 use Rattle.rounded_map.specs.RoundedMap.{setting, value_up}
 use Rattle.rounded_map.proofs.EachNode.{listed, written-more, written-all}
 use Rattle.rounded_map.proofs.upper.fill_values.Goals as goal

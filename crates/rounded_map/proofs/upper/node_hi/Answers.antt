@@ -1,4 +1,4 @@
-use Rattle.std.proofs.Common.{refl, arith}
+use Rattle.std.proofs.Common.{refl}
 use Rattle.rounded_map.proofs.upper.node_hi.Goals as goal
 
 pub bounds-before-part : goal.bounds-before-part

@@ -1,4 +1,4 @@
-use Rattle.std.proofs.Common.{◌≡◌, ◌<◌, refl, length, map, Some, arith, sym, ◌∙◌, subst, below_more}
+use Rattle.std.proofs.Common.{◌≡◌, refl, length, map, Some, arith, sym, ◌∙◌, subst, below_more}
 use Rattle.std.specs.Prelude.{slice_index}
 use Rattle.std.proofs.lemmas.List.{length-map}
 use Rattle.class_system.specs.Views.{number}

@@ -1,5 +1,5 @@
 -- The last entry's first thing is taken, and what it stands for besides stays.
-use Rattle.std.proofs.Common.{◌≡◌, ◌-◌, ◌<◌, ◌∷◌, [], ◌++◌, replicate, arith, refl, sym, ◌∙◌, ap, subst}
+use Rattle.std.proofs.Common.{◌≡◌, ◌<◌, ◌∷◌, ◌++◌, replicate, arith, sym, ◌∙◌, ap, subst}
 use Rattle.object_text.specs.Todos.{entry_items, unrolled, IsSomething, AreSome, spaced_objects}
 use Rattle.object_text.specs.declared.todo.Todo.TheVariants.{Byte, Node}
 use Rattle.object_text.proofs.Unrolled.{AreSome-push, AreSome-rest, unrolled-put, replicate-first}

@@ -1,5 +1,5 @@
 -- One entry more.
-use Rattle.std.proofs.Common.{◌≡◌, ◌++◌, sym, ◌∙◌, ap, subst}
+use Rattle.std.proofs.Common.{◌++◌, sym, ◌∙◌, ap, subst}
 use Rattle.object_text.specs.Todos.{entry_items, AreSome}
 use Rattle.object_text.proofs.Unrolled.{AreSome-push, unrolled-put}
 use Rattle.object_text.proofs.todo.Todos.push.Goals as goal

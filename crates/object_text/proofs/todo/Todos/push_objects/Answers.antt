@@ -1,5 +1,5 @@
 -- The first object, and the others with a space before each.
-use Rattle.std.proofs.Common.{◌≡◌, ◌++◌, sym, ◌∙◌, ap}
+use Rattle.std.proofs.Common.{◌++◌, sym, ◌∙◌, ap}
 use Rattle.object_text.specs.Todos.{joined_objects}
 use Rattle.object_text.proofs.Unrolled.{replicate-first}
 use Rattle.object_text.proofs.todo.Todos.push_objects.Goals as goal

@@ -1,0 +1,31 @@
+//! The top call.
+ghost use Rattle.std.specs.Prelude.{◌≡◌, ℕ, ◌≤◌, List};
+ghost use Rattle.boltz.specs.Answers.{World, Output, Ends};
+
+use crate::report::answer_to;
+use crate::status::Status;
+use bz_outside::shelf::Shelf;
+use bz_outside::sink::{Sink, put_all};
+use bz_outside::word::Word;
+use std::alloc::Global;
+
+/// Does all that the program does: reads the words and the files that they name, and writes the
+/// answer's whole text at once.
+///
+/// Where memory is wanting nothing is written. Where a write fails a front of the text is written,
+/// and nothing after it.
+pub fn run<S: Shelf, K: Sink>(alloc: Global, words: &[Word], shelf: &mut S, out: &mut K) -> Status
+    ensures ends { Ends (record { words = words.now; content = S.content shelf.old; before = S.faults shelf.old; after = S.faults shelf.new })
+        (record { before = K.written out.old; after = K.written out.new; faults_before = K.faults out.old; faults_after = K.faults out.new }) result }
+    ensures content { S.content shelf.new ≡ S.content shelf.old }
+    ensures counts { (name : List ℕ) → S.faults shelf.old name ≤ S.faults shelf.new name }
+    ensures writes { K.faults out.old ≤ K.faults out.new }
+{
+    match answer_to(alloc, words, shelf) {
+        Ok(report) => match put_all(out, report.text.as_slice()) {
+            Ok(()) => report.status,
+            Err(_) => Status::WriteFault,
+        },
+        Err(_) => Status::OutOfMemory,
+    }
+}

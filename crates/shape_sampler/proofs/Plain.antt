@@ -1,0 +1,82 @@
+-- Visits of nodes that take no number.
+use Rattle.std.proofs.Common.{◌≡◌, ◌≢◌, ℕ, List, [], ◌∷◌, refl, sym, ◌∙◌, ap, subst, Option, Some, None, IfSome, Bool, max, ◌-◌, ◌≤◌, map, length, arith, slice_get, slice_index}
+use Rattle.std.proofs.lemmas.List.{length-map}
+use Rattle.std.proofs.lemmas.Option.{get_or_from_slice_get}
+use Rattle.bz_model.specs.Fraction.{Fraction}
+use Rattle.bz_model.specs.Spec.{Spec, Node, node_at, body_of}
+use Rattle.bz_model.specs.declared.cell.Bounds.{Bounds}
+use Rattle.class_system.specs.declared.expr.Expr.{Expr}
+use Rattle.class_system.specs.declared.expr.Expr.TheVariants as expr
+use Rattle.class_system.specs.declared.ids.ExprId.{ExprId}
+use Rattle.class_system.specs.Views.{number, spec_node}
+use Rattle.class_system.specs.Limits.{IsWithinLimits}
+use Rattle.choice_draw.specs.Decision.{IsUnion, level_for}
+use Rattle.choice_draw.specs.Draw.{Bit, bit_of}
+use Rattle.shape_sampler.specs.declared.stepped.Stepped.{Stepped}
+use Rattle.shape_sampler.specs.declared.stepped.Stepped.TheVariants.{OutOfMemory}
+use Rattle.shape_sampler.specs.Visit.{Chooser, Attempt, Visited, node_visited, visit_among, visit, with_pending}
+use Rattle.shape_sampler.specs.State.{SessionState, SessionBelongs, attempt_of}
+use Rattle.shape_sampler.specs.Answer.{told_visit, fault_place, ChoosesBy, IsVisit, IsPlainVisit, IsVisitOfAll, IsIdealAnswer, replaced_by}
+use Rattle.shape_sampler.proofs.Ideal.{IsIdealVisit}
+use Rattle.shape_sampler.proofs.Sessions.{still-belongs}
+
+-- The first pending node and those after it.
+pub record Front (es : List ℕ) (e : ℕ) : Type 0 where
+  pub rest : List ℕ
+  pub whole : es ≡ e ∷ rest
+
+pub front : (es : List ℕ) (e : ℕ) → slice_get es 0 ≡ Some e → Front es e
+front [] e h = absurd (cc)
+front (f ∷ es) e h = record { rest = es; whole = let same : f ≡ e = cc in ap (λ g. g ∷ es) same }
+
+-- a session that belongs still belongs after the visit, and its answer is ideal
+pub plain-session : (s : Spec) (x : Fraction) (before now : SessionState) (answer : Stepped) (e : ℕ) (visited : Attempt → List ℕ → Visited) → slice_get before.pending 0 ≡ Some e → IsPlainVisit visited before answer now → (b : SessionBelongs s x before) → ((rest : List ℕ) → before.pending ≡ e ∷ rest → IsIdealVisit s x before.whole (visited (attempt_of before 0) rest)) → SessionBelongs s x now × IsIdealAnswer s x answer now
+plain-session s x before now answer e visited first p b ideal =
+    let f = front before.pending e first in
+    still-belongs s x before now answer 0 b p.leaves (λ ne. subst (IsIdealVisit s x before.whole) (sym (p.same ne e f.rest 0 f.whole)) (ideal f.rest f.whole))
+
+-- the visit of a class
+pub class-visit : (s : Spec) (before now : SessionState) (answer : Stepped) (e k body : ℕ) → slice_get before.pending 0 ≡ Some e → node_at s e ≡ Some (Node.Class k) → body_of s k ≡ Some body → IsPlainVisit (replaced_by (body ∷ [])) before answer now → answer ≢ OutOfMemory → IsVisitOfAll s before answer now
+class-visit s before now answer e k body first at is_body p ne = record { same = same }
+  where
+    f : Front before.pending e
+    f = front before.pending e first
+
+    same : (c : Chooser) (bit : ℕ → Bit) (used : ℕ) → c.spec ≡ s → told_visit answer now used ≡ visit c bit (attempt_of before used)
+    same c bit used is =
+        let a = attempt_of before used in
+        let node : node_at c.spec e ≡ Some (Node.Class k) = ap (λ (t : Spec). node_at t e) is ∙ at in
+        let there : body_of c.spec k ≡ Some body = ap (λ (t : Spec). body_of t k) is ∙ is_body in
+        let index : slice_index c.spec.bodies k ≡ body = get_or_from_slice_get c.spec.bodies k body 0 there in
+        p.same ne e f.rest used f.whole
+        ∙ ap (λ b. Visited.Went (with_pending a (b ∷ f.rest))) (sym index)
+        ∙ ap (node_visited c bit a e f.rest) (sym node)
+        ∙ ap (visit_among c bit a) (sym f.whole)
+
+-- a visit by every chooser is one by a chooser that decides by a table, over the bits that are told
+pub plain-exact : (s : Spec) (table : (level e : ℕ) → Bounds) (before now : SessionState) (answer : Stepped) (start : ℕ) → (answer ≢ OutOfMemory → IsVisitOfAll s before answer now) → (told : Option (ℕ → Option Bool)) → IfSome told (λ bits. (c : Chooser) → ChoosesBy s table c → IsVisit c bits before start answer now start)
+plain-exact s table before now answer start h None = tt
+plain-exact s table before now answer start h (Some bits) = λ c by. record { same = λ ne. (h ne).same c (bit_of bits (fault_place answer start)) start by.same_spec }
+
+-- no bit needs no level
+pub no-level : (raised used : ℕ) → raised ≡ max raised (level_for (used - used))
+no-level raised used = omega arith
+
+-- only a union is seen as one
+pub union-seen : (n : Expr) (parts : List ℕ) → spec_node n ≡ Node.Union parts → (ps : List ExprId) × (n ≡ expr.Union ps)
+union-seen (expr.Union ps) parts h = (ps, refl)
+union-seen (expr.Empty w) parts h = absurd (cc)
+union-seen (expr.Atom w) parts h = absurd (cc)
+union-seen (expr.Class c) parts h = absurd (cc)
+union-seen (expr.Product ps) parts h = absurd (cc)
+union-seen (expr.Seq e) parts h = absurd (cc)
+union-seen (expr.Set e) parts h = absurd (cc)
+union-seen (expr.Cyc e) parts h = absurd (cc)
+
+-- a node that isn't seen as a union is none
+pub no-union : (s : Spec) (e : ℕ) (n : Expr) → node_at s e ≡ Some (spec_node n) → ((ps : List ExprId) → n ≡ expr.Union ps → ⊥) → ¬ (IsUnion s e)
+no-union s e n at never u = let q : spec_node n ≡ Node.Union u.parts = let h = u.here in cc in let w = union-seen n u.parts q in never w.0 w.1
+
+-- a union within the limits has few parts
+pub few-parts : (s : Spec) (limits : IsWithinLimits s) (e : ℕ) (parts : List ExprId) → node_at s e ≡ Some (Node.Union (map number parts)) → length parts ≤ 64
+few-parts s limits e parts at = let h = (limits.parts.at e (Node.Union (map number parts)) at).few in omega (arith, length-map parts number)

@@ -1,0 +1,146 @@
+-- The visit of a union, from what was drawn and what was put.
+use Rattle.std.proofs.Common.{◌≡◌, ℕ, ◌+◌, ◌<◌, List, [], ◌∷◌, ◌++◌, length, refl, sym, ◌∙◌, ap, subst, append-nil, zero-add, Bool, Option, Some, None, IfSome, slice_get, slice_index}
+use Rattle.bz_model.specs.declared.cell.Cell.{Cell}
+use Rattle.bz_model.specs.declared.cell.Bounds.{Bounds}
+use Rattle.bz_model.specs.Fraction.{Fraction}
+use Rattle.bz_model.specs.Spec.{Spec, Node, node_at}
+use Rattle.bz_model.specs.Cell.{IsInCell}
+use Rattle.bz_model.specs.Ideal.{IsIdealOption}
+use Rattle.std.proofs.lemmas.Option.{get_or_from_slice_get}
+use Rattle.bz_laws.proofs.Unions.{part_there}
+use Rattle.class_system.specs.Sound.{IsSound}
+use Rattle.class_system.specs.declared.ids.ExprId.{ExprId}
+use Rattle.choice_draw.specs.declared.drawn.Drawn.{Drawn}
+use Rattle.choice_draw.specs.declared.drawn.Drawn.TheVariants as drawn
+use Rattle.choice_draw.specs.Decision.{Choice, union_decision}
+use Rattle.choice_draw.specs.Draw.{bit_of, draw}
+use Rattle.choice_draw.specs.Answer.{IsDrawn, OnValue, UsesBits, told_draw}
+use Rattle.choice_draw.specs.Answer as drawing
+use Rattle.object_store.specs.declared.token.Token.{Token}
+use Rattle.object_store.specs.declared.token.Token.TheVariants as token
+use Rattle.shape_sampler.specs.declared.stepped.Stepped.{Stepped}
+use Rattle.shape_sampler.specs.declared.stepped.Stepped.TheVariants.{Moved, Straddles, Ended, ReadFault}
+use Rattle.shape_sampler.specs.Visit.{Chooser, Attempt, Visited, after_draw, union_answered, node_visited, visit_among, visit, with_pending, with_token, with_cell}
+use Rattle.shape_sampler.specs.State.{SessionState, SessionBelongs, Leaves, attempt_of, stopped_by, union_answer, stop_after, drawn_tokens, drawn_cells, PutsPart}
+use Rattle.shape_sampler.specs.Answer.{told_visit, fault_place, ChoosesBy, IsVisit, IsIdealAnswer}
+use Rattle.shape_sampler.proofs.Ideal.{IsIdealVisit, ideal-union}
+use Rattle.shape_sampler.proofs.Sessions.{still-belongs}
+use Rattle.shape_sampler.proofs.Plain.{Front, front}
+
+-- What the visit of a union makes of a session: the answer's token, cell and part are put, and all else stays but what stopped it.
+pub record Settled (node : ExprId) (parts : List ℕ) (d : Drawn) (before now : SessionState) : Type 0 where
+  pub root : now.root ≡ before.root
+  pub whole : now.whole ≡ before.whole
+  pub pending : PutsPart parts d before.pending now.pending
+  pub tokens : now.tokens ≡ before.tokens ++ drawn_tokens d
+  pub cells : now.cells ≡ before.cells ++ drawn_cells d
+  pub room : now.room ≡ before.room
+  pub stopped : now.stopped ≡ stop_after (union_answer node d)
+
+-- It is settled so, from what each call did to the session's parts, which were as they stand in `seen`.
+pub settle : (node : ExprId) (parts : List ℕ) (d : Drawn) (seen before now : SessionState) (answer : Stepped) (es : List ℕ) (ts : List Token) (cs : List Cell) → seen ≡ before → now.root ≡ seen.root → now.whole ≡ seen.whole → now.room ≡ seen.room → es ≡ seen.pending → ts ≡ seen.tokens → cs ≡ seen.cells → PutsPart parts d es now.pending → now.tokens ≡ ts ++ drawn_tokens d → now.cells ≡ cs ++ drawn_cells d → now.stopped ≡ stop_after answer → answer ≡ union_answer node d → Settled node parts d before now
+settle node parts d seen before now answer es ts cs is root whole room pending tokens cells puts put_tokens put_cells stopped answered = record {
+  root = root ∙ ap (λ (st : SessionState). st.root) is;
+  whole = whole ∙ ap (λ (st : SessionState). st.whole) is;
+  pending = subst (λ fs. PutsPart parts d fs now.pending) (pending ∙ ap (λ (st : SessionState). st.pending) is) puts;
+  tokens = put_tokens ∙ ap (λ us. us ++ drawn_tokens d) (tokens ∙ ap (λ (st : SessionState). st.tokens) is);
+  cells = put_cells ∙ ap (λ ds. ds ++ drawn_cells d) (cells ∙ ap (λ (st : SessionState). st.cells) is);
+  room = room ∙ ap (λ (st : SessionState). st.room) is;
+  stopped = stopped ∙ ap stop_after answered;
+}
+
+-- Two sessions with the same parts are the same.
+same-state : (a b : SessionState) → a.root ≡ b.root → a.whole ≡ b.whole → a.pending ≡ b.pending → a.tokens ≡ b.tokens → a.cells ≡ b.cells → a.room ≡ b.room → a.stopped ≡ b.stopped → a ≡ b
+same-state a b root whole pending tokens cells room stopped =
+    ap (λ r. record a { root = r }) root
+    ∙ ap (λ w. record a { root = b.root; whole = w }) whole
+    ∙ ap (λ es. record a { root = b.root; whole = b.whole; pending = es }) pending
+    ∙ ap (λ ts. record a { root = b.root; whole = b.whole; pending = b.pending; tokens = ts }) tokens
+    ∙ ap (λ cs. record a { root = b.root; whole = b.whole; pending = b.pending; tokens = b.tokens; cells = cs }) cells
+    ∙ ap (λ r. record a { root = b.root; whole = b.whole; pending = b.pending; tokens = b.tokens; cells = b.cells; room = r }) room
+    ∙ ap (λ s. record a { root = b.root; whole = b.whole; pending = b.pending; tokens = b.tokens; cells = b.cells; room = b.room; stopped = s }) stopped
+
+same-attempt : (a b : Attempt) → a.pending ≡ b.pending → a.tokens ≡ b.tokens → a.cells ≡ b.cells → a.room ≡ b.room → a.used ≡ b.used → a ≡ b
+same-attempt a b pending tokens cells room used =
+    ap (λ es. record a { pending = es }) pending
+    ∙ ap (λ ts. record a { pending = b.pending; tokens = ts }) tokens
+    ∙ ap (λ cs. record a { pending = b.pending; tokens = b.tokens; cells = cs }) cells
+    ∙ ap (λ r. record a { pending = b.pending; tokens = b.tokens; cells = b.cells; room = r }) room
+    ∙ ap (λ u. record a { pending = b.pending; tokens = b.tokens; cells = b.cells; room = b.room; used = u }) used
+
+module _ (node : ExprId) (parts : List ℕ) (before now : SessionState) (first : slice_get before.pending 0 ≡ Some node.0) where
+  f : Front before.pending node.0
+  f = front before.pending node.0 first
+
+  -- where nothing was drawn, all but what stopped the session stays
+  stays : (answer : Stepped) → now.root ≡ before.root → now.whole ≡ before.whole → now.pending ≡ before.pending → now.tokens ≡ before.tokens ++ [] → now.cells ≡ before.cells ++ [] → now.room ≡ before.room → now.stopped ≡ Some answer → now ≡ stopped_by before answer
+  stays answer root whole pending tokens cells room stopped = same-state now (stopped_by before answer) root whole pending (tokens ∙ append-nil before.tokens) (cells ∙ append-nil before.cells) room stopped
+
+  pub union-leaves : (d : Drawn) → Settled node parts d before now → Leaves (union_answer node d) before now
+  union-leaves (drawn.Value value cell) t = (record { root = t.root; whole = t.whole; stopped = t.stopped }, λ none. let put = t.pending node.0 f.rest f.whole in absurd (cc))
+  union-leaves (drawn.Straddles cell) t = stays (Straddles node cell) t.root t.whole t.pending t.tokens t.cells t.room t.stopped
+  union-leaves drawn.Ended t = stays Ended t.root t.whole t.pending t.tokens t.cells t.room t.stopped
+  union-leaves drawn.ReadFault t = stays ReadFault t.root t.whole t.pending t.tokens t.cells t.room t.stopped
+
+  -- the session's attempt after a part was drawn
+  picked : (value : ℕ) (cell : Cell) (start used : ℕ) → Settled node parts (drawn.Value value cell) before now → used ≡ start + cell.b → attempt_of now used ≡ with_pending (with_token (with_cell (attempt_of before start) cell) (token.Pick value)) (slice_index parts value ∷ f.rest)
+  picked value cell start used t bits = same-attempt (attempt_of now used) (with_pending (with_token (with_cell (attempt_of before start) cell) (token.Pick value)) (slice_index parts value ∷ f.rest)) (t.pending node.0 f.rest f.whole) t.tokens t.cells t.room bits
+
+  -- what is told is what the draw's end means
+  told : (d : Drawn) (start used : ℕ) → Settled node parts d before now → UsesBits d start used → told_visit (union_answer node d) now used ≡ after_draw node.0 (union_answered (attempt_of before start) parts f.rest) (told_draw Choice.Take d used)
+  told (drawn.Value value cell) start used t bits = ap Visited.Went (picked value cell start used t bits)
+  told (drawn.Straddles cell) start used t bits = refl
+  told drawn.Ended start used t bits = refl
+  told drawn.ReadFault start used t bits = refl
+
+  same-fault : (d : Drawn) (used : ℕ) → drawing.fault_place d used ≡ fault_place (union_answer node d) used
+  same-fault (drawn.Value value cell) used = refl
+  same-fault (drawn.Straddles cell) used = refl
+  same-fault drawn.Ended used = refl
+  same-fault drawn.ReadFault used = refl
+
+  module _ (s : Spec) (at : node_at s node.0 ≡ Some (Node.Union parts)) where
+    pub union-exact : (table : (level e : ℕ) → Bounds) (bits : ℕ → Option Bool) (d : Drawn) (start used : ℕ) → Settled node parts d before now → UsesBits d start used → IsDrawn Choice.Take (union_decision s table node.0) bits start d used → (c : Chooser) → ChoosesBy s table c → IsVisit c bits before start (union_answer node d) now used
+    union-exact table bits d start used t uses drawn c by = record { same = λ ne. same }
+      where
+        a : Attempt
+        a = attempt_of before start
+
+        same : told_visit (union_answer node d) now used ≡ visit c (bit_of bits (fault_place (union_answer node d) used)) (attempt_of before start)
+        same =
+            let bit = bit_of bits (fault_place (union_answer node d) used) in
+            let here : node_at c.spec node.0 ≡ Some (Node.Union parts) = ap (λ (z : Spec). node_at z node.0) by.same_spec ∙ at in
+            let decide : c.decide node.0 before.room ≡ union_decision s table node.0 = by.at_unions node.0 before.room (record { parts = parts; here = at }) in
+            let drew : told_draw Choice.Take d used ≡ draw (c.decide node.0 before.room) bit start = drawn.same ∙ ap (λ p. draw (union_decision s table node.0) (bit_of bits p) start) (same-fault d used) ∙ ap (λ (choose : Cell → Option Choice). draw choose bit start) (sym decide) in
+            told d start used t uses
+            ∙ ap (after_draw node.0 (union_answered a parts f.rest)) drew
+            ∙ ap (node_visited c bit a node.0 f.rest) (sym here)
+            ∙ ap (visit_among c bit a) (sym f.whole)
+
+    pub union-session : (x : Fraction) → IsSound s → (d : Drawn) → Settled node parts d before now → OnValue d (λ i cell. (u : Fraction) → IsInCell cell.k cell.b u → IsIdealOption s x u node.0 i) → OnValue d (λ i cell. i < length parts) → SessionBelongs s x before → SessionBelongs s x now × IsIdealAnswer s x (union_answer node d) now
+    union-session x sound (drawn.Value value cell) t ideal within b =
+        let there = part_there parts value within in
+        let index : slice_index parts value ≡ there.0 = get_or_from_slice_get parts value there.0 0 there.1 in
+        let visit = ideal-union s x before.whole (attempt_of before 0) b.attempt node.0 f.rest f.whole sound parts value there.0 cell at there.1 ideal in
+        let attempt = picked value cell 0 cell.b t (sym (zero-add cell.b)) ∙ ap (λ p. with_pending (with_token (with_cell (attempt_of before 0) cell) (token.Pick value)) (p ∷ f.rest)) index in
+        still-belongs s x before now Moved cell.b b (union-leaves (drawn.Value value cell) t) (λ ne. subst (λ q. IsIdealVisit s x before.whole (Visited.Went q)) (sym attempt) visit)
+    union-session x sound (drawn.Straddles cell) t ideal within b = still-belongs s x before now (Straddles node cell) 0 b (union-leaves (drawn.Straddles cell) t) (λ ne. tt)
+    union-session x sound drawn.Ended t ideal within b = still-belongs s x before now Ended 0 b (union-leaves drawn.Ended t) (λ ne. tt)
+    union-session x sound drawn.ReadFault t ideal within b = still-belongs s x before now ReadFault 0 b (union-leaves drawn.ReadFault t) (λ ne. tt)
+
+-- The same for an answer that is the draw's.
+module _ (node : ExprId) (parts : List ℕ) (before now : SessionState) (first : slice_get before.pending 0 ≡ Some node.0) (d : Drawn) (answer : Stepped) (answered : answer ≡ union_answer node d) (settled : Settled node parts d before now) where
+  pub answer-leaves : Leaves answer before now
+  answer-leaves = subst (λ a. Leaves a before now) (sym answered) (union-leaves node parts before now first d settled)
+
+  module _ (s : Spec) (at : node_at s node.0 ≡ Some (Node.Union parts)) where
+    pub answer-exact : (table : (level e : ℕ) → Bounds) (start used : ℕ) → UsesBits d start used → (bits : ℕ → Option Bool) → IsDrawn Choice.Take (union_decision s table node.0) bits start d used → (c : Chooser) → ChoosesBy s table c → IsVisit c bits before start answer now used
+    answer-exact table start used uses bits drawn c by = subst (λ a. IsVisit c bits before start a now used) (sym answered) (union-exact node parts before now first s at table bits d start used settled uses drawn c by)
+
+    pub answer-session : (x : Fraction) → IsSound s → OnValue d (λ i cell. (u : Fraction) → IsInCell cell.k cell.b u → IsIdealOption s x u node.0 i) → OnValue d (λ i cell. i < length parts) → SessionBelongs s x before → SessionBelongs s x now × IsIdealAnswer s x answer now
+    answer-session x sound ideal within b = subst (λ a. SessionBelongs s x now × IsIdealAnswer s x a now) (sym answered) (union-session node parts before now first s at x sound d settled ideal within b)
+
+-- What holds of the value, if there is one, where a stronger fact does.
+pub if-some : {T : Type 0} (o : Option T) (P Q : T → Type 0) → ((t : T) → P t → Q t) → IfSome o P → IfSome o Q
+if-some None P Q h k = tt
+if-some (Some t) P Q h k = h t k
