@@ -5,3 +5,4 @@ pub mod FirstForm
 pub mod Refusals
 pub mod Answers
 pub mod Statuses
+pub mod Complete

@@ -2,6 +2,7 @@
 #![tactic(auto)]
 
 pub mod first_form;
+pub mod laws;
 pub mod lines;
 pub mod refusals;
 pub mod report;

@@ -2,3 +2,6 @@ pub mod Unrolled
 pub mod Steps
 pub mod Ways
 pub mod Tokens
+pub mod PartTexts
+pub mod StableOrder
+pub mod LabelParts

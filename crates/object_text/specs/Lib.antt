@@ -1,2 +1,4 @@
 pub mod Todos
 pub mod Printing
+pub mod Output
+pub mod Labels

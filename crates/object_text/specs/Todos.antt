@@ -1,8 +1,8 @@
--- What is still to be printed.
+-- What is still to be done.
 use Rattle.std.specs.Prelude.{◌<◌, List, [], ◌∷◌, ◌++◌, replicate}
 use Rattle.class_system.specs.declared.ids.ExprId.{ExprId}
 use Rattle.object_text.specs.declared.todo.Todo.{Todo}
-use Rattle.object_text.specs.declared.todo.Todo.TheVariants.{Byte, Node}
+use Rattle.object_text.specs.declared.todo.Todo.TheVariants.{Byte, Node, Part}
 use Rattle.object_text.specs.declared.todo.Entry.{Entry}
 use Rattle.object_text.specs.declared.todo.Entry.TheVariants as entry
 
@@ -18,9 +18,10 @@ joined_objects (e ∷ es) = Node e ∷ spaced_objects es
 
 -- What an entry stands for.
 abbrev pub entry_items : Entry → List Todo
-entry_items (entry.Byte byte) = Byte byte ∷ []
+entry_items (entry.One todo) = todo ∷ []
 entry_items (entry.Objects e n) = Node e ∷ spaced_objects (replicate n e)
 entry_items (entry.Spaced e n) = spaced_objects (replicate n e)
+entry_items (entry.Parts e n) = replicate n (Part e)
 
 -- What entries stand for, the last entry first.
 abbrev pub unrolled : List Entry → List Todo
@@ -30,6 +31,7 @@ unrolled (x ∷ entries) = unrolled entries ++ entry_items x
 -- The entry stands for something.
 abbrev pub IsSomething : Entry → Type 0
 IsSomething (entry.Spaced e n) = 0 < n
+IsSomething (entry.Parts e n) = 0 < n
 IsSomething _ = Unit {0}
 
 -- No entry is empty.

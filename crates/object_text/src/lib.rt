@@ -1,9 +1,14 @@
 //! Object text: how objects of a class are printed.
 //!
-//! An object's text is defined in `bz_model`. `print` gives it from the tokens of the object
-//! (`specs/Printing.antt` has the state of the walk). No clause says that memory suffices.
+//! An object's text is defined in `bz_model` (its `specs/ObjectText.antt`). `print` gives exactly
+//! that text, from the object's tokens and labels. The state of the walk stands in
+//! `specs/Printing.antt`, what is printed so far in `specs/Output.antt`. No clause says how long it
+//! takes or that memory suffices.
 #![tactic(auto)]
 
+mod output;
 pub mod print;
+#[cfg(test)]
+mod tests;
 mod todo;
 mod walk;

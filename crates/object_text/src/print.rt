@@ -3,18 +3,21 @@ ghost use Rattle.std.specs.Prelude.{◌≡◌, ◌<◌, [], length, IfOk};
 ghost use Rattle.bz_model.specs.Spec.{Mode};
 ghost use Rattle.bz_model.specs.ObjectText.{object_text};
 ghost use Rattle.object_store.specs.Tokens.{IsOf};
+ghost use Rattle.object_text.specs.Labels.{HasOneForEach};
 
-use crate::todo::Todos;
+use crate::output::Output;
+use crate::todo::{Todo, Todos};
 use crate::walk::print_all;
 use class_system::ids::ClassId;
 use class_system::system::System;
 use object_store::shape::Shape;
 use std::alloc::{AllocError, Global};
 
-/// The text of a shape of a class, in an unlabelled specification.
+/// The text of a shape of a class in an unlabelled specification.
 ///
-/// It takes one step for each token and for each class and product above it, and memory for the
-/// text and for one entry for each node on the way down. A refusal comes for want of memory alone.
+/// It takes one step for each token and for each class and product above it. It takes memory for
+/// the text and for one entry for each node on the way down. A refusal comes for want of memory
+/// alone.
 pub fn print_in(
     alloc: Global,
     system: &System,
@@ -27,9 +30,35 @@ pub fn print_in(
     ensures text { IfOk result (λ text. (of : IsOf system.now c.0 shape.now.items)
         → text.items ≡ object_text system.now of.body of.object of.belongs []) }
 {
+    print_labelled(alloc, system, c, shape, &[])
+}
+
+/// The text of a shape of a class, with its labels in token order.
+///
+/// In labelled mode there is one label for each atom, and in unlabelled mode there is none. The
+/// parts of a set are printed in the order of their least labels, those without a label first, and
+/// a cycle from the part with the least label on.
+///
+/// It takes one step for each token and for each class and product above it, sorts the parts of
+/// each set, and moves a part's text once for each set or cycle round it. It takes memory for the
+/// text, for the parts of the sets and cycles that are being printed, and for one entry for each
+/// node on the way down. A refusal comes for want of memory alone.
+pub fn print_labelled(
+    alloc: Global,
+    system: &System,
+    c: ClassId,
+    shape: &Shape,
+    labels: &[u64],
+) -> Result<Vec<u8>, AllocError>
+    requires in_range { c.0 < length system.now.names }
+    requires labels { HasOneForEach system.now.mode shape.now.items labels.now }
+    requires is_of { IsOf system.now c.0 shape.now.items }
+    ensures text { IfOk result (λ text. (of : IsOf system.now c.0 shape.now.items)
+        → text.items ≡ object_text system.now of.body of.object of.belongs labels.now) }
+{
     let mut todos = Todos::new(alloc);
-    let mut text = Vec::new(alloc);
-    todos.push_object(system.body(c))?;
-    print_all(system, &mut todos, shape.tokens(), &mut text)?;
-    Ok(text)
+    let mut output = Output::new(alloc);
+    todos.push_one(Todo::Node(system.body(c)))?;
+    print_all(system, &mut todos, shape.tokens(), labels, &mut output)?;
+    Ok(output.into_text())
 }

@@ -1,30 +1,41 @@
-//! What is still to be printed.
+//! What is still to be done.
 ghost use Rattle.std.specs.Prelude.{◌≡◌, [], ◌∷◌, ◌++◌, replicate, option_to_list, IfNone, OnOk};
 ghost use Rattle.object_text.specs.Todos.{joined_objects, entry_items, IsSomething};
 
+use crate::output::Form;
 use class_system::ids::ExprId;
 use std::alloc::{AllocError, Global};
 use std::marker::Model;
 
-/// A thing to print: a byte, or an object of a node.
+/// A thing to do.
 #[derive(Clone, Copy, Debug)]
 pub(crate) enum Todo {
+    /// Print a byte.
     Byte(u8),
+    /// Print an object of a node.
     Node(ExprId),
+    /// Print an object of a node as a part of a set or a cycle.
+    Part(ExprId),
+    /// End a part of a set or a cycle.
+    EndPart,
+    /// End a set or a cycle.
+    Close(Form),
 }
 
-/// Things to print that stand together.
+/// Things to do that stand together.
 #[derive(Clone, Copy, Debug)]
 enum Entry {
-    /// A byte.
-    Byte(u8),
+    /// One thing.
+    One(Todo),
     /// An object of a node, and so many more with a space before each.
     Objects(ExprId, u32),
     /// So many objects of a node, one or more, with a space before each.
     Spaced(ExprId, u32),
+    /// So many objects of a node, one or more, as parts of a set or a cycle.
+    Parts(ExprId, u32),
 }
 
-/// The things that are still to be printed, the next one first.
+/// The things that are still to be done, the next one first.
 ///
 /// A node that is to be printed a million times takes the memory of one.
 #[derive(Drop)]
@@ -60,7 +71,7 @@ impl Todos {
         ensures none { IfNone result (self.old ≡ []) }
     {
         match self.entries.pop()? {
-            Entry::Byte(byte) => Some(Todo::Byte(byte)),
+            Entry::One(todo) => Some(todo),
             Entry::Objects(node, more) => {
                 if more > 0 {
                     self.entries.push_reserved(Entry::Spaced(node, more));
@@ -70,6 +81,12 @@ impl Todos {
             Entry::Spaced(node, times) => {
                 self.entries.push_reserved(Entry::Objects(node, times - 1));
                 Some(Todo::Byte(b' '))
+            }
+            Entry::Parts(node, times) => {
+                if times > 1 {
+                    self.entries.push_reserved(Entry::Parts(node, times - 1));
+                }
+                Some(Todo::Part(node))
             }
         }
     }
@@ -83,18 +100,11 @@ impl Todos {
         Ok(())
     }
 
-    /// Puts a byte in front.
-    pub(crate) fn push_byte(&mut self, byte: u8) -> Result<(), AllocError>
-        ensures { OnOk result (self.new ≡ Todo.Byte byte ∷ self.old) }
+    /// Puts a thing in front.
+    pub(crate) fn push_one(&mut self, todo: Todo) -> Result<(), AllocError>
+        ensures { OnOk result (self.new ≡ todo ∷ self.old) }
     {
-        self.push(Entry::Byte(byte))
-    }
-
-    /// Puts an object of a node in front.
-    pub(crate) fn push_object(&mut self, node: ExprId) -> Result<(), AllocError>
-        ensures { OnOk result (self.new ≡ Todo.Node node ∷ self.old) }
-    {
-        self.push(Entry::Objects(node, 0))
+        self.push(Entry::One(todo))
     }
 
     /// Puts so many objects of a node in front, with a space between each two of them.
@@ -103,6 +113,16 @@ impl Todos {
     {
         if times > 0 {
             self.push(Entry::Objects(node, times - 1))?;
+        }
+        Ok(())
+    }
+
+    /// Puts so many objects of a node in front, as parts of a set or a cycle.
+    pub(crate) fn push_parts(&mut self, node: ExprId, times: u32) -> Result<(), AllocError>
+        ensures { OnOk result (self.new ≡ replicate times (Todo.Part node) ++ self.old) }
+    {
+        if times > 0 {
+            self.push(Entry::Parts(node, times))?;
         }
         Ok(())
     }
@@ -117,6 +137,6 @@ impl Todos {
         for i in (0..later.len()).rev() {
             self.push(Entry::Spaced(later[i], 1))?;
         }
-        self.push_object(*first)
+        self.push_one(Todo::Node(*first))
     }
 }

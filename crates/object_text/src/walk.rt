@@ -1,54 +1,60 @@
 //! The walk that prints an object: down its nodes, token by token, with a list of what is to be
-//! printed after each.
-ghost use Rattle.std.specs.Prelude.{◌≡◌, ◌++◌, ◌∷◌, [], ℕ, List, IfOk, OnOk, decimal};
+//! done after each.
+ghost use Rattle.std.specs.Prelude.{◌≡◌, ◌++◌, ◌∷◌, [], ℕ, List, IfOk, OnOk, None, option_to_list, replicate};
 ghost use Rattle.bz_model.specs.Spec.{Mode};
 ghost use Rattle.bz_model.specs.ObjectText.{leaf_text};
 ghost use Rattle.object_store.specs.Walk.{HasToken};
-ghost use Rattle.object_text.specs.Printing.{Prints, ArePrinted, AreWholly, IsNextNode, ExpandsIf, IsFront, IsNext, TakesToken};
+ghost use Rattle.object_text.specs.Output.{grown, opened, labelled_leaf};
+ghost use Rattle.object_text.specs.Printing.{Prints, ArePrinted, AreWholly, IsNextNode, IsBegun, ExpandsIf, IsFront, IsNext, TakesToken};
 
+use crate::output::{Form, Output};
 use crate::todo::{Todo, Todos};
 use class_system::expr::Expr;
 use class_system::ids::ExprId;
 use class_system::system::System;
-use itoa::Buffer;
 use object_store::token::Token;
 use std::alloc::AllocError;
 
-/// Appends all that is to be printed, of objects with these tokens.
+/// Prints all that is to be printed, of objects with these tokens and labels.
 pub(crate) fn print_all(
     system: &System,
     todos: &mut Todos,
     tokens: &[Token],
-    text: &mut Vec<u8>,
+    labels: &[u64],
+    output: &mut Output,
 ) -> Result<(), AllocError>
-    requires unlabelled { system.now.mode ≡ Mode.Unlabelled }
-    requires printed { AreWholly system.now todos.old tokens.now text.old.items }
+    requires unlabelled { system.now.mode ≡ Mode.Unlabelled → labels.now ≡ [] }
+    requires printed { AreWholly system.now todos.old tokens.now labels.now output.old }
     ensures { OnOk result ((whole : List ℕ)
-        → Prints system.now whole todos.old tokens.now text.old.items → text.new.items ≡ whole) }
+        → Prints system.now whole todos.old tokens.now labels.now output.old
+        → output.new.text ≡ whole) }
 {
     let mut place = 0;
-    while let Some(e) = descend(system, todos, text)? {
-        print_token(system, e, tokens[place], todos, text)?;
+    let mut used = 0;
+    while let Some(e) = descend(system, todos, output)? {
+        let token = tokens[place];
+        let label = labels.get(used).copied();
+        print_token(system, e, token, label, todos, output)?;
         place += 1;
+        used += token.atoms() as usize;
     }
     Ok(())
 }
 
-/// Appends bytes, and goes down through classes and products, to the next node with a token.
-///
-/// None where all is printed.
+/// Does what needs no token, and goes down through classes and products, to the next node with a
+/// token. None where all is done.
 fn descend(
     system: &System,
     todos: &mut Todos,
-    text: &mut Vec<u8>,
+    output: &mut Output,
 ) -> Result<Option<ExprId>, AllocError>
-    requires printed { ArePrinted system.now todos.old text.old.items }
-    ensures front { IfOk result (IsFront system.now todos.old text.old.items todos.new text.new.items) }
+    requires printed { ArePrinted system.now todos.old output.old }
+    ensures front { IfOk result (IsFront system.now todos.old output.old todos.new output.new) }
 {
     system.known();
     let mut left = system.node_count();
-    while let Some(e) = next_node(todos, text)? {
-        if !expand(system, e, todos, text)? {
+    while let Some(e) = next_node(todos, output)? {
+        if !expand(system, e, todos, output)? {
             return Ok(Some(e));
         }
         left -= 1;
@@ -56,14 +62,30 @@ fn descend(
     Ok(None)
 }
 
-/// Appends bytes up to the next node. None where no node is to be printed.
-fn next_node(todos: &mut Todos, text: &mut Vec<u8>) -> Result<Option<ExprId>, AllocError>
-    ensures next { IfOk result (IsNextNode todos.old text.old.items todos.new text.new.items) }
+/// Does what needs no token, up to the next node. None where no node is left.
+fn next_node(todos: &mut Todos, output: &mut Output) -> Result<Option<ExprId>, AllocError>
+    ensures next { IfOk result (IsNextNode todos.old output.old todos.new output.new) }
 {
     while let Some(todo) = todos.pop() {
-        match todo {
-            Todo::Byte(byte) => text.push(byte)?,
-            Todo::Node(e) => return Ok(Some(e)),
+        if let Some(e) = begin(todo, todos, output)? {
+            return Ok(Some(e));
+        }
+    }
+    Ok(None)
+}
+
+/// Does a thing, or tells the node of which an object is to be printed now.
+fn begin(todo: Todo, todos: &mut Todos, output: &mut Output) -> Result<Option<ExprId>, AllocError>
+    ensures begun { IfOk result (IsBegun todo todos.old output.old todos.new output.new) }
+{
+    match todo {
+        Todo::Byte(byte) => output.write(&[byte])?,
+        Todo::EndPart => output.end_part()?,
+        Todo::Close(form) => output.close(form)?,
+        Todo::Node(e) => return Ok(Some(e)),
+        Todo::Part(e) => {
+            todos.push_one(Todo::EndPart)?;
+            return Ok(Some(e));
         }
     }
     Ok(None)
@@ -74,18 +96,18 @@ fn expand(
     system: &System,
     e: ExprId,
     todos: &mut Todos,
-    text: &mut Vec<u8>,
+    output: &mut Output,
 ) -> Result<bool, AllocError>
-    requires printed { ArePrinted system.now (Todo.Node e ∷ todos.old) text.old.items }
+    requires printed { ArePrinted system.now (Todo.Node e ∷ todos.old) output.old }
     ensures expands { IfOk result (
-        ExpandsIf system.now e todos.old text.old.items todos.new text.new.items) }
+        ExpandsIf system.now e todos.old output.old todos.new output.new) }
 {
     system.known();
     match system.node(e) {
-        Expr::Class(c) => todos.push_object(system.body(*c))?,
+        Expr::Class(c) => todos.push_one(Todo::Node(system.body(*c)))?,
         Expr::Product(parts) => {
-            text.push(b'(')?;
-            todos.push_byte(b')')?;
+            output.write(b"(")?;
+            todos.push_one(Todo::Byte(b')'))?;
             todos.push_each(parts.items())?;
         }
         _ => return Ok(false),
@@ -93,60 +115,87 @@ fn expand(
     Ok(true)
 }
 
-/// Appends what a node prints of its token, and puts what follows in front.
+/// Prints what a node prints of its token, and puts what follows in front.
 fn print_token(
     system: &System,
     e: ExprId,
     token: Token,
+    label: Option<u64>,
     todos: &mut Todos,
-    text: &mut Vec<u8>,
+    output: &mut Output,
 ) -> Result<(), AllocError>
-    requires unlabelled { system.now.mode ≡ Mode.Unlabelled }
+    requires unlabelled { system.now.mode ≡ Mode.Unlabelled → label ≡ None }
     requires has_token { HasToken system.now e.0 }
-    requires next { IsNext system.now e token todos.old text.old.items }
+    requires next { IsNext system.now e token label todos.old output.old }
     ensures takes { OnOk result (
-        TakesToken system.now e token todos.old text.old.items todos.new text.new.items) }
+        TakesToken system.now e token label todos.old output.old todos.new output.new) }
 {
     system.known();
     match system.node(e) {
-        Expr::Empty(word) => push_leaf(text, b"E", word.bytes()),
-        Expr::Atom(word) => push_leaf(text, b"Z", word.bytes()),
+        Expr::Empty(word) => print_leaf(output, b"E", word.bytes(), None),
+        Expr::Atom(word) => print_leaf(output, b"Z", word.bytes(), label),
         Expr::Union(parts) => {
             let Token::Pick(i) = token else {
                 unreachable!()
             };
-            push_option(text, i)?;
-            todos.push_object(parts.items()[i as usize])
+            output.write_number(u64::from(i))?;
+            output.write(b".")?;
+            todos.push_one(Todo::Node(parts.items()[i as usize]))
         }
         Expr::Seq(part) => {
             let Token::Count(k) = token else {
                 unreachable!()
             };
-            text.push(b'[')?;
-            todos.push_byte(b']')?;
+            output.write(b"[")?;
+            todos.push_one(Todo::Byte(b']'))?;
             todos.push_objects(*part, k)
         }
-        Expr::Class(_) | Expr::Product(_) | Expr::Set(_) | Expr::Cyc(_) => unreachable!(),
+        Expr::Set(part) => {
+            let Token::Count(k) = token else {
+                unreachable!()
+            };
+            begin_parts(Form::Set, *part, k, todos, output)
+        }
+        Expr::Cyc(part) => {
+            let Token::Count(k) = token else {
+                unreachable!()
+            };
+            begin_parts(Form::Cycle, *part, k, todos, output)
+        }
+        Expr::Class(_) | Expr::Product(_) => unreachable!(),
     }
 }
 
-/// Appends a leaf's word, or its plain letter where it has none.
-fn push_leaf(text: &mut Vec<u8>, letter: &[u8], word: &[u8]) -> Result<(), AllocError>
-    ensures { OnOk result (text.new.items ≡ text.old.items ++ leaf_text letter.now word.now) }
+/// Begins a set or a cycle of so many parts.
+fn begin_parts(
+    form: Form,
+    part: ExprId,
+    parts: u32,
+    todos: &mut Todos,
+    output: &mut Output,
+) -> Result<(), AllocError>
+    ensures { OnOk result (
+        (todos.new ≡ replicate parts (Todo.Part part) ++ Todo.Close form ∷ todos.old)
+        × (output.new ≡ opened output.old)) }
 {
-    if word.is_empty() {
-        text.extend_from_slice(letter)
-    } else {
-        text.extend_from_slice(word)
-    }
+    output.open()?;
+    todos.push_one(Todo::Close(form))?;
+    todos.push_parts(part, parts)
 }
 
-/// Appends an option's number and a dot.
-fn push_option(text: &mut Vec<u8>, option: u32) -> Result<(), AllocError>
-    ensures { OnOk result (text.new.items ≡ text.old.items ++ (decimal option ++ 46 ∷ [])) }
+/// Prints a leaf's word, or its plain letter where it has none, and its label if it has one.
+fn print_leaf(
+    output: &mut Output,
+    letter: &[u8],
+    word: &[u8],
+    label: Option<u64>,
+) -> Result<(), AllocError>
+    ensures { OnOk result (
+        output.new ≡ labelled_leaf output.old (leaf_text letter.now word.now) label) }
 {
-    let mut buffer = Buffer::new();
-    text.extend_from_slice(buffer.format(option).as_bytes())?;
-    text.push(b'.')?;
-    Ok(())
+    output.write(if word.is_empty() { letter } else { word })?;
+    match label {
+        None => Ok(()),
+        Some(label) => output.write_label(label),
+    }
 }

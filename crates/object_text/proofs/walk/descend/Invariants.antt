@@ -5,7 +5,7 @@ use Rattle.object_text.proofs.walk.descend.Given as goal
 
 abbrev pub invariant-loop-e : goal.invariant-loop-e
 invariant-loop-e l = record {
-  goes : Goes l.system l.initial.todos l.initial.text.items l.todos l.text.items;
+  goes : Goes l.system l.initial.todos l.initial.output l.todos l.output;
   descent : Descent l.system (nodes_of l.initial.todos) (nodes_of l.todos) l.left;
 }
 

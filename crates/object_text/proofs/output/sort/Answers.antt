@@ -1,0 +1,9 @@
+-- What std's stable sort gives.
+use Rattle.std.proofs.Common.{rules}
+use Rattle.std.proofs.lemmas.Result.{on_ok_weaker}
+use Rattle.std.proofs.lemmas.List.Sorted.{IsNonDecreasingBy-from_sort_by_key}
+use Rattle.object_text.proofs.StableOrder.{stable-in_order, stable-by, least_at}
+use Rattle.object_text.proofs.output.sort.Goals as goal
+
+pub returns : goal.returns
+returns c = on_ok_weaker c.sort_by_key.result (λ sorted. stable-in_order c.args.parts.now.items c.sort_by_key.new.self.items (IsNonDecreasingBy-from_sort_by_key least_at _ sorted (λ a r q k. search rules)) (stable-by _ _ c.sort_by_key.ensures.stable (λ a r q k. search rules))) c.sort_by_key.ensures.sorted

@@ -1,0 +1,265 @@
+//! What is printed so far.
+//!
+//! The text of a part of a set or a cycle is kept by itself until all parts are there: their order
+//! is known only then.
+ghost use Rattle.std.specs.Prelude.{◌≡◌, ◌≤◌, ◌++◌, ◌∷◌, [], OnOk, decimal, length, take, drop};
+ghost use Rattle.bz_model.specs.ObjectText.{lesser_label, least_of, spaced, rotated_to};
+ghost use Rattle.object_text.specs.Output.{blank, grown, opened, parted, closed, arranged, opener, closer};
+
+use itoa::Buffer;
+use std::alloc::{AllocError, Global};
+use std::marker::Model;
+use std::mem;
+
+/// What is arranged: the parts of a set, or those of a cycle.
+#[derive(Clone, Copy, Debug)]
+pub(crate) enum Form {
+    Set,
+    Cycle,
+}
+
+/// A finished part: its text, with its least label, or 0 where it has none.
+#[derive(Drop)]
+pub(crate) struct Part {
+    least: u64,
+    text: Vec<u8>,
+}
+
+impl Model for Part {
+    ghost use Rattle.bz_model.specs.ObjectText.{PartText};
+
+    ghost Value = { PartText };
+
+    ghost view = { λ p. record { least = p.least; text = p.text.items } };
+}
+
+/// A set or cycle that is being printed: the text before it, and its finished parts.
+#[derive(Drop)]
+struct Frame {
+    least: u64,
+    text: Vec<u8>,
+    parts: Vec<Part>,
+}
+
+impl Model for Frame {
+    ghost use Rattle.object_text.specs.Output.{OpenParts};
+
+    ghost Value = { OpenParts };
+
+    ghost view = { λ f. record { least = f.least; text = f.text.items; parts = f.parts.items } };
+}
+
+/// The open text, and the sets and cycles that are being printed.
+#[derive(Drop)]
+pub(crate) struct Output {
+    least: u64,
+    text: Vec<u8>,
+    frames: Vec<Frame>,
+}
+
+impl Model for Output {
+    ghost use Rattle.std.specs.Prelude.{reverse};
+    ghost use Rattle.object_text.specs.Output.{Printed};
+
+    ghost Value = { Printed };
+
+    ghost view = { λ o. record { least = o.least; text = o.text.items; frames = reverse o.frames.items } };
+}
+
+impl Output {
+    /// Nothing.
+    pub(crate) fn new(alloc: Global) -> Output
+        ensures { result ≡ blank }
+    {
+        Output {
+            least: 0,
+            text: Vec::new(alloc),
+            frames: Vec::new(alloc),
+        }
+    }
+
+    /// The open text.
+    pub(crate) fn into_text(self) -> Vec<u8>
+        ensures { result.items ≡ self.text }
+    {
+        let Output {
+            least: _,
+            text,
+            frames: _,
+        } = self;
+        text
+    }
+
+    /// Appends bytes without a label to the open text.
+    pub(crate) fn write(&mut self, bytes: &[u8]) -> Result<(), AllocError>
+        ensures { OnOk result (self.new ≡ grown self.old 0 bytes.now) }
+    {
+        self.text.extend_from_slice(bytes)
+    }
+
+    /// Appends a number to the open text.
+    pub(crate) fn write_number(&mut self, n: u64) -> Result<(), AllocError>
+        ensures { OnOk result (self.new ≡ grown self.old 0 (decimal n)) }
+    {
+        let mut buffer = Buffer::new();
+        self.text.extend_from_slice(buffer.format(n).as_bytes())
+    }
+
+    /// Appends the number sign and a label to the open text.
+    pub(crate) fn write_label(&mut self, label: u64) -> Result<(), AllocError>
+        ensures { OnOk result (self.new ≡ grown self.old label (35 ∷ decimal label)) }
+    {
+        let mut buffer = Buffer::new();
+        self.text.push(b'#')?;
+        self.text
+            .extend_from_slice(buffer.format(label).as_bytes())?;
+        self.least = lesser(self.least, label);
+        Ok(())
+    }
+
+    /// Begins a set or a cycle.
+    pub(crate) fn open(&mut self) -> Result<(), AllocError>
+        ensures { OnOk result (self.new ≡ opened self.old) }
+    {
+        let alloc = *self.text.allocator();
+        let frame = Frame {
+            least: self.least,
+            text: mem::replace(&mut self.text, Vec::new(alloc)),
+            parts: Vec::new(alloc),
+        };
+        self.least = 0;
+        self.frames.push(frame)?;
+        Ok(())
+    }
+
+    /// Makes the open text a finished part of the innermost set or cycle, and begins the next.
+    pub(crate) fn end_part(&mut self) -> Result<(), AllocError>
+        ensures { OnOk result (self.new ≡ parted self.old) }
+    {
+        let alloc = *self.text.allocator();
+        let part = Part {
+            least: self.least,
+            text: mem::replace(&mut self.text, Vec::new(alloc)),
+        };
+        self.least = 0;
+        let Some(frame) = self.frames.pop() else {
+            return Ok(());
+        };
+        let Frame {
+            least,
+            text,
+            mut parts,
+        } = frame;
+        parts.push(part)?;
+        self.frames.push_reserved(Frame { least, text, parts });
+        Ok(())
+    }
+
+    /// Ends the innermost set or cycle: its text follows the text before it.
+    pub(crate) fn close(&mut self, form: Form) -> Result<(), AllocError>
+        ensures { OnOk result (self.new ≡ closed form self.old) }
+    {
+        let Some(frame) = self.frames.pop() else {
+            return Ok(());
+        };
+        let Frame {
+            least,
+            mut text,
+            parts,
+        } = frame;
+        self.least = lesser(least, least_label(&parts));
+        write_parts(&mut text, form, parts)?;
+        self.text = text;
+        Ok(())
+    }
+}
+
+/// Appends the parts of a set or a cycle in canonical order, between its brackets.
+fn write_parts(text: &mut Vec<u8>, form: Form, mut parts: Vec<Part>) -> Result<(), AllocError>
+    ensures { OnOk result (text.new.items
+        ≡ text.old.items ++ (opener form ∷ spaced (arranged form parts.items) ++ closer form ∷ [])) }
+{
+    match form {
+        Form::Set => {
+            sort(&mut parts)?;
+            text.push(b'{')?;
+            write_spaced(text, &parts)?;
+            text.push(b'}')?;
+        }
+        Form::Cycle => {
+            rotate(&mut parts);
+            text.push(b'<')?;
+            write_spaced(text, &parts)?;
+            text.push(b'>')?;
+        }
+    }
+    Ok(())
+}
+
+/// Puts parts in the order of their least labels.
+fn sort(parts: &mut Vec<Part>) -> Result<(), AllocError>
+    ensures { OnOk result (parts.new.items ≡ arranged Form.Set parts.old.items) }
+{
+    parts.sort_by_key(|part| part.least)
+}
+
+/// Turns parts so that the one with the least label comes first.
+fn rotate(parts: &mut Vec<Part>)
+    ensures { parts.new.items ≡ arranged Form.Cycle parts.old.items }
+{
+    let least = least_label(parts);
+    let first = first_with(parts, least);
+    parts.rotate_left(first);
+}
+
+/// The place of the first part with this least label, or how many parts there are.
+fn first_with(parts: &[Part], label: u64) -> usize
+    ensures within { result ≤ length parts.now }
+    ensures first { drop result parts.now ++ take result parts.now ≡ rotated_to label [] parts.now }
+{
+    for (i, part) in parts.iter().enumerate() {
+        if part.least == label {
+            return i;
+        }
+    }
+    parts.len()
+}
+
+/// Appends parts with a space between each two.
+fn write_spaced(text: &mut Vec<u8>, parts: &[Part]) -> Result<(), AllocError>
+    ensures { OnOk result (text.new.items ≡ text.old.items ++ spaced parts.now) }
+{
+    let Some((first, later)) = parts.split_first() else {
+        return Ok(());
+    };
+    text.extend_from_slice(&first.text)?;
+    for part in later {
+        text.push(b' ')?;
+        text.extend_from_slice(&part.text)?;
+    }
+    Ok(())
+}
+
+/// The least label of parts, or 0 where none has one.
+fn least_label(parts: &[Part]) -> u64
+    ensures { result ≡ least_of parts.now }
+{
+    let mut least = 0;
+    for part in parts {
+        least = lesser(least, part.least);
+    }
+    least
+}
+
+/// The lesser of two labels, where 0 stands for none.
+fn lesser(a: u64, b: u64) -> u64
+    ensures { result ≡ lesser_label a b }
+{
+    if a == 0 {
+        b
+    } else if b == 0 {
+        a
+    } else {
+        a.min(b)
+    }
+}
