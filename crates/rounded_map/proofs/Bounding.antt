@@ -55,12 +55,12 @@ module _ (s : Spec) (x : Fraction) (F : ℕ) (sound : IsSound s) (classes : List
   }
 
 -- The value of a class's body is there and at most its entry, where the bodies' values are no greater than the entries.
-record IsBodyWithin (vs : List (Option ℕ)) (classes : List ℕ) (c body : ℕ) : Type 0 where
-  value : ℕ
-  is_there : value_at vs body ≡ Some value
-  within : value ≤ slice_index classes c
+pub record IsBodyWithin (vs : List (Option ℕ)) (classes : List ℕ) (c body : ℕ) : Type 0 where
+  pub value : ℕ
+  pub is_there : value_at vs body ≡ Some value
+  pub within : value ≤ slice_index classes c
 
-body-within : (vs : List (Option ℕ)) (bodies classes : List ℕ) → AreNoGreater (map (value_at vs) bodies) (map Some classes) → (c body : ℕ) → slice_get bodies c ≡ Some body → IsBodyWithin vs classes c body
+pub body-within : (vs : List (Option ℕ)) (bodies classes : List ℕ) → AreNoGreater (map (value_at vs) bodies) (map Some classes) → (c body : ℕ) → slice_get bodies c ≡ Some body → IsBodyWithin vs classes c body
 body-within vs [] classes each c body at = absurd (omega (arith, slice_get_within [] c body at))
 body-within vs (b ∷ bodies) [] each c body at = absurd each
 body-within vs (b ∷ bodies) (n ∷ classes) each zero body at = first (value_at vs b) refl each.0

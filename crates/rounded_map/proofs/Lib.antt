@@ -7,5 +7,6 @@ pub mod AtNode
 pub mod Covering
 pub mod MapMonotone
 pub mod Bounding
+pub mod EachValued
 pub mod SlopesRunning
 pub mod Replaced

@@ -2,12 +2,12 @@
 //! are monotone.
 //!
 //! Each law is a function without effect, whose clauses hold of all values that they name.
-ghost use Rattle.std.specs.Prelude.{◌≡◌, ℕ, suc, ◌<◌, List, length, replicate};
+ghost use Rattle.std.specs.Prelude.{◌≡◌, ℕ, suc, ◌<◌, List, length, replicate, Some};
 ghost use Rattle.bz_model.specs.Fraction.{Fraction};
 ghost use Rattle.bz_model.specs.Spec.{Spec};
 ghost use Rattle.class_system.specs.Sound.{IsSound};
 ghost use Rattle.fixed_enclosure.specs.UpperValues.{AreNoGreater, AreAtMost};
-ghost use Rattle.rounded_map.specs.RoundedMap.{Setting, setting, repeated, values_down, values_up, sweep_down, sweep_up, IsPostFixed};
+ghost use Rattle.rounded_map.specs.RoundedMap.{Setting, setting, value_at, repeated, values_down, values_up, sweep_down, sweep_up, IsPostFixed};
 ghost use Rattle.rounded_map.specs.Bounding.{AreAbove, AreAboveWithin, AreBelow, ValuesAbove, ValuesAboveWithin, ValuesBelow};
 
 /// Where the entries bound the classes, the upper values bound the nodes. By height: of one height
@@ -36,13 +36,16 @@ pub fn upper_values_are_monotone()
 {}
 
 /// A post-fixed vector bounds every total, whatever the height of the objects, and so do the upper
-/// values at it.
+/// values at it, of which each node has one.
 pub fn post_fixed_vectors_bound_every_total()
     ensures entries { (s : Spec) (x : Fraction) (F : ℕ) (classes : List ℕ) → IsSound s
         → IsPostFixed (setting s x.num x.den F) classes → AreAbove s x F classes }
     ensures values { (s : Spec) (x : Fraction) (F : ℕ) (classes : List ℕ) → IsSound s
         → IsPostFixed (setting s x.num x.den F) classes
         → ValuesAbove s x F (values_up (setting s x.num x.den F) classes) }
+    ensures there { (s : Spec) (x : Fraction) (F : ℕ) (classes : List ℕ) → IsSound s
+        → IsPostFixed (setting s x.num x.den F) classes → (e : ℕ) → e < length s.nodes
+        → (v : ℕ) × (value_at (values_up (setting s x.num x.den F) classes) e ≡ Some v) }
 {}
 
 /// An upper sweep keeps what bounds; one of a post-fixed vector is post-fixed and nowhere greater.
