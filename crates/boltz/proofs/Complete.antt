@@ -15,7 +15,7 @@ use Rattle.well_founded.specs.Examination.{TellsCause}
 use Rattle.well_founded.proofs.Judged.{tells-unfounded}
 use Rattle.boltz.specs.Answers.{Output, Ends, World, file_of, IsAsked, IsAccepted, Answers, Draws, spec_text}
 use Rattle.boltz.specs.Answers as answers
-use Rattle.boltz.specs.Complete.{IsPrintable}
+use Rattle.boltz.specs.Complete.{IsPrintable, IsUnfit}
 use Rattle.boltz.specs.Words.{Command, Names}
 use Rattle.boltz.specs.Words as names
 use Rattle.boltz.specs.declared.status.Status.{Status}
@@ -76,3 +76,25 @@ complete w o variants.SpecRefused h s p no_fault = inl (printed w s variants.Spe
 complete w o variants.ReadFault h s p no_fault = inl (printed w s variants.ReadFault h.text p h.answers).0
 complete w o variants.WriteFault h s p no_fault = absurd (no_fault h.rose)
 complete w o variants.OutOfMemory h s p no_fault = inr refl
+
+only : (w : World) (p : IsUnfit w) (c : Command) → Names w.words c → c ≡ Command.Spec p.file
+only w p c h = same-spec w.words p.file (Command.Spec p.file) c refl p.named h
+
+what-is-read : (w : World) (p : IsUnfit w) (c : Command) (read : List ℕ) → IsAsked w c read → read ≡ take 65537 p.bytes
+what-is-read w p c read asked = told (w.content p.file) p.bytes read p.is_told (subst (λ d. IfSome (w.content (file_of d)) (λ b. read ≡ take 65537 b)) (only w p c asked.named) asked.is_read)
+
+pub refused : (w : World) (status : Status) (text : List ℕ) → IsUnfit w → Answers w status text → status ≡ Status.SpecRefused
+refused w status text p (answers.words_refused none e) = absurd (none (Command.Spec p.file) p.named)
+refused w status text p (answers.not_read c named rose e) = absurd (p.no_fault (subst (λ d. Rose (w.before (file_of d)) (w.after (file_of d))) (only w p c named) rose))
+refused w status text p (answers.text_refused c read fault asked memory refuses e) = refl
+refused w status text p (answers.unfounded c read t cause asked accepts memory tells e) = refl
+refused w status text p (answers.printed file read t asked accepts founded e) = absurd (p.unfit t (subst (λ r. IsAccepted r t) (what-is-read w p (Command.Spec file) read asked) accepts) founded)
+refused w status text p (answers.not_yet c read t draws asked accepts founded e) = refl
+
+pub refuses : (w : World) (o : Output) (status : Status) → Ends w o status → IsUnfit w → ¬ (Rose o.faults_before o.faults_after) → (status ≡ Status.SpecRefused) ⊎ (status ≡ Status.OutOfMemory)
+refuses w o variants.Done h p no_fault = inl (refused w variants.Done h.text p h.answers)
+refuses w o variants.WordsRefused h p no_fault = inl (refused w variants.WordsRefused h.text p h.answers)
+refuses w o variants.SpecRefused h p no_fault = inl refl
+refuses w o variants.ReadFault h p no_fault = inl (refused w variants.ReadFault h.text p h.answers)
+refuses w o variants.WriteFault h p no_fault = absurd (no_fault h.rose)
+refuses w o variants.OutOfMemory h p no_fault = inr refl

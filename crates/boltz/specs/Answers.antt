@@ -1,5 +1,5 @@
 -- What the program answers, and where each answer comes.
-use Rattle.std.specs.Prelude.{◌≡◌, ◌≢◌, ℕ, List, ◌++◌, length, take, Option, IfSome}
+use Rattle.std.specs.Prelude.{◌≡◌, ◌≢◌, ℕ, ◌≤◌, List, ◌++◌, length, take, Option, IfSome}
 use Rattle.bz_model.specs.Spec.{Spec}
 use Rattle.bz_model.specs.WellFounded.{IsWellFounded}
 use Rattle.bz_outside.specs.Outside.{Rose, Appends, AppendsFront}
@@ -31,8 +31,9 @@ pub record IsAsked (w : World) (c : Command) (read : List ℕ) : Type 0 where
   pub named : Names w.words c
   pub is_read : IfSome (w.content (file_of c)) (λ bytes. read ≡ take 65537 bytes)
 
--- A text stands for this specification, which is within the limits.
+-- A text of at most 65536 bytes stands for this specification, which is within the limits.
 pub record IsAccepted (read : List ℕ) (s : Spec) : Type 0 where
+  pub few : length read ≤ 65536
   pub stands : Grammar read s
   pub within : IsWithinLimits s
 

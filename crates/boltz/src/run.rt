@@ -3,7 +3,7 @@ ghost use Rattle.std.specs.Prelude.{◌≡◌, ℕ, ◌≤◌, ◌⊎◌, List};
 ghost use Rattle.bz_model.specs.Spec.{Spec};
 ghost use Rattle.bz_outside.specs.Outside.{Rose};
 ghost use Rattle.boltz.specs.Answers.{World, Output, Ends};
-ghost use Rattle.boltz.specs.Complete.{IsPrintable};
+ghost use Rattle.boltz.specs.Complete.{IsPrintable, IsUnfit};
 ghost use Rattle.boltz.specs.declared.status.Status.{Status};
 
 use crate::report::answer_to;
@@ -18,13 +18,15 @@ use std::alloc::Global;
 ///
 /// Where memory is wanting nothing is written. Where a write fails a front of the text is written,
 /// and nothing after it. A well-founded specification within the limits is printed, where no read and
-/// no write fails and memory suffices.
-#[tactic(auto, using(crate::proofs::Complete::complete))]
+/// no write fails and memory suffices; any other one is refused then.
+#[tactic(auto, using(crate::proofs::Complete::complete, crate::proofs::Complete::refuses))]
 pub fn run<S: Shelf, K: Sink>(alloc: Global, words: &[Word], shelf: &mut S, out: &mut K) -> Status
     ensures ends { Ends (record { words = words.now; content = S.content shelf.old; before = S.faults shelf.old; after = S.faults shelf.new })
         (record { before = K.written out.old; after = K.written out.new; faults_before = K.faults out.old; faults_after = K.faults out.new }) result }
     ensures complete { (s : Spec) → IsPrintable (record { words = words.now; content = S.content shelf.old; before = S.faults shelf.old; after = S.faults shelf.new }) s
         → ¬ (Rose (K.faults out.old) (K.faults out.new)) → (result ≡ Status.Done) ⊎ (result ≡ Status.OutOfMemory) }
+    ensures refuses { IsUnfit (record { words = words.now; content = S.content shelf.old; before = S.faults shelf.old; after = S.faults shelf.new })
+        → ¬ (Rose (K.faults out.old) (K.faults out.new)) → (result ≡ Status.SpecRefused) ⊎ (result ≡ Status.OutOfMemory) }
     ensures content { S.content shelf.new ≡ S.content shelf.old }
     ensures counts { (name : List ℕ) → S.faults shelf.old name ≤ S.faults shelf.new name }
     ensures writes { K.faults out.old ≤ K.faults out.new }
