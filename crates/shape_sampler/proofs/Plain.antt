@@ -1,5 +1,5 @@
 -- Visits of nodes that take no number.
-use Rattle.std.proofs.Common.{◌≡◌, ◌≢◌, ℕ, List, [], ◌∷◌, refl, sym, ◌∙◌, ap, subst, Option, Some, None, IfSome, Bool, max, ◌-◌, ◌≤◌, map, length, arith, slice_get, slice_index}
+use Rattle.std.proofs.Common.{◌≡◌, ◌≢◌, ℕ, List, [], ◌∷◌, ◌++◌, append-nil, refl, sym, ◌∙◌, ap, subst, Option, Some, None, IfSome, Bool, max, ◌-◌, ◌≤◌, map, length, arith, slice_get, slice_index}
 use Rattle.std.proofs.lemmas.List.{length-map}
 use Rattle.std.proofs.lemmas.Option.{get_or_from_slice_get}
 use Rattle.bz_model.specs.Fraction.{Fraction}
@@ -13,10 +13,10 @@ use Rattle.class_system.specs.Limits.{IsWithinLimits}
 use Rattle.choice_draw.specs.Decision.{IsUnion, level_for}
 use Rattle.choice_draw.specs.Draw.{Bit, bit_of}
 use Rattle.shape_sampler.specs.declared.stepped.Stepped.{Stepped}
-use Rattle.shape_sampler.specs.declared.stepped.Stepped.TheVariants.{OutOfMemory}
+use Rattle.shape_sampler.specs.declared.stepped.Stepped.TheVariants.{Moved, Made, Overshot, Straddles, Ended, ReadFault, OutOfMemory}
 use Rattle.shape_sampler.specs.Visit.{Chooser, Attempt, Visited, node_visited, visit_among, visit, with_pending}
 use Rattle.shape_sampler.specs.State.{SessionState, SessionBelongs, attempt_of}
-use Rattle.shape_sampler.specs.Answer.{told_visit, fault_place, ChoosesBy, IsVisit, IsPlainVisit, IsVisitOfAll, IsIdealAnswer, replaced_by}
+use Rattle.shape_sampler.specs.Answer.{told_visit, fault_place, ChoosesBy, IsVisit, IsPlainVisit, IsVisitOfAll, IsIdealAnswer, IsPlainAnswer, Draws, replaced_by}
 use Rattle.shape_sampler.proofs.Ideal.{IsIdealVisit}
 use Rattle.shape_sampler.proofs.Sessions.{still-belongs}
 
@@ -57,6 +57,16 @@ class-visit s before now answer e k body first at is_body p ne = record { same =
 pub plain-exact : (s : Spec) (table : (level e : ℕ) → Bounds) (before now : SessionState) (answer : Stepped) (start : ℕ) → (answer ≢ OutOfMemory → IsVisitOfAll s before answer now) → (told : Option (ℕ → Option Bool)) → IfSome told (λ bits. (c : Chooser) → ChoosesBy s table c → IsVisit c bits before start answer now start)
 plain-exact s table before now answer start h None = tt
 plain-exact s table before now answer start h (Some bits) = λ c by. record { same = λ ne. (h ne).same c (bit_of bits (fault_place answer start)) start by.same_spec }
+
+-- a visit that takes no number draws no cell
+pub plain-draws : (answer : Stepped) (before now : SessionState) (start used : ℕ) → IsPlainAnswer answer → now.cells ≡ before.cells → Draws answer before now start used
+plain-draws Moved before now start used plain same = record { more = []; whole = same ∙ sym (append-nil before.cells) }
+plain-draws Made before now start used plain same = record { more = []; whole = same ∙ sym (append-nil before.cells) }
+plain-draws Overshot before now start used plain same = record { more = []; whole = same ∙ sym (append-nil before.cells) }
+plain-draws OutOfMemory before now start used plain same = record { more = []; whole = same ∙ sym (append-nil before.cells) }
+plain-draws (Straddles node cell) before now start used plain same = absurd plain
+plain-draws Ended before now start used plain same = tt
+plain-draws ReadFault before now start used plain same = tt
 
 -- no bit needs no level
 pub no-level : (raised used : ℕ) → raised ≡ max raised (level_for (used - used))

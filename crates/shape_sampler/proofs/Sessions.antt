@@ -8,7 +8,7 @@ use Rattle.object_store.specs.Walk.{AllBelow}
 use Rattle.shape_sampler.specs.declared.stepped.Stepped.{Stepped}
 use Rattle.shape_sampler.specs.declared.stepped.Stepped.TheVariants.{Moved, Made, Overshot, Straddles, Ended, ReadFault, OutOfMemory}
 use Rattle.shape_sampler.specs.Belonging.{Belonging, IsIdealShape, IsIdealOver}
-use Rattle.shape_sampler.specs.State.{SessionState, SessionBelongs, Runs, Leaves, attempt_of, begun_state, stopped_by}
+use Rattle.shape_sampler.specs.State.{SessionState, SessionBelongs, Runs, Leaves, attempt_of, begun_state, emptied, stopped_by}
 use Rattle.shape_sampler.specs.Answer.{told_visit, IsIdealAnswer}
 use Rattle.shape_sampler.proofs.Ideal.{IsIdealVisit}
 use Rattle.shape_sampler.proofs.Visits.{begins}
@@ -26,6 +26,10 @@ begun-belongs-at s x st es ts cs pending tokens cells b =
     (subst (λ us. SessionBelongs s x (record st { pending = st.root ∷ []; tokens = us; cells = cs; room = st.whole; stopped = None })) (sym tokens)
     (subst (λ ds. SessionBelongs s x (record st { pending = st.root ∷ []; tokens = []; cells = ds; room = st.whole; stopped = None })) (sym cells)
     (begun-belongs s x st b)))
+
+-- with nothing pending it belongs whatever its tokens and cells are
+pub emptied-belongs : (s : Spec) (x : Fraction) (st : SessionState) → st.pending ≡ [] → SessionBelongs s x st → SessionBelongs s x (emptied st)
+emptied-belongs s x st made b = record { root = b.root; root_in_range = b.root_in_range; attempt = record { in_range = b.attempt.in_range; goes_on = λ some. absurd (some made) } }
 
 stopped-belongs : (s : Spec) (x : Fraction) (st : SessionState) (answer : Stepped) → SessionBelongs s x st → SessionBelongs s x (stopped_by st answer)
 stopped-belongs s x st answer b = record { root = b.root; root_in_range = b.root_in_range; attempt = record { in_range = b.attempt.in_range; goes_on = b.attempt.goes_on } }

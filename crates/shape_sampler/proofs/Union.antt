@@ -14,7 +14,7 @@ use Rattle.choice_draw.specs.declared.drawn.Drawn.{Drawn}
 use Rattle.choice_draw.specs.declared.drawn.Drawn.TheVariants as drawn
 use Rattle.choice_draw.specs.Decision.{Choice, union_decision}
 use Rattle.choice_draw.specs.Draw.{bit_of, draw}
-use Rattle.choice_draw.specs.Answer.{IsDrawn, OnValue, UsesBits, told_draw}
+use Rattle.choice_draw.specs.Answer.{IsDrawn, OnValue, HasCell, UsesBits, told_draw}
 use Rattle.choice_draw.specs.Answer as drawing
 use Rattle.object_store.specs.declared.token.Token.{Token}
 use Rattle.object_store.specs.declared.token.Token.TheVariants as token
@@ -22,7 +22,7 @@ use Rattle.shape_sampler.specs.declared.stepped.Stepped.{Stepped}
 use Rattle.shape_sampler.specs.declared.stepped.Stepped.TheVariants.{Moved, Straddles, Ended, ReadFault}
 use Rattle.shape_sampler.specs.Visit.{Chooser, Attempt, Visited, after_draw, union_answered, node_visited, visit_among, visit, with_pending, with_token, with_cell}
 use Rattle.shape_sampler.specs.State.{SessionState, SessionBelongs, Leaves, attempt_of, stopped_by, union_answer, stop_after, drawn_tokens, drawn_cells, PutsPart}
-use Rattle.shape_sampler.specs.Answer.{told_visit, fault_place, ChoosesBy, IsVisit, IsIdealAnswer}
+use Rattle.shape_sampler.specs.Answer.{told_visit, fault_place, ChoosesBy, IsVisit, IsIdealAnswer, Draws}
 use Rattle.shape_sampler.proofs.Ideal.{IsIdealVisit, ideal-union}
 use Rattle.shape_sampler.proofs.Sessions.{still-belongs}
 use Rattle.shape_sampler.proofs.Plain.{Front, front}
@@ -82,6 +82,13 @@ module _ (node : ExprId) (parts : List ℕ) (before now : SessionState) (first :
   union-leaves drawn.Ended t = stays Ended t.root t.whole t.pending t.tokens t.cells t.room t.stopped
   union-leaves drawn.ReadFault t = stays ReadFault t.root t.whole t.pending t.tokens t.cells t.room t.stopped
 
+  -- what was drawn stands after the cells before, or all bits of a cell were used
+  pub union-draws : (d : Drawn) (start used : ℕ) → Settled node parts d before now → UsesBits d start used → HasCell d → Draws (union_answer node d) before now start used
+  union-draws (drawn.Value value cell) start used t bits h = record { more = cell ∷ []; whole = t.cells }
+  union-draws (drawn.Straddles cell) start used t bits h = record { first = first; bits = h.1; all_used = bits }
+  union-draws drawn.Ended start used t bits h = tt
+  union-draws drawn.ReadFault start used t bits h = tt
+
   -- the session's attempt after a part was drawn
   picked : (value : ℕ) (cell : Cell) (start used : ℕ) → Settled node parts (drawn.Value value cell) before now → used ≡ start + cell.b → attempt_of now used ≡ with_pending (with_token (with_cell (attempt_of before start) cell) (token.Pick value)) (slice_index parts value ∷ f.rest)
   picked value cell start used t bits = same-attempt (attempt_of now used) (with_pending (with_token (with_cell (attempt_of before start) cell) (token.Pick value)) (slice_index parts value ∷ f.rest)) (t.pending node.0 f.rest f.whole) t.tokens t.cells t.room bits
@@ -132,6 +139,9 @@ module _ (node : ExprId) (parts : List ℕ) (before now : SessionState) (first :
 module _ (node : ExprId) (parts : List ℕ) (before now : SessionState) (first : slice_get before.pending 0 ≡ Some node.0) (d : Drawn) (answer : Stepped) (answered : answer ≡ union_answer node d) (settled : Settled node parts d before now) where
   pub answer-leaves : Leaves answer before now
   answer-leaves = subst (λ a. Leaves a before now) (sym answered) (union-leaves node parts before now first d settled)
+
+  pub answer-draws : (start used : ℕ) → UsesBits d start used → HasCell d → Draws answer before now start used
+  answer-draws start used bits h = subst (λ a. Draws a before now start used) (sym answered) (union-draws node parts before now first d start used settled bits h)
 
   module _ (s : Spec) (at : node_at s node.0 ≡ Some (Node.Union parts)) where
     pub answer-exact : (table : (level e : ℕ) → Bounds) (start used : ℕ) → UsesBits d start used → (bits : ℕ → Option Bool) → IsDrawn Choice.Take (union_decision s table node.0) bits start d used → (c : Chooser) → ChoosesBy s table c → IsVisit c bits before start answer now used

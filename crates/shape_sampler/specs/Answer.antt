@@ -1,5 +1,7 @@
 -- What a step's answer tells of the visit.
-use Rattle.std.specs.Prelude.{◌≡◌, ◌≢◌, ℕ, Bool, List, ◌∷◌, ◌++◌, Option, Some, None}
+use Rattle.std.specs.Prelude.{◌≡◌, ◌≢◌, ℕ, ◌+◌, Bool, List, ◌∷◌, ◌++◌, Option, Some, None, slice_get}
+use Rattle.bz_model.specs.declared.cell.Cell.{Cell}
+use Rattle.class_system.specs.declared.ids.ExprId.{ExprId}
 use Rattle.bz_model.specs.declared.cell.Bounds.{Bounds}
 use Rattle.bz_model.specs.Fraction.{Fraction}
 use Rattle.bz_model.specs.Spec.{Spec}
@@ -45,6 +47,24 @@ IsIdealAnswer s x Made now = IsIdealShape s x now.whole now.tokens now.cells
 IsIdealAnswer s x Overshot now = IsIdealOver s x now.whole now.cells
 IsIdealAnswer s x _ now = Unit {0}
 
+-- Cells are those before, and others after them.
+pub record Extends (before now : List Cell) : Type 0 where
+  pub more : List Cell
+  pub whole : now ≡ before ++ more
+
+-- A cell that straddles is one of 60 bits, at the first pending node; so many bits were used.
+pub record StraddlesAt (node : ExprId) (cell : Cell) (before : SessionState) (start used : ℕ) : Type 0 where
+  pub first : slice_get before.pending 0 ≡ Some node.0
+  pub bits : cell.b ≡ 60
+  pub all_used : used ≡ start + cell.b
+
+-- What a visit draws, from so many bits used before to so many now. Where it isn't stopped, its cells stand after those before.
+abbrev pub Draws : Stepped → (before now : SessionState) → (start used : ℕ) → Type 0
+Draws (Straddles node cell) before now start used = StraddlesAt node cell before start used
+Draws Ended before now start used = Unit {0}
+Draws ReadFault before now start used = Unit {0}
+Draws _ before now start used = Extends before.cells now.cells
+
 -- An answer that needs no tape: it is none of a straddling cell, the tape's end and a failed read.
 abbrev pub IsPlainAnswer : Stepped → Type 0
 IsPlainAnswer (Straddles node cell) = ⊥
@@ -56,6 +76,7 @@ IsPlainAnswer _ = Unit {0}
 pub record IsPlainVisit (visited : Attempt → (rest : List ℕ) → Visited) (before : SessionState) (answer : Stepped) (now : SessionState) : Type 0 where
   pub plain : IsPlainAnswer answer
   pub leaves : Leaves answer before now
+  pub cells : now.cells ≡ before.cells
   pub same : answer ≢ OutOfMemory → (e : ℕ) (rest : List ℕ) (used : ℕ) → before.pending ≡ e ∷ rest → told_visit answer now used ≡ visited (attempt_of before used) rest
 
 -- An atom is visited with the room that the attempt has left.

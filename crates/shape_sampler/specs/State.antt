@@ -31,6 +31,10 @@ attempt_of st used = record { pending = st.pending; tokens = st.tokens; cells = 
 abbrev pub begun_state : SessionState → SessionState
 begun_state st = record st { pending = st.root ∷ []; tokens = []; cells = []; room = st.whole; stopped = None }
 
+-- A session whose tokens and cells were moved out.
+abbrev pub emptied : SessionState → SessionState
+emptied st = record st { tokens = []; cells = [] }
+
 -- A session belongs where it knows the body of class 0, which is a node, and its attempt belongs.
 pub record SessionBelongs (s : Spec) (x : Fraction) (st : SessionState) : Type 0 where
   pub root : body_of s 0 ≡ Some st.root

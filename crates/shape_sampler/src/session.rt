@@ -8,8 +8,8 @@ ghost use Rattle.bit_tape.specs.Tape.{TapeSource, Belongs, bits_of, HasFault};
 ghost use Rattle.choice_draw.specs.Decision.{IsUnion, level_for};
 ghost use Rattle.shape_sampler.specs.Ready.{IsReady};
 ghost use Rattle.shape_sampler.specs.Visit.{Chooser, leaf_visited};
-ghost use Rattle.shape_sampler.specs.State.{SessionState, SessionBelongs, begun_state, Leaves};
-ghost use Rattle.shape_sampler.specs.Answer.{ChoosesBy, IsVisit, IsIdealAnswer, IsVisitOfAll, IsPlainAnswer, IsPlainVisit, room_atom_visited, replaced_by};
+ghost use Rattle.shape_sampler.specs.State.{SessionState, SessionBelongs, begun_state, emptied, Leaves};
+ghost use Rattle.shape_sampler.specs.Answer.{ChoosesBy, IsVisit, IsIdealAnswer, IsVisitOfAll, IsPlainAnswer, IsPlainVisit, room_atom_visited, replaced_by, Draws};
 
 use crate::placing::{answer, answer_to, put_drawn, put_token, replace_first, stop_of};
 use crate::stepped::Stepped;
@@ -29,12 +29,14 @@ use object_store::shape::Shape;
 use object_store::token::Token;
 use std::alloc::{AllocError, Global};
 use std::marker::Model;
+use std::mem::replace;
 use std::sync::ledger::Ledger;
 use well_founded::examination::Founded;
 
 /// An attempt at an object of class 0 within a room, and what stopped it.
 #[derive(Drop)]
 pub struct Session {
+    alloc: Global,
     root: ExprId,
     whole: u64,
     pending: Pending,
@@ -66,6 +68,7 @@ impl Session {
         let system = founded.system();
         system.known();
         Ok(Session {
+            alloc,
             root: system.body(ClassId(0)),
             whole: room,
             pending: Pending::new(alloc),
@@ -114,6 +117,20 @@ impl Session {
         !self.pending.is_empty()
     }
 
+    /// Moves the tokens and the cells out, where nothing is pending, and leaves both empty. Takes no
+    /// memory.
+    pub fn take_made(&mut self) -> (Shape, Cells)
+        requires made { self.old.pending ≡ [] }
+        ensures shape { result.0.items ≡ self.old.tokens }
+        ensures cells { result.1.items ≡ self.old.cells }
+        ensures left { self.new ≡ emptied self.old }
+        ensures belongs { (s : Spec) (x : Fraction) → SessionBelongs s x self.old → SessionBelongs s x self.new }
+    {
+        let shape = replace(&mut self.shape, Shape::new(self.alloc));
+        let cells = replace(&mut self.cells, Cells::new(self.alloc));
+        (shape, cells)
+    }
+
     /// Visits the first pending node, by its kind.
     ///
     /// A neutral leaf adds `Unit`; an atom adds `Dot` and lowers the room, and is `Overshot` at room
@@ -140,6 +157,7 @@ impl Session {
         ensures stopped { IsSome self.old.stopped → (tape.new ≡ tape.old) × (oracle.new ≡ oracle.old) }
         ensures no_memory { result ≡ Stepped.OutOfMemory → (self.new ≡ self.old) × (tape.new ≡ tape.old) × (oracle.new ≡ oracle.old) }
         ensures leaves { self.old.stopped ≡ None → Leaves result self.old self.new }
+        ensures draws { self.old.stopped ≡ None → Draws result self.old self.new tape.old.used tape.new.used }
         ensures exact { self.old.stopped ≡ None → IfSome (bits_of tape.old.source (S.content shelf.old)) (λ bits. (c : Chooser) → ChoosesBy founded.now (O.table oracle.old) c → IsVisit c bits self.old tape.old.used result self.new tape.new.used) }
         ensures ideal { IsIdealAnswer founded.now (O.x oracle.old) result self.new }
         ensures session { SessionBelongs founded.now (O.x oracle.old) self.new }
@@ -182,6 +200,7 @@ impl Session {
         requires first { slice_get self.old.pending 0 ≡ Some node.0 }
         ensures plain { IsPlainAnswer result }
         ensures leaves { Leaves result self.old self.new }
+        ensures cells { self.new.cells ≡ self.old.cells }
         ensures exact { result ≢ Stepped.OutOfMemory → IsVisitOfAll system.now self.old result self.new }
         ensures session { (x : Fraction) → SessionBelongs system.now x self.old
             → SessionBelongs system.now x self.new × IsIdealAnswer system.now x result self.new }
@@ -277,6 +296,7 @@ impl Session {
 
         ensures no_memory { result ≡ Stepped.OutOfMemory → (self.new ≡ self.old) × (tape.new ≡ tape.old) × (oracle.new ≡ oracle.old) }
         ensures leaves { Leaves result self.old self.new }
+        ensures draws { Draws result self.old self.new tape.old.used tape.new.used }
         ensures exact { IfSome (bits_of tape.old.source (S.content shelf.old)) (λ bits. (c : Chooser) → ChoosesBy system.now (O.table oracle.old) c → IsVisit c bits self.old tape.old.used result self.new tape.new.used) }
         ensures session { SessionBelongs system.now (O.x oracle.old) self.old
             → SessionBelongs system.now (O.x oracle.old) self.new × IsIdealAnswer system.now (O.x oracle.old) result self.new }

@@ -1,5 +1,5 @@
 -- What a drawing's course has to do with the ideal run.
-use Rattle.std.specs.Prelude.{◌≡◌, ℕ, List, [], ◌∷◌, ◌++◌, length}
+use Rattle.std.specs.Prelude.{◌≡◌, ℕ, List, [], ◌∷◌, ◌++◌, length, None}
 use Rattle.bz_model.specs.declared.cell.Cell.{Cell}
 use Rattle.bz_model.specs.Fraction.{Fraction}
 use Rattle.bz_model.specs.Spec.{Spec}
@@ -32,3 +32,8 @@ pub record Follows (s : Spec) (x : Fraction) (limits : Limits) (c : Course) : Ty
   pub entries : AreEntriesOf kept c.entries
   pub number : length kept ≡ c.state.kept
   pub run : (us rest : List Fraction) → AreInCells us finished → IdealRun s x (window_of limits) (us ++ rest) kept c.state.thrown rest
+
+-- A course goes as ideal runs do where it follows the ideal run and, while it hasn't ended, the other cells are those of the attempt under way.
+pub record Goes (s : Spec) (x : Fraction) (limits : Limits) (c : Course) : Type 0 where
+  pub follows : Follows s x limits c
+  pub under_way : c.state.ending ≡ None → follows.others ≡ c.state.attempt.cells

@@ -1,3 +1,5 @@
 pub mod RunByBits
 pub mod Ideally
 pub mod Follows
+pub mod Drawing
+pub mod Turn

@@ -6,4 +6,8 @@
 //! an object is ever kept.
 #![tactic(auto)]
 
+pub mod drawing;
+pub mod ending;
 pub mod laws;
+pub mod limits;
+pub mod turned;

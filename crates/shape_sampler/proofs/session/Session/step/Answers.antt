@@ -4,7 +4,7 @@ use Rattle.bz_model.specs.Spec.{Spec}
 use Rattle.class_system.specs.Views.{spec_node}
 use Rattle.shape_sampler.specs.State.{SessionBelongs}
 use Rattle.shape_sampler.specs.Answer.{IsVisitOfAll, IsIdealAnswer}
-use Rattle.shape_sampler.proofs.Plain.{plain-exact, no-level, no-union, few-parts}
+use Rattle.shape_sampler.proofs.Plain.{plain-exact, plain-draws, no-level, no-union, few-parts}
 use Rattle.shape_sampler.proofs.session.Session.step.Goals as goal
 
 pub visit_union-requires-clause-few : goal.visit_union-requires-clause-few
@@ -32,3 +32,6 @@ returns-clause-session g c =
 
 pub returns-clause-raised : goal.returns-clause-raised
 returns-clause-raised g c = no-level (g.O.Oracle.raised c.args.oracle.now) c.args.tape.now.used
+
+pub returns-clause-draws : goal.returns-clause-draws
+returns-clause-draws g c = λ running. plain-draws c.visit_plain.result c.args.self.now c.visit_plain.new.self c.args.tape.now.used c.args.tape.now.used c.visit_plain.ensures.plain c.visit_plain.ensures.cells

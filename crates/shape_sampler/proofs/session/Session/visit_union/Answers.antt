@@ -6,7 +6,7 @@ use Rattle.choice_draw.specs.Decision.{union_parts}
 use Rattle.choice_draw.specs.Answer.{OnValue}
 use Rattle.shape_sampler.specs.State.{SessionState}
 use Rattle.shape_sampler.specs.contracts.session.Session.{the_view}
-use Rattle.shape_sampler.proofs.Union.{settle, answer-leaves, answer-exact, answer-session, if-some}
+use Rattle.shape_sampler.proofs.Union.{settle, answer-leaves, answer-draws, answer-exact, answer-session, if-some}
 use Rattle.shape_sampler.proofs.session.Session.visit_union.Goals as goal
 
 pub returns-clause-leaves : goal.returns-clause-leaves
@@ -14,6 +14,12 @@ returns-clause-leaves g c =
     let now : SessionState = record { root = c.self.inside.root.0; whole = c.self.inside.whole; pending = c.put_drawn.new.pending.items; tokens = c.put_drawn.new.shape.items; cells = c.put_drawn.new.cells.items; room = c.self.inside.room; stopped = c.stop_of-self-inside.result } in
     let settled = settle c.args.node (map number c.args.parts.now) c.draw_union-drawn.result (the_view c.self.inside) c.args.self.now now c.answer_to-answer.result c.reserve.new.self.items c.reserve-else-is_err.new.self.items c.reserve-else-is_err-2.new.self.items c.self.view_is refl refl refl c.reserve.ensures.items c.reserve-else-is_err.ensures.items c.reserve-else-is_err-2.ensures.items c.put_drawn.ensures.pending c.put_drawn.ensures.tokens c.put_drawn.ensures.cells c.stop_of-self-inside.ensures c.answer_to-answer.ensures in
     answer-leaves c.args.node (map number c.args.parts.now) c.args.self.now now c.requires.first c.draw_union-drawn.result c.answer_to-answer.result c.answer_to-answer.ensures settled
+
+pub returns-clause-draws : goal.returns-clause-draws
+returns-clause-draws g c =
+    let now : SessionState = record { root = c.self.inside.root.0; whole = c.self.inside.whole; pending = c.put_drawn.new.pending.items; tokens = c.put_drawn.new.shape.items; cells = c.put_drawn.new.cells.items; room = c.self.inside.room; stopped = c.stop_of-self-inside.result } in
+    let settled = settle c.args.node (map number c.args.parts.now) c.draw_union-drawn.result (the_view c.self.inside) c.args.self.now now c.answer_to-answer.result c.reserve.new.self.items c.reserve-else-is_err.new.self.items c.reserve-else-is_err-2.new.self.items c.self.view_is refl refl refl c.reserve.ensures.items c.reserve-else-is_err.ensures.items c.reserve-else-is_err-2.ensures.items c.put_drawn.ensures.pending c.put_drawn.ensures.tokens c.put_drawn.ensures.cells c.stop_of-self-inside.ensures c.answer_to-answer.ensures in
+    answer-draws c.args.node (map number c.args.parts.now) c.args.self.now now c.requires.first c.draw_union-drawn.result c.answer_to-answer.result c.answer_to-answer.ensures settled c.args.tape.now.used c.draw_union-drawn.new.tape.used c.draw_union-drawn.ensures.used c.draw_union-drawn.ensures.cell
 
 pub returns-clause-exact : goal.returns-clause-exact
 returns-clause-exact g c =

@@ -1,0 +1,95 @@
+-- What contracts see of a drawing.
+use Rattle.std.specs.Prelude.{◌≡◌, ℕ, ◌+◌, ◌*◌, ◌≤◌, false, List, [], ◌∷◌, Option, Some, None, option_map}
+use Rattle.bz_model.specs.Fraction.{Fraction}
+use Rattle.bz_model.specs.Spec.{Spec}
+use Rattle.shape_sampler.specs.Visit.{Attempt}
+use Rattle.shape_sampler.specs.State.{SessionState, SessionBelongs, attempt_of, begun_state, emptied}
+use Rattle.size_window.specs.declared.ending.Ending.{Ending}
+use Rattle.size_window.specs.declared.ending.Ending.TheVariants as ending
+use Rattle.size_window.specs.declared.ending.Straddle.{Straddle}
+use Rattle.size_window.specs.declared.ending.Straddle.TheVariants as straddle
+use Rattle.size_window.specs.declared.limits.Limits as declared
+use Rattle.size_window.specs.RunByBits as run
+use Rattle.size_window.specs.RunByBits.{Limits, State, no_attempt}
+
+-- A drawing has a session, its limits, what it counted, and its ending, if it ended.
+pub record DrawingState : Type 0 where
+  pub session : SessionState
+  pub limits : Limits
+  pub kept : ℕ
+  pub thrown : ℕ
+  pub turns : ℕ
+  pub atoms : ℕ
+  pub ending : Option Ending
+
+-- The limits of the struct.
+abbrev pub limits_of : declared.Limits → Limits
+limits_of l = record { min = l.min; max = l.max; count = l.count; turns = l.turns }
+
+-- The number that a straddle left open.
+abbrev pub open_of : Straddle → run.Open
+open_of (straddle.Node node cell lo hi) = run.Open.AtNode node.0 cell
+
+-- The ending of the enum.
+abbrev pub ending_of : Ending → run.Ending
+ending_of ending.Done = run.Ending.Done
+ending_of ending.TapeEnded = run.Ending.TapeEnded
+ending_of (ending.Undecided straddle) = run.Ending.Undecided (open_of straddle)
+ending_of ending.TurnLimit = run.Ending.TurnLimit
+ending_of ending.ReadFault = run.Ending.ReadFault
+
+-- The attempt of a session where these nodes are pending, so many bits being used; none is under way where no node is.
+abbrev pub running : SessionState → (pending : List ℕ) → (used : ℕ) → Attempt
+running st [] used = no_attempt used
+running st (e ∷ es) used = attempt_of st used
+
+-- The state of a drawing, so many bits being used.
+abbrev pub state_of : DrawingState → (used : ℕ) → State
+state_of d used = record {
+  attempt = running d.session d.session.pending used;
+  awaits = false;
+  kept = d.kept;
+  thrown = d.thrown;
+  turns = d.turns;
+  ending = option_map ending_of d.ending;
+}
+
+-- Limits that a drawing takes.
+pub record AreLimits (l : Limits) : Type 0 where
+  pub window : l.min ≤ l.max
+  pub max : l.max ≤ 1000000
+  pub some : 1 ≤ l.count
+  pub count : l.count ≤ 100000
+  pub some_turns : 1 ≤ l.turns
+  pub turns : l.turns ≤ 50000000
+
+-- A drawing belongs to a specification and x where its session does, the session's whole room is the greatest size, nothing stopped the session while the drawing goes on, and the counts are within the limits.
+pub record DrawingBelongs (s : Spec) (x : Fraction) (d : DrawingState) : Type 0 where
+  pub session : SessionBelongs s x d.session
+  pub whole : d.session.whole ≡ d.limits.max
+  pub runs : d.ending ≡ None → d.session.stopped ≡ None
+  pub limits : AreLimits d.limits
+  pub kept : d.kept ≤ d.limits.count
+  pub attempts : d.kept + d.thrown ≤ d.turns
+  pub turns : d.turns ≤ d.limits.turns
+  pub atoms : d.atoms ≤ d.kept * 1000000
+
+-- A drawing after one more turn.
+abbrev pub counted : DrawingState → DrawingState
+counted d = record d { turns = d.turns + 1 }
+
+-- A drawing whose attempt was thrown away.
+abbrev pub thrown_one : DrawingState → DrawingState
+thrown_one d = record d { thrown = d.thrown + 1 }
+
+-- A drawing that kept its shape, of this size.
+abbrev pub kept_shape : DrawingState → (size : ℕ) → DrawingState
+kept_shape d size = record d { session = emptied d.session; kept = d.kept + 1; atoms = d.atoms + size }
+
+-- A drawing that ended.
+abbrev pub ended_by : DrawingState → Ending → DrawingState
+ended_by d ending = record d { ending = Some ending }
+
+-- A drawing whose session began an attempt, in a turn that was counted.
+abbrev pub begun_one : DrawingState → DrawingState
+begun_one d = record d { session = begun_state d.session; turns = d.turns + 1 }

@@ -1,0 +1,160 @@
+-- What one turn of a drawing makes of it.
+use Rattle.std.specs.Prelude.{◌≡◌, ◌≢◌, ℕ, ◌+◌, ◌-◌, ◌*◌, ◌<◌, ◌≤◌, ◌⊎◌, Bool, List, [], Option, Some, None, IfSome}
+use Rattle.bz_model.specs.declared.cell.Bounds.{Bounds}
+use Rattle.bz_model.specs.declared.cell.Cell.{Cell}
+use Rattle.bz_model.specs.Fraction.{Fraction}
+use Rattle.bz_model.specs.Spec.{Spec}
+use Rattle.class_system.specs.declared.ids.ExprId.{ExprId}
+use Rattle.object_store.specs.Tokens.{size_of}
+use Rattle.shape_sampler.specs.declared.stepped.Stepped.{Stepped}
+use Rattle.shape_sampler.specs.declared.stepped.Stepped.TheVariants as stepped
+use Rattle.shape_sampler.specs.Visit.{Chooser}
+use Rattle.shape_sampler.specs.Answer.{ChoosesBy}
+use Rattle.size_window.specs.declared.ending.Ending.{Ending}
+use Rattle.size_window.specs.declared.ending.Ending.TheVariants.{Done, TapeEnded, Undecided, TurnLimit, ReadFault}
+use Rattle.size_window.specs.declared.ending.Straddle.TheVariants as straddle
+use Rattle.size_window.specs.declared.turned.Entry.{Entry}
+use Rattle.size_window.specs.declared.turned.Turned.{Turned}
+use Rattle.size_window.specs.declared.turned.Turned.TheVariants.{Going, Kept, Finished, OutOfMemory}
+use Rattle.size_window.specs.declared.turned.Outcome.{Outcome}
+use Rattle.size_window.specs.declared.turned.Outcome.TheVariants as outcome
+use Rattle.size_window.specs.RunByBits as run
+use Rattle.size_window.specs.RunByBits.{Limits, Course, bits_in, followed_by, turn}
+use Rattle.size_window.specs.Follows.{Goes}
+use Rattle.size_window.specs.Drawing.{DrawingState, state_of, counted, thrown_one, kept_shape, ended_by, begun_one}
+
+-- The entry of a struct: its size is that of its tokens, and it has no labels.
+abbrev pub entry_of : Entry → run.Entry
+entry_of e = record { number = e.number; place = e.place; size = size_of e.shape.items; tokens = e.shape.items; labels = []; cells = e.cells.items }
+
+-- The entry that an answer tells.
+abbrev pub told_entry : Turned → Option run.Entry
+told_entry (Kept e) = Some (entry_of e)
+told_entry _ = None
+
+-- The number of bits that the shelf gave before it failed, where this answer ends with a failed read a drawing that hadn't ended.
+abbrev pub told_fault : Option Ending → Turned → (given : ℕ) → Option ℕ
+told_fault None (Finished ReadFault) given = Some given
+told_fault _ _ given = None
+
+-- A drawing's turn: there are a state, an entry and finished cells such that the state is that of the drawing now, and the entry is the one told. A course that goes as ideal runs do still does with this turn more. Over bits that are told it is the turn that they fix.
+pub record IsTurn (s : Spec) (x : Fraction) (table : (level node : ℕ) → Bounds) (bits : Option (ℕ → Option Bool)) (before : DrawingState) (start : ℕ) (answer : Turned) (now : DrawingState) (used : ℕ) : Type 0 where
+  pub turned : run.Turned
+  pub state : turned.state ≡ state_of now used
+  pub entry : turned.entry ≡ told_entry answer
+  pub goes : (c : Course) → c.state ≡ state_of before start → Goes s x before.limits c → Goes s x before.limits (followed_by c turned)
+  pub exact : IfSome bits (λ tape. (c : Chooser) → ChoosesBy s table c → turned ≡ turn (record { chooser = c; limits = before.limits; tape = tape }) (told_fault before.ending answer (used - start)) (state_of before start))
+
+-- How many objects an answer keeps, and their atoms.
+abbrev pub kept_by : Turned → ℕ
+kept_by (Kept e) = 1
+kept_by _ = 0
+
+abbrev pub atoms_by : Turned → ℕ
+atoms_by (Kept e) = size_of e.shape.items
+atoms_by _ = 0
+
+-- Ends that cost no turn: Done and TurnLimit.
+abbrev pub turns_of : Ending → ℕ
+turns_of Done = 0
+turns_of TurnLimit = 0
+turns_of _ = 1
+
+-- How many turns an answer counts, from a drawing with this ending. An ended drawing counts none.
+abbrev pub turns_by : Option Ending → Turned → ℕ
+turns_by (Some ending) answer = 0
+turns_by None (Finished ending) = turns_of ending
+turns_by None OutOfMemory = 0
+turns_by None _ = 1
+
+-- The ending that an answer leaves.
+abbrev pub ending_by : Option Ending → Turned → Option Ending
+ending_by before (Finished ending) = Some ending
+ending_by before _ = before
+
+-- What a turn counts. Its limits stay.
+pub record IsCounted (before : DrawingState) (answer : Turned) (now : DrawingState) : Type 0 where
+  pub limits : now.limits ≡ before.limits
+  pub kept : now.kept ≡ before.kept + kept_by answer
+  pub atoms : now.atoms ≡ before.atoms + atoms_by answer
+  pub turns : now.turns ≡ before.turns + turns_by before.ending answer
+  pub thrown : (now.thrown ≡ before.thrown) ⊎ ((answer ≡ Going) × (now.thrown ≡ before.thrown + 1))
+  pub ending : now.ending ≡ ending_by before.ending answer
+
+-- An entry of a drawing that kept so many objects before, so many bits being used now: it has the next number, its first bit stands before all that its cells spell, and its size is within the window.
+pub record IsNext (limits : Limits) (kept used : ℕ) (e : Entry) : Type 0 where
+  pub number : e.number ≡ kept + 1
+  pub place : e.place ≡ used - bits_in e.cells.items
+  pub least : limits.min ≤ size_of e.shape.items
+  pub greatest : size_of e.shape.items ≤ limits.max
+
+-- What is said of a kept entry holds.
+abbrev pub IfKept : Turned → (Entry → Type 0) → Type 0
+IfKept (Kept e) P = P e
+IfKept _ P = Unit {0}
+
+-- The bounds told are those of level 6, and the cell has 60 bits.
+pub record AreLevelSix (table : (level node : ℕ) → Bounds) (node : ℕ) (cell : Cell) (lo hi : ℕ) : Type 0 where
+  pub lower : lo ≡ (table 6 node).lo
+  pub upper : hi ≡ (table 6 node).hi
+  pub bits : cell.b ≡ 60
+
+-- What an answer tells of a number left open.
+abbrev pub TellsOpen : (table : (level node : ℕ) → Bounds) → Turned → Type 0
+TellsOpen table (Finished (Undecided (straddle.Node node cell lo hi))) = AreLevelSix table node.0 cell lo hi
+TellsOpen table _ = Unit {0}
+
+-- What a visit's answer leaves to do, by a table of bounds.
+abbrev pub outcome_of : (table : (level node : ℕ) → Bounds) → Stepped → Outcome
+outcome_of table stepped.Moved = outcome.Moved
+outcome_of table stepped.Made = outcome.Made
+outcome_of table stepped.Overshot = outcome.Over
+outcome_of table (stepped.Straddles node cell) = outcome.Stopped (Undecided (straddle.Node node cell (table 6 node.0).lo (table 6 node.0).hi))
+outcome_of table stepped.Ended = outcome.Stopped TapeEnded
+outcome_of table stepped.ReadFault = outcome.Stopped ReadFault
+outcome_of table stepped.OutOfMemory = outcome.OutOfMemory
+
+-- What is said of the node of a cell that straddles holds.
+abbrev pub IfStraddles : Stepped → (ExprId → Type 0) → Type 0
+IfStraddles (stepped.Straddles node cell) P = P node
+IfStraddles _ P = Unit {0}
+
+-- A turn that visits nothing: an ended drawing answers its ending again; the wanted count ends a drawing with Done, the limit of turns with TurnLimit; where nothing is pending an attempt begins, or memory runs out. Else there is no answer, and a node is to be visited.
+pub data IsIdleTurn (before : DrawingState) (answer : Option Turned) (now : DrawingState) : Type 0 where
+  again : (ending : Ending) → before.ending ≡ Some ending → answer ≡ Some (Finished ending) → now ≡ before → IsIdleTurn before answer now
+  done : before.ending ≡ None → before.kept ≡ before.limits.count → answer ≡ Some (Finished Done) → now ≡ ended_by before Done → IsIdleTurn before answer now
+  turn_limit : before.ending ≡ None → before.kept ≢ before.limits.count → before.turns ≡ before.limits.turns → answer ≡ Some (Finished TurnLimit) → now ≡ ended_by before TurnLimit → IsIdleTurn before answer now
+  begins : before.ending ≡ None → before.kept ≢ before.limits.count → before.turns ≢ before.limits.turns → before.session.pending ≡ [] → answer ≡ Some Going → now ≡ begun_one before → IsIdleTurn before answer now
+  no_memory : before.ending ≡ None → before.kept ≢ before.limits.count → before.turns ≢ before.limits.turns → before.session.pending ≡ [] → answer ≡ Some OutOfMemory → now ≡ before → IsIdleTurn before answer now
+  visits : before.ending ≡ None → before.kept ≢ before.limits.count → before.turns ≢ before.limits.turns → before.session.pending ≢ [] → answer ≡ None → now ≡ before → IsIdleTurn before answer now
+
+-- A made shape is kept: the answer is its entry, with the session's tokens and cells.
+pub record Keeps (before : DrawingState) (used : ℕ) (answer : Turned) (now : DrawingState) : Type 0 where
+  pub entry : Entry
+  pub told : answer ≡ Kept entry
+  pub number : entry.number ≡ before.kept + 1
+  pub place : entry.place ≡ used - bits_in before.session.cells
+  pub shape : entry.shape.items ≡ before.session.tokens
+  pub cells : entry.cells.items ≡ before.session.cells
+  pub now_is : now ≡ kept_shape (counted before) (size_of before.session.tokens)
+
+-- An attempt is thrown away.
+abbrev pub Throws : (before : DrawingState) → Turned → (now : DrawingState) → Type 0
+Throws before answer now = (answer ≡ Going) × (now ≡ thrown_one (counted before))
+
+-- What is left to do after a visit is done, so many bits being used. A made shape below the least size is thrown away.
+abbrev pub Settles : Outcome → (used : ℕ) → (before : DrawingState) → Turned → (now : DrawingState) → Type 0
+Settles outcome.Moved used before answer now = (answer ≡ Going) × (now ≡ counted before)
+Settles outcome.Made used before answer now = ((size_of before.session.tokens < before.limits.min) × Throws before answer now) ⊎ ((before.limits.min ≤ size_of before.session.tokens) × Keeps before used answer now)
+Settles outcome.Over used before answer now = Throws before answer now
+Settles (outcome.Stopped ending) used before answer now = (answer ≡ Finished ending) × (now ≡ ended_by (counted before) ending)
+Settles outcome.OutOfMemory used before answer now = (answer ≡ OutOfMemory) × (now ≡ before)
+
+-- A drawing is able to settle a visit: where a shape was made nothing is pending, and the counts have room.
+pub record MaySettle (o : Outcome) (d : DrawingState) : Type 0 where
+  pub made : o ≡ outcome.Made → d.session.pending ≡ []
+  pub size : o ≡ outcome.Made → size_of d.session.tokens ≤ 1000000
+  pub kept : d.kept < 100000
+  pub thrown : d.thrown < 50000000
+  pub turns : d.turns < 50000000
+  pub atoms : d.atoms ≤ d.kept * 1000000

@@ -1,0 +1,30 @@
+//! Why a drawing ends.
+use bz_model::cell::Cell;
+use class_system::ids::ExprId;
+
+/// A number whose 60 bits decided nothing.
+#[derive(Clone, Copy, Debug, PartialEq, Eq)]
+pub enum Straddle {
+    /// An option of a node, with the node's bounds at level 6, in units of `2^-F`.
+    Node {
+        node: ExprId,
+        cell: Cell,
+        lo: u64,
+        hi: u64,
+    },
+}
+
+/// Why a drawing ended.
+#[derive(Clone, Copy, Debug, PartialEq, Eq)]
+pub enum Ending {
+    /// As many objects as wanted are kept.
+    Done,
+    /// The tape ended before an option was decided.
+    TapeEnded,
+    /// 60 bits decided no option.
+    Undecided(Straddle),
+    /// As many turns as the limit were made, and fewer objects than wanted are kept.
+    TurnLimit,
+    /// The tape's shelf failed before an option was decided.
+    ReadFault,
+}
