@@ -1,0 +1,3 @@
+pub mod Example
+pub mod FirstForm
+pub mod PlainTable
