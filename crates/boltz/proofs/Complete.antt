@@ -1,10 +1,10 @@
--- A specification that is accepted and well founded is printed.
+-- A specification that is accepted and well founded is printed, or drawn from, and no other one is.
 use Rattle.std.proofs.Common.{arith, ◌⊎◌, inl, inr, ◌≡◌, ◌≢◌, ℕ, zero, suc, ◌≤◌, List, [], ◌∷◌, refl, sym, subst, ap, ◌∙◌}
-use Rattle.std.specs.Prelude.{length, take, Option, Some, IfSome, codes}
+use Rattle.std.specs.Prelude.{◌<◌, Bool, true, false, length, take, Option, Some, None, IfSome, option_map}
 use Rattle.bz_model.specs.Spec.{Spec}
 use Rattle.bz_model.specs.WellFounded.{IsWellFounded}
 use Rattle.bz_outside.specs.Outside.{Rose}
-use Rattle.class_system.specs.Limits.{IsWithinLimits}
+use Rattle.bit_tape.specs.Bits.{file_bit}
 use Rattle.spec_reader.specs.Reading.{Grammar, Refuses}
 use Rattle.spec_reader.proofs.OneText.{one_specification, accepted}
 use Rattle.spec_reader.specs.Tokens.{tokens_of}
@@ -13,19 +13,19 @@ use Rattle.spec_reader.proofs.Sounds.{stands_sound}
 use Rattle.class_system.specs.Sound.{IsSound}
 use Rattle.well_founded.specs.Examination.{TellsCause}
 use Rattle.well_founded.proofs.Judged.{tells-unfounded}
-use Rattle.boltz.specs.Answers.{Output, Ends, World, file_of, IsAsked, IsAccepted, Answers, Draws, spec_text}
+use Rattle.plain_table.specs.FirstForm.{is_first_form}
+use Rattle.plain_table.specs.PlainTable.{plain_bounds}
+use Rattle.size_window.specs.RunByBits.{Course, Ending, after}
+use Rattle.boltz.specs.Answers.{Output, Ends, World, file_of, IsAsked, IsAccepted, IsNotYet, Answers, Sampled, tape_of, spec_text}
 use Rattle.boltz.specs.Answers as answers
-use Rattle.boltz.specs.Complete.{IsPrintable, IsUnfit}
+use Rattle.boltz.specs.Complete.{IsGiven, IsFit, IsPrintable, IsUnfit, IsBeyond, undisturbed, IsDrawable}
+use Rattle.boltz.specs.Drawn.{TapeMet, HasFailed, sampling, IsCourseOver, IsDrawnText, ending_status}
+use Rattle.boltz.specs.Refusals.{not_yet_line}
 use Rattle.boltz.specs.Words.{Command, Names}
-use Rattle.boltz.specs.Words as names
 use Rattle.boltz.specs.declared.status.Status.{Status}
 use Rattle.boltz.specs.declared.status.Status.TheVariants as variants
-
--- words that print a specification stand for no other command
-same-spec : (given : List (List ℕ)) (file : List ℕ) (c d : Command) → c ≡ Command.Spec file → Names given c → Names given d → d ≡ Command.Spec file
-same-spec given file c d e (names.spec f w n) (names.spec g v m) = cc
-same-spec given file c d e (names.spec f w n) (names.sample g x t num den v m i k) = absurd (cc)
-same-spec given file c d e (names.sample g x t num den v m i k) h = absurd (cc)
+use Rattle.boltz.proofs.Commands.{same-command}
+use Rattle.boltz.proofs.Courses.{one_end, unfailing}
 
 -- all of a short list
 take-all : (n : ℕ) (xs : List ℕ) → length xs ≤ n → take n xs ≡ xs
@@ -41,60 +41,118 @@ told content bytes read e h = subst (λ o. IfSome o (λ b. read ≡ take 65537 b
 sound : (bytes : List ℕ) (s : Spec) → Grammar bytes s → IsSound s
 sound bytes s g = stands_sound (tokens_of bytes) s (are_lexical bytes) g.stand_for
 
--- what was read is all of the file
-read-all : (w : World) (s : Spec) (p : IsPrintable w s) (c : Command) (read : List ℕ) → c ≡ Command.Spec p.file → IsAsked w c read → read ≡ p.bytes
-read-all w s p c read same asked = told (w.content p.file) p.bytes read p.is_told (subst (λ d. IfSome (w.content (file_of d)) (λ b. read ≡ take 65537 b)) same asked.is_read) ∙ take-all 65537 p.bytes (let few = p.few in omega arith)
+module _ (w : World) (c : Command) (bytes : List ℕ) (given : IsGiven w c bytes) where
+  -- the command of an answer is the one that is given
+  alone : (d : Command) → Names w.words d → d ≡ c
+  alone d named = same-command w.words d c named given.named
 
--- the tables that were read are the specification's
-same-tables : (w : World) (s t : Spec) (p : IsPrintable w s) (c : Command) (read : List ℕ) → c ≡ Command.Spec p.file → IsAsked w c read → IsAccepted read t → t ≡ s
-same-tables w s t p c read same asked accepts = one_specification p.bytes t s (subst (λ r. Grammar r t) (read-all w s p c read same asked) accepts.stands) p.stands
+  -- what is read is the file's front
+  is-read : (d : Command) (read : List ℕ) → IsAsked w d read → read ≡ take 65537 bytes
+  is-read d read asked = told (w.content (file_of c)) bytes read given.is_told (subst (λ e. IfSome (w.content (file_of e)) (λ b. read ≡ take 65537 b)) (alone d asked.named) asked.is_read)
 
-alone : (w : World) (s : Spec) (p : IsPrintable w s) (c : Command) → Names w.words c → c ≡ Command.Spec p.file
-alone w s p c h = same-spec w.words p.file (Command.Spec p.file) c refl p.named h
+  no-rise : (d : Command) → Names w.words d → ¬ (Rose (w.before (file_of d)) (w.after (file_of d)))
+  no-rise d named rose = given.no_fault (subst (λ e. Rose (w.before (file_of e)) (w.after (file_of e))) (alone d named) rose)
 
-draws-no-spec : (c : Command) (file : List ℕ) → c ≡ Command.Spec file → Draws c → ⊥
-draws-no-spec c file e h = subst Draws e h
+-- What becomes of a command whose specification is accepted and well founded.
+abbrev Outcome : World → Spec → Status → List ℕ → Command → Type 0
+Outcome w s status text (Command.Spec file) = (status ≡ Status.Done) × (text ≡ spec_text s)
+Outcome w s status text (Command.Sample file num den tape) = Sampled s num den (tape_of w tape) status text
+
+module _ (w : World) (c : Command) (s : Spec) (fit : IsFit w c s) where
+  -- all of the file is read
+  all-read : (d : Command) (read : List ℕ) → IsAsked w d read → read ≡ fit.bytes
+  all-read d read asked = is-read w c fit.bytes fit.given d read asked ∙ take-all 65537 fit.bytes (let few = fit.accepted.few in omega arith)
+
+  -- the tables that are read are the specification's
+  same-tables : (d : Command) (read : List ℕ) (t : Spec) → IsAsked w d read → IsAccepted read t → t ≡ s
+  same-tables d read t asked accepts = one_specification fit.bytes t s (subst (λ r. Grammar r t) (all-read d read asked) accepts.stands) fit.accepted.stands
+
+  outcome : (status : Status) (text : List ℕ) → Answers w status text → Outcome w s status text c
+  outcome status text (answers.words_refused none e) = absurd (none c fit.given.named)
+  outcome status text (answers.not_read d named rose e) = absurd (no-rise w c fit.bytes fit.given d named rose)
+  outcome status text (answers.text_refused d read fault asked memory refuses e) =
+      absurd (memory (accepted fit.bytes s fault fit.accepted.few fit.accepted.stands fit.accepted.within (subst (λ r. Refuses r fault) (all-read d read asked) refuses)))
+  outcome status text (answers.unfounded d read t cause asked accepts memory tells e) =
+      absurd (tells-unfounded s cause (sound fit.bytes s fit.accepted.stands) (subst (λ u. TellsCause u cause) (same-tables d read t asked accepts) tells) memory fit.founded)
+  outcome status text (answers.printed file read t asked accepts founded e) =
+      subst (Outcome w s status text) (alone w c fit.bytes fit.given (Command.Spec file) asked.named) (refl, e ∙ ap spec_text (same-tables (Command.Spec file) read t asked accepts))
+  outcome status text (answers.sampled file tape read num den t asked accepts founded done) =
+      let same = same-tables (Command.Sample file num den tape) read t asked accepts in
+      subst (Outcome w s status text) (alone w c fit.bytes fit.given (Command.Sample file num den tape) asked.named)
+        (subst (λ u. Sampled u num den (tape_of w tape) status text) same done)
 
 pub printed : (w : World) (s : Spec) (status : Status) (text : List ℕ) → IsPrintable w s → Answers w status text → (status ≡ Status.Done) × (text ≡ spec_text s)
-printed w s status text p (answers.words_refused none e) = absurd (none (Command.Spec p.file) p.named)
-printed w s status text p (answers.not_read c named rose e) = absurd (p.no_fault (subst (λ d. Rose (w.before (file_of d)) (w.after (file_of d))) (alone w s p c named) rose))
-printed w s status text p (answers.text_refused c read fault asked memory refuses e) =
-    let all = read-all w s p c read (alone w s p c asked.named) asked in
-    absurd (memory (accepted p.bytes s fault p.few p.stands p.within (subst (λ r. Refuses r fault) all refuses)))
-printed w s status text p (answers.unfounded c read t cause asked accepts memory tells e) =
-    let same = same-tables w s t p c read (alone w s p c asked.named) asked accepts in
-    absurd (tells-unfounded s cause (sound p.bytes s p.stands) (subst (λ u. TellsCause u cause) same tells) memory p.founded)
-printed w s status text p (answers.printed file read t asked accepts founded e) =
-    let same = same-tables w s t p (Command.Spec file) read (alone w s p (Command.Spec file) asked.named) asked accepts in
-    (refl, e ∙ ap spec_text same)
-printed w s status text p (answers.not_yet c read t draws asked accepts founded e) = absurd (draws-no-spec c p.file (alone w s p c asked.named) draws)
-
-pub complete : (w : World) (o : Output) (status : Status) → Ends w o status → (s : Spec) → IsPrintable w s → ¬ (Rose o.faults_before o.faults_after) → (status ≡ Status.Done) ⊎ (status ≡ Status.OutOfMemory)
-complete w o variants.Done h s p no_fault = inl refl
-complete w o variants.WordsRefused h s p no_fault = inl (printed w s variants.WordsRefused h.text p h.answers).0
-complete w o variants.SpecRefused h s p no_fault = inl (printed w s variants.SpecRefused h.text p h.answers).0
-complete w o variants.ReadFault h s p no_fault = inl (printed w s variants.ReadFault h.text p h.answers).0
-complete w o variants.WriteFault h s p no_fault = absurd (no_fault h.rose)
-complete w o variants.OutOfMemory h s p no_fault = inr refl
-
-only : (w : World) (p : IsUnfit w) (c : Command) → Names w.words c → c ≡ Command.Spec p.file
-only w p c h = same-spec w.words p.file (Command.Spec p.file) c refl p.named h
-
-what-is-read : (w : World) (p : IsUnfit w) (c : Command) (read : List ℕ) → IsAsked w c read → read ≡ take 65537 p.bytes
-what-is-read w p c read asked = told (w.content p.file) p.bytes read p.is_told (subst (λ d. IfSome (w.content (file_of d)) (λ b. read ≡ take 65537 b)) (only w p c asked.named) asked.is_read)
+printed w s status text p h = outcome w (Command.Spec p.file) s p.fit status text h
 
 pub refused : (w : World) (status : Status) (text : List ℕ) → IsUnfit w → Answers w status text → status ≡ Status.SpecRefused
-refused w status text p (answers.words_refused none e) = absurd (none (Command.Spec p.file) p.named)
-refused w status text p (answers.not_read c named rose e) = absurd (p.no_fault (subst (λ d. Rose (w.before (file_of d)) (w.after (file_of d))) (only w p c named) rose))
-refused w status text p (answers.text_refused c read fault asked memory refuses e) = refl
-refused w status text p (answers.unfounded c read t cause asked accepts memory tells e) = refl
-refused w status text p (answers.printed file read t asked accepts founded e) = absurd (p.unfit t (subst (λ r. IsAccepted r t) (what-is-read w p (Command.Spec file) read asked) accepts) founded)
-refused w status text p (answers.not_yet c read t draws asked accepts founded e) = refl
+refused w status text p (answers.words_refused none e) = absurd (none p.command p.given.named)
+refused w status text p (answers.not_read d named rose e) = absurd (no-rise w p.command p.bytes p.given d named rose)
+refused w status text p (answers.text_refused d read fault asked memory refuses e) = refl
+refused w status text p (answers.unfounded d read t cause asked accepts memory tells e) = refl
+refused w status text p (answers.printed file read t asked accepts founded e) = absurd (p.unfit t (subst (λ r. IsAccepted r t) (is-read w p.command p.bytes p.given (Command.Spec file) read asked) accepts) founded)
+refused w status text p (answers.sampled file tape read num den t asked accepts founded done) = absurd (p.unfit t (subst (λ r. IsAccepted r t) (is-read w p.command p.bytes p.given (Command.Sample file num den tape) read asked) accepts) founded)
+
+-- a specification of the first form at a fraction of at most 1 is drawn from
+no-wait : (s : Spec) (num den : ℕ) → is_first_form s ≡ true → num ≤ den → ¬ (IsNotYet s num den)
+no-wait s num den first small (inl e) = absurd (cc)
+no-wait s num den first small (inr h) = omega arith
+
+left-only : (s : Spec) (num den : ℕ) (t : TapeMet) (status : Status) (text : List ℕ) → IsNotYet s num den → Sampled s num den t status text → (status ≡ Status.SpecRefused) × (text ≡ not_yet_line)
+left-only s num den t status text h (answers.not_yet not_yet e f) = (e, f)
+left-only s num den t status text h (answers.drawn first small reported) = absurd (no-wait s num den first small h)
+
+pub left : (w : World) (status : Status) (text : List ℕ) → IsBeyond w → Answers w status text → (status ≡ Status.SpecRefused) × (text ≡ not_yet_line)
+left w status text p h = left-only p.s p.num p.den (tape_of w p.tape) status text p.not_yet (outcome w (Command.Sample p.file p.num p.den p.tape) p.s p.fit status text h)
+
+-- a failing turn would be a read of the tape that failed
+none-fails : (fault : Option ℕ) → ((given : ℕ) → fault ≡ Some given → ⊥) → fault ≡ None
+none-fails None h = refl
+none-fails (Some given) h = absurd (h given refl)
+
+ending-of : (c d : Course) (e f : Ending) → c ≡ d → c.state.ending ≡ Some e → d.state.ending ≡ Some f → e ≡ f
+ending-of c d e f same at_c at_d = cc
+
+-- the course over the tape's bits is the undisturbed one
+same-course : (s : Spec) (num den turns : ℕ) (bytes : List ℕ) (t : TapeMet) (c : Course) (d e : Ending) → ¬ (HasFailed t) → IsCourseOver s (plain_bounds s num den) t c (file_bit bytes) → c.state.ending ≡ Some d → (undisturbed s num den bytes turns).state.ending ≡ Some e → c ≡ undisturbed s num den bytes turns
+same-course s num den turns bytes t c d e no_fault over at_c at_turns =
+    let quiet = unfailing (sampling s (plain_bounds s num den) (file_bit bytes)) over.faults over.turns (λ k. none-fails (over.faults k) (λ given is. no_fault (over.caused k given is))) in
+    let same : c ≡ undisturbed s num den bytes over.turns = over.same ∙ quiet in
+    same ∙ one_end (sampling s (plain_bounds s num den) (file_bit bytes)) (λ k. None) over.turns turns d e (subst (λ k. k.state.ending ≡ Some d) same at_c) at_turns
+
+told-bits : (content : Option (List ℕ)) (bytes : List ℕ) (P : (ℕ → Option Bool) → Type 0) → content ≡ Some bytes → IfSome (option_map file_bit content) P → P (file_bit bytes)
+told-bits content bytes P e h = subst (λ o. IfSome (option_map file_bit o) P) e h
+
+drawn-only : (s : Spec) (num den turns : ℕ) (tape bytes : List ℕ) (w : World) (ending : Ending) (status : Status) (text : List ℕ) → is_first_form s ≡ true → num ≤ den → ¬ (HasFailed (tape_of w tape)) → w.content tape ≡ Some bytes → (undisturbed s num den bytes turns).state.ending ≡ Some ending → Sampled s num den (tape_of w tape) status text → (status ≡ ending_status ending) × IsDrawnText s num den (plain_bounds s num den) (undisturbed s num den bytes turns) ending text
+drawn-only s num den turns tape bytes w ending status text first small no_fault is_told ends (answers.not_yet not_yet e f) = absurd (no-wait s num den first small not_yet)
+drawn-only s num den turns tape bytes w ending status text first small no_fault is_told ends (answers.drawn _ _ r) =
+    let over = told-bits (w.content tape) bytes (IsCourseOver s (plain_bounds s num den) (tape_of w tape) r.course) is_told r.drawn.by_bits in
+    let same = same-course s num den turns bytes (tape_of w tape) r.course r.ending ending no_fault over r.drawn.ended ends in
+    let end : r.ending ≡ ending = ending-of r.course (undisturbed s num den bytes turns) r.ending ending same r.drawn.ended ends in
+    (r.answer ∙ ap ending_status end, subst (λ e. IsDrawnText s num den (plain_bounds s num den) (undisturbed s num den bytes turns) e text) end (subst (λ k. IsDrawnText s num den (plain_bounds s num den) k r.ending text) same r.told))
+
+pub drawn : (w : World) (s : Spec) (num den turns : ℕ) (bytes : List ℕ) (ending : Ending) (status : Status) (text : List ℕ) → IsDrawable w s num den bytes turns ending → Answers w status text → (status ≡ ending_status ending) × IsDrawnText s num den (plain_bounds s num den) (undisturbed s num den bytes turns) ending text
+drawn w s num den turns bytes ending status text p h = drawn-only s num den turns p.tape bytes w ending status text p.first_form p.small p.no_fault p.tape_told p.ends (outcome w (Command.Sample p.file num den p.tape) s p.fit status text h)
+
+-- what holds of each answer holds of how a call ends, but for want of memory
+pub unless-wanting : (w : World) (o : Output) (status want : Status) → Ends w o status → ((text : List ℕ) → Answers w status text → status ≡ want) → ¬ (Rose o.faults_before o.faults_after) → (status ≡ want) ⊎ (status ≡ Status.OutOfMemory)
+unless-wanting w o variants.Done want h told no_fault = inl (told h.text h.answers)
+unless-wanting w o variants.WordsRefused want h told no_fault = inl (told h.text h.answers)
+unless-wanting w o variants.SpecRefused want h told no_fault = inl (told h.text h.answers)
+unless-wanting w o variants.TapeEnded want h told no_fault = inl (told h.text h.answers)
+unless-wanting w o variants.Undecided want h told no_fault = inl (told h.text h.answers)
+unless-wanting w o variants.TurnLimit want h told no_fault = inl (told h.text h.answers)
+unless-wanting w o variants.ReadFault want h told no_fault = inl (told h.text h.answers)
+unless-wanting w o variants.WriteFault want h told no_fault = absurd (no_fault h.rose)
+unless-wanting w o variants.OutOfMemory want h told no_fault = inr refl
+
+pub complete : (w : World) (o : Output) (status : Status) → Ends w o status → (s : Spec) → IsPrintable w s → ¬ (Rose o.faults_before o.faults_after) → (status ≡ Status.Done) ⊎ (status ≡ Status.OutOfMemory)
+complete w o status h s p no_fault = unless-wanting w o status Status.Done h (λ text a. (printed w s status text p a).0) no_fault
 
 pub refuses : (w : World) (o : Output) (status : Status) → Ends w o status → IsUnfit w → ¬ (Rose o.faults_before o.faults_after) → (status ≡ Status.SpecRefused) ⊎ (status ≡ Status.OutOfMemory)
-refuses w o variants.Done h p no_fault = inl (refused w variants.Done h.text p h.answers)
-refuses w o variants.WordsRefused h p no_fault = inl (refused w variants.WordsRefused h.text p h.answers)
-refuses w o variants.SpecRefused h p no_fault = inl refl
-refuses w o variants.ReadFault h p no_fault = inl (refused w variants.ReadFault h.text p h.answers)
-refuses w o variants.WriteFault h p no_fault = absurd (no_fault h.rose)
-refuses w o variants.OutOfMemory h p no_fault = inr refl
+refuses w o status h p no_fault = unless-wanting w o status Status.SpecRefused h (λ text a. refused w status text p a) no_fault
+
+pub leaves : (w : World) (o : Output) (status : Status) → Ends w o status → IsBeyond w → ¬ (Rose o.faults_before o.faults_after) → (status ≡ Status.SpecRefused) ⊎ (status ≡ Status.OutOfMemory)
+leaves w o status h p no_fault = unless-wanting w o status Status.SpecRefused h (λ text a. (left w status text p a).0) no_fault
+
+pub draws : (w : World) (o : Output) (status : Status) → Ends w o status → (s : Spec) (num den turns : ℕ) (bytes : List ℕ) (ending : Ending) → IsDrawable w s num den bytes turns ending → ¬ (Rose o.faults_before o.faults_after) → (status ≡ ending_status ending) ⊎ (status ≡ Status.OutOfMemory)
+draws w o status h s num den turns bytes ending p no_fault = unless-wanting w o status (ending_status ending) h (λ text a. (drawn w s num den turns bytes ending status text p a).0) no_fault

@@ -1,3 +1,5 @@
 pub mod Named
 pub mod Told
+pub mod Commands
+pub mod Courses
 pub mod Complete

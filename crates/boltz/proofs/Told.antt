@@ -1,6 +1,6 @@
 -- Where each answer comes.
-use Rattle.std.proofs.Common.{◌≡◌, ◌≢◌, ℕ, List, refl, subst}
-use Rattle.std.specs.Prelude.{◌<◌, length, Some, take, IfSome, slice_get}
+use Rattle.std.proofs.Common.{◌≡◌, ◌≢◌, ℕ, ◌≤◌, arith, true, List, refl, sym, subst}
+use Rattle.std.specs.Prelude.{◌<◌, Bool, length, Option, Some, None, take, IfSome, slice_get}
 use Rattle.std.proofs.lemmas.Option.{slice_get_within}
 use Rattle.bz_model.specs.Spec.{Spec, body_of}
 use Rattle.bz_model.specs.WellFounded.{IsWellFounded}
@@ -13,9 +13,16 @@ use Rattle.well_founded.specs.Foundedness as leads
 use Rattle.well_founded.specs.Examination.{TellsCause}
 use Rattle.well_founded.specs.declared.cause.UnfoundedCause.{UnfoundedCause}
 use Rattle.well_founded.specs.declared.cause.UnfoundedCause.TheVariants.{NoObject, ZeroPart, ZeroLoop, OutOfMemory}
-use Rattle.boltz.specs.Answers.{World, file_of, IsAsked, IsAccepted, Answers, Draws, spec_text}
+use Rattle.boltz.specs.Answers.{World, file_of, IsAsked, IsAccepted, Answers, Sampled, tape_of, spec_text}
 use Rattle.boltz.specs.Answers as answers
-use Rattle.boltz.specs.Refusals.{words_line, read_line, not_yet_line, text_line, cause_line, IsNamed}
+use Rattle.boltz.specs.Drawn.{TapeMet, IsCourseOver, IsReported}
+use Rattle.boltz.specs.UnderWay.{met}
+use Rattle.bit_tape.specs.Tape.{TapeSource, bits_of, HasFault}
+use Rattle.boltz.specs.Reads.{IsMet}
+use Rattle.bz_model.specs.declared.cell.Bounds.{Bounds}
+use Rattle.plain_table.specs.PlainTable.{plain_bounds}
+use Rattle.size_window.specs.RunByBits.{Course}
+use Rattle.boltz.specs.Refusals.{words_line, read_line, text_line, cause_line, IsNamed}
 use Rattle.boltz.specs.Words.{Command, Names, NamesNone}
 use Rattle.boltz.specs.declared.status.Status.{Status}
 
@@ -34,8 +41,42 @@ told_cause w c read s cause text asked accepted memory tells line = answers.unfo
 pub told_spec : (w : World) (file read : List ℕ) (s : Spec) (text : List ℕ) → IsAsked w (Command.Spec file) read → IsAccepted read s → IsWellFounded s → text ≡ spec_text s → Answers w Status.Done text
 told_spec w file read s text asked accepted founded line = answers.printed file read s asked accepted founded line
 
-pub told_not_yet : (w : World) (c : Command) (read : List ℕ) (s : Spec) (text : List ℕ) → Draws c → IsAsked w c read → IsAccepted read s → IsWellFounded s → text ≡ not_yet_line → Answers w Status.SpecRefused text
-told_not_yet w c read s text draws asked accepted founded line = answers.not_yet c read s draws asked accepted founded line
+-- a count that rose from a later number rose from an earlier one
+rose-earlier : (earlier before now : ℕ) → earlier ≤ before → Rose before now → Rose earlier now
+rose-earlier earlier before now h rose = omega arith
+
+-- the counts stood no higher when the call began
+abbrev since : TapeMet → (earlier : List ℕ → ℕ) → TapeMet
+since t earlier = record t { before = earlier }
+
+pub failed-since : (source : TapeSource) (earlier before now : List ℕ → ℕ) → ((name : List ℕ) → earlier name ≤ before name) → HasFault source before now → HasFault source earlier now
+failed-since (TapeSource.Named name) earlier before now h rose = rose-earlier (earlier name) (before name) (now name) (h name) rose
+failed-since (TapeSource.Seeded seed) earlier before now h never = never
+
+over-since : (s : Spec) (table : (level node : ℕ) → Bounds) (t : TapeMet) (earlier : List ℕ → ℕ) (c : Course) → ((name : List ℕ) → earlier name ≤ t.before name) → (bits : Option (ℕ → Option Bool)) → IfSome bits (IsCourseOver s table t c) → IfSome bits (IsCourseOver s table (since t earlier) c)
+over-since s table t earlier c h None over = tt
+over-since s table t earlier c h (Some bits) over = record { turns = over.turns; faults = over.faults; caused = λ n given is. failed-since t.source earlier t.before t.now h (over.caused n given is); same = over.same }
+
+reported-since : (s : Spec) (num den : ℕ) (table : (level node : ℕ) → Bounds) (t : TapeMet) (earlier : List ℕ → ℕ) (status : Status) (text : List ℕ) → ((name : List ℕ) → earlier name ≤ t.before name) → IsReported s num den table t status text → IsReported s num den table (since t earlier) status text
+reported-since s num den table t earlier status text h r = record {
+  course = r.course; ending = r.ending; told = r.told; answer = r.answer;
+  drawn = record {
+    ended = r.drawn.ended; follows = r.drawn.follows; kept = r.drawn.kept; out_of_turns = r.drawn.out_of_turns;
+    by_bits = over-since s table t earlier r.course h (bits_of t.source t.contents) r.drawn.by_bits;
+    failed = λ e. failed-since t.source earlier t.before t.now h (r.drawn.failed e);
+  };
+}
+
+sampled-since : (s : Spec) (num den : ℕ) (t : TapeMet) (earlier : List ℕ → ℕ) (status : Status) (text : List ℕ) → ((name : List ℕ) → earlier name ≤ t.before name) → Sampled s num den t status text → Sampled s num den (since t earlier) status text
+sampled-since s num den t earlier status text h (answers.not_yet not_yet e f) = answers.not_yet not_yet e f
+sampled-since s num den t earlier status text h (answers.drawn first small r) = answers.drawn first small (reported-since s num den (plain_bounds s num den) t earlier status text h r)
+
+pub told_sampled : (w : World) (content : List ℕ → Option (List ℕ)) (before after : List ℕ → ℕ) (file tape read : List ℕ) (num den : ℕ) (s : Spec) (status : Status) (text : List ℕ) → IsMet w content before after → IsAsked w (Command.Sample file num den tape) read → IsAccepted read s → IsWellFounded s → Sampled s num den (met (TapeSource.Named tape) content before after) status text → Answers w status text
+told_sampled w content before after file tape read num den s status text m asked accepted founded done =
+    let moved = sampled-since s num den (met (TapeSource.Named tape) content before after) w.before status text m.no_higher done in
+    let at_end : Sampled s num den (met (TapeSource.Named tape) content w.before w.after) status text = subst (λ n. Sampled s num den (met (TapeSource.Named tape) content w.before n) status text) (sym m.at_end) moved in
+    let there : Sampled s num den (tape_of w tape) status text = subst (λ o. Sampled s num den (met (TapeSource.Named tape) o w.before w.after) status text) (sym m.contents) at_end in
+    answers.sampled file tape read num den s asked accepted founded there
 
 -- the class of a step has a body
 step-within : (s : Spec) (c d : ℕ) → StepsTo s c d → c < length s.bodies

@@ -1,14 +1,18 @@
 -- What the program answers, and where each answer comes.
-use Rattle.std.specs.Prelude.{◌≡◌, ◌≢◌, ℕ, ◌≤◌, List, ◌++◌, length, take, Option, IfSome}
+use Rattle.std.specs.Prelude.{◌≡◌, ◌≢◌, ℕ, ◌<◌, ◌≤◌, ◌⊎◌, true, false, List, ◌++◌, length, take, Option, IfSome}
 use Rattle.bz_model.specs.Spec.{Spec}
 use Rattle.bz_model.specs.WellFounded.{IsWellFounded}
 use Rattle.bz_outside.specs.Outside.{Rose, Appends, AppendsFront}
+use Rattle.bit_tape.specs.Tape.{TapeSource}
 use Rattle.class_system.specs.CanonicalText.{canonical_text}
 use Rattle.class_system.specs.Limits.{IsWithinLimits}
 use Rattle.spec_reader.specs.Reading.{Grammar, Refuses}
 use Rattle.spec_reader.specs.declared.fault.SpecFault.{SpecFault}
 use Rattle.well_founded.specs.Examination.{TellsCause}
 use Rattle.well_founded.specs.declared.cause.UnfoundedCause.{UnfoundedCause}
+use Rattle.plain_table.specs.FirstForm.{is_first_form}
+use Rattle.plain_table.specs.PlainTable.{plain_bounds}
+use Rattle.boltz.specs.Drawn.{TapeMet, IsReported}
 use Rattle.boltz.specs.Lines.{spec_end_line}
 use Rattle.boltz.specs.Refusals.{words_line, read_line, not_yet_line, text_line, cause_line}
 use Rattle.boltz.specs.Words.{Command, Names, NamesNone}
@@ -37,14 +41,22 @@ pub record IsAccepted (read : List ℕ) (s : Spec) : Type 0 where
   pub stands : Grammar read s
   pub within : IsWithinLimits s
 
--- A command that draws.
-abbrev pub Draws : Command → Type 0
-Draws (Command.Spec file) = ⊥
-Draws (Command.Sample file num den tape) = Unit {0}
+-- The specifications and fractions that aren't drawn from yet: those that aren't of the first form, and fractions above 1.
+abbrev pub IsNotYet : Spec → (num den : ℕ) → Type 0
+IsNotYet s num den = (is_first_form s ≡ false) ⊎ (den < num)
 
 -- A specification in its canonical form.
 abbrev pub spec_text : Spec → List ℕ
 spec_text s = canonical_text s ++ spec_end_line (length s.names) (length s.nodes)
+
+-- The tape of this name.
+abbrev pub tape_of : World → (name : List ℕ) → TapeMet
+tape_of w name = record { source = TapeSource.Named name; contents = w.content; before = w.before; now = w.after }
+
+-- What becomes of a command that draws from a well-founded specification within the limits: it is left for later, or it reports a drawing over the tape.
+pub data Sampled (s : Spec) (num den : ℕ) (t : TapeMet) (status : Status) (text : List ℕ) : Type 0 where
+  not_yet : IsNotYet s num den → status ≡ Status.SpecRefused → text ≡ not_yet_line → Sampled s num den t status text
+  drawn : is_first_form s ≡ true → num ≤ den → IsReported s num den (plain_bounds s num den) t status text → Sampled s num den t status text
 
 -- An answer with the text that it writes, and where it comes.
 pub data Answers (w : World) : Status → List ℕ → Type 0 where
@@ -58,8 +70,8 @@ pub data Answers (w : World) : Status → List ℕ → Type 0 where
   unfounded : {text : List ℕ} → (c : Command) (read : List ℕ) (s : Spec) (cause : UnfoundedCause) → IsAsked w c read → IsAccepted read s → cause ≢ UnfoundedCause.OutOfMemory → TellsCause s cause → text ≡ cause_line s cause → Answers w Status.SpecRefused text
   -- the specification is printed
   printed : {text : List ℕ} → (file read : List ℕ) (s : Spec) → IsAsked w (Command.Spec file) read → IsAccepted read s → IsWellFounded s → text ≡ spec_text s → Answers w Status.Done text
-  -- no specification is drawn from yet
-  not_yet : {text : List ℕ} → (c : Command) (read : List ℕ) (s : Spec) → Draws c → IsAsked w c read → IsAccepted read s → IsWellFounded s → text ≡ not_yet_line → Answers w Status.SpecRefused text
+  -- objects are drawn, or nothing is drawn yet from such a specification or at such a fraction
+  sampled : {status : Status} {text : List ℕ} → (file tape read : List ℕ) (num den : ℕ) (s : Spec) → IsAsked w (Command.Sample file num den tape) read → IsAccepted read s → IsWellFounded s → Sampled s num den (tape_of w tape) status text → Answers w status text
 
 -- What the sink tells before a call and after it, with its counts of failed writes.
 pub record Output : Type 0 where

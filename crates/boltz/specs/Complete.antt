@@ -1,30 +1,62 @@
--- When a specification is certain to be printed, and when it is certain to be refused.
-use Rattle.std.specs.Prelude.{◌≡◌, ℕ, ◌≤◌, List, length, take, Some}
+-- When the answer is certain: what is certain to be printed, to be refused, and to be drawn.
+use Rattle.std.specs.Prelude.{◌≡◌, ℕ, ◌≤◌, true, List, length, take, Some, None}
 use Rattle.bz_model.specs.Spec.{Spec}
 use Rattle.bz_model.specs.WellFounded.{IsWellFounded}
 use Rattle.bz_outside.specs.Outside.{Rose}
-use Rattle.class_system.specs.Limits.{IsWithinLimits}
-use Rattle.spec_reader.specs.Reading.{Grammar}
-use Rattle.boltz.specs.Answers.{World, IsAccepted}
+use Rattle.bit_tape.specs.Bits.{file_bit}
+use Rattle.plain_table.specs.FirstForm.{is_first_form}
+use Rattle.plain_table.specs.PlainTable.{plain_bounds}
+use Rattle.size_window.specs.RunByBits.{Course, Ending, after}
+use Rattle.boltz.specs.Answers.{World, file_of, IsAccepted, IsNotYet}
+use Rattle.boltz.specs.Drawn.{sampling}
 use Rattle.boltz.specs.Words.{Command, Names}
 
--- The words ask to print a specification, its file is told and has at most 65536 bytes, the bytes stand for this specification, which is within the limits and well founded, and no read of the file failed in the call.
+-- The words stand for the command, its file is told to have these bytes, and no read of the file failed in the call.
+pub record IsGiven (w : World) (c : Command) (bytes : List ℕ) : Type 0 where
+  pub named : Names w.words c
+  pub is_told : w.content (file_of c) ≡ Some bytes
+  pub no_fault : ¬ (Rose (w.before (file_of c)) (w.after (file_of c)))
+
+-- The bytes of the command's file stand for this specification, which is within the limits and well founded.
+pub record IsFit (w : World) (c : Command) (s : Spec) : Type 0 where
+  pub bytes : List ℕ
+  pub given : IsGiven w c bytes
+  pub accepted : IsAccepted bytes s
+  pub founded : IsWellFounded s
+
+-- The words ask to print this specification.
 pub record IsPrintable (w : World) (s : Spec) : Type 0 where
   pub file : List ℕ
-  pub bytes : List ℕ
-  pub named : Names w.words (Command.Spec file)
-  pub is_told : w.content file ≡ Some bytes
-  pub few : length bytes ≤ 65536
-  pub stands : Grammar bytes s
-  pub within : IsWithinLimits s
-  pub founded : IsWellFounded s
-  pub no_fault : ¬ (Rose (w.before file) (w.after file))
+  pub fit : IsFit w (Command.Spec file) s
 
--- The words ask to print a specification, its file is told, what is read of it stands for no specification within the limits that is well founded, and no read of the file failed in the call.
+-- What is read of the command's file stands for no specification within the limits that is well founded.
 pub record IsUnfit (w : World) : Type 0 where
-  pub file : List ℕ
+  pub command : Command
   pub bytes : List ℕ
-  pub named : Names w.words (Command.Spec file)
-  pub is_told : w.content file ≡ Some bytes
+  pub given : IsGiven w command bytes
   pub unfit : (s : Spec) → IsAccepted (take 65537 bytes) s → ¬ (IsWellFounded s)
-  pub no_fault : ¬ (Rose (w.before file) (w.after file))
+
+-- The words ask to draw from a specification, or at a fraction, that isn't drawn from yet.
+pub record IsBeyond (w : World) : Type 0 where
+  pub file : List ℕ
+  pub num : ℕ
+  pub den : ℕ
+  pub tape : List ℕ
+  pub s : Spec
+  pub fit : IsFit w (Command.Sample file num den tape) s
+  pub not_yet : IsNotYet s num den
+
+-- The course of so many turns over the bits of these bytes, where no read fails.
+abbrev pub undisturbed : Spec → (num den : ℕ) → (bytes : List ℕ) → (turns : ℕ) → Course
+undisturbed s num den bytes turns = after (sampling s (plain_bounds s num den) (file_bit bytes)) (λ n. None) turns
+
+-- The words ask to draw from a specification of the first form at a fraction of at most 1, the tape is told to have these bytes, no read of it failed in the call, and over its bits the course of so many turns comes to this end.
+pub record IsDrawable (w : World) (s : Spec) (num den : ℕ) (bytes : List ℕ) (turns : ℕ) (ending : Ending) : Type 0 where
+  pub file : List ℕ
+  pub tape : List ℕ
+  pub fit : IsFit w (Command.Sample file num den tape) s
+  pub first_form : is_first_form s ≡ true
+  pub small : num ≤ den
+  pub tape_told : w.content tape ≡ Some bytes
+  pub no_fault : ¬ (Rose (w.before tape) (w.after tape))
+  pub ends : (undisturbed s num den bytes turns).state.ending ≡ Some ending

@@ -1,8 +1,9 @@
 pub mod Words
-pub mod Reads
 pub mod Lines
-pub mod FirstForm
 pub mod Refusals
+pub mod Drawn
+pub mod UnderWay
 pub mod Answers
+pub mod Reads
 pub mod Statuses
 pub mod Complete

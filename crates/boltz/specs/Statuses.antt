@@ -6,6 +6,9 @@ abbrev pub status_number : Status → ℕ
 status_number Status.Done = 0
 status_number Status.WordsRefused = 2
 status_number Status.SpecRefused = 3
+status_number Status.TapeEnded = 5
+status_number Status.Undecided = 6
+status_number Status.TurnLimit = 7
 status_number Status.ReadFault = 8
 status_number Status.WriteFault = 9
 status_number Status.OutOfMemory = 10

@@ -1,12 +1,34 @@
-//! A law of answers: its body does nothing.
+//! Laws of answers. Each function's contract is the law; none does anything.
 ghost use Rattle.std.specs.Prelude.{◌≡◌, ℕ, List};
 ghost use Rattle.bz_model.specs.Spec.{Spec};
+ghost use Rattle.plain_table.specs.PlainTable.{plain_bounds};
+ghost use Rattle.size_window.specs.RunByBits.{Ending};
 ghost use Rattle.boltz.specs.Answers.{World, Answers, spec_text};
-ghost use Rattle.boltz.specs.Complete.{IsPrintable};
+ghost use Rattle.boltz.specs.Complete.{IsPrintable, IsUnfit, IsBeyond, IsDrawable, undisturbed};
+ghost use Rattle.boltz.specs.Drawn.{IsDrawnText, ending_status};
+ghost use Rattle.boltz.specs.Refusals.{not_yet_line};
 ghost use Rattle.boltz.specs.declared.status.Status.{Status};
 
 /// What can be printed has no other answer than to be printed.
 pub fn what_can_be_printed_is_printed()
     ensures printed { (w : World) (s : Spec) (status : Status) (text : List ℕ) → IsPrintable w s
         → Answers w status text → (status ≡ Status.Done) × (text ≡ spec_text s) }
+{}
+
+/// What can be drawn has no other answer than the text of the drawing over the tape's bits, with the
+/// status of its end.
+#[tactic(auto, using(crate::proofs::Complete::drawn))]
+pub fn what_can_be_drawn_is_drawn()
+    ensures drawn { (w : World) (s : Spec) (num den turns : ℕ) (bytes : List ℕ) (ending : Ending) (status : Status) (text : List ℕ)
+        → IsDrawable w s num den bytes turns ending → Answers w status text
+        → (status ≡ ending_status ending) × IsDrawnText s num den (plain_bounds s num den) (undisturbed s num den bytes turns) ending text }
+{}
+
+/// What is read of an unfit specification is refused, and what isn't drawn from yet is left.
+#[tactic(auto, using(crate::proofs::Complete::refused, crate::proofs::Complete::left))]
+pub fn what_is_unfit_is_refused()
+    ensures refused { (w : World) (status : Status) (text : List ℕ) → IsUnfit w → Answers w status text
+        → status ≡ Status.SpecRefused }
+    ensures left { (w : World) (status : Status) (text : List ℕ) → IsBeyond w → Answers w status text
+        → (status ≡ Status.SpecRefused) × (text ≡ not_yet_line) }
 {}

@@ -1,7 +1,7 @@
 //! The top call: a command's words, its files and its output.
 #![tactic(auto)]
 
-pub mod first_form;
+mod drawn;
 pub mod laws;
 pub mod lines;
 pub mod refusals;

@@ -1,21 +1,26 @@
 //! What the program writes, and its answer.
-ghost use Rattle.std.specs.Prelude.{◌≡◌, ◌≢◌, ℕ, ◌≤◌, List, IfOk, IfErr, IfSome, take};
-ghost use Rattle.bz_model.specs.Spec.{Spec};
-ghost use Rattle.bz_model.specs.WellFounded.{IsWellFounded};
-ghost use Rattle.boltz.specs.Answers.{World, file_of, IsAsked, IsAccepted, Answers, Draws, spec_text};
-ghost use Rattle.boltz.specs.Reads.{named};
-ghost use Rattle.boltz.specs.Words.{Names};
+ghost use Rattle.std.specs.Prelude.{◌≡◌, ℕ, ◌≤◌, List, IfOk};
+ghost use Rattle.boltz.specs.Answers.{World, IsAsked, IsAccepted, Answers, Sampled, spec_text};
+ghost use Rattle.boltz.specs.Reads.{named, IsMet};
+ghost use Rattle.boltz.specs.UnderWay.{met};
+ghost use Rattle.bit_tape.specs.Tape.{TapeSource};
 
+
+use crate::drawn::drawn;
 use crate::lines::spec_end;
 use crate::refusals::{cause_refusal, text_refusal};
 use crate::status::Status;
 use crate::words::{Command, command_of};
+use bz_model::fraction::Fraction;
+use bz_model::steps::Steps;
 use bz_outside::shelf::{ReadStop, Shelf, read_up_to};
 use bz_outside::word::Word;
 use class_system::system::System;
+use plain_table::first_form::is_first_form;
 use spec_reader::fault::SpecFault;
 use spec_reader::reading::read_spec;
 use std::alloc::{AllocError, Global};
+use std::sync::ledger::Ledger;
 use well_founded::examination::{Founded, Unfounded, examine};
 
 /// The most bytes that are read of a specification: one more than it may have.
@@ -30,10 +35,11 @@ pub struct Report {
 
 /// The answer to the words.
 #[tactic(auto, using(crate::proofs::Told::told_words, crate::proofs::Told::told_read))]
-pub fn answer_to<S: Shelf>(
+pub fn answer_to<S: Shelf, L: Ledger>(
     alloc: Global,
     words: &[Word],
     shelf: &mut S,
+    steps: &mut Steps<L>,
 ) -> Result<Report, AllocError>
     ensures answer { IfOk result (λ r. Answers (record { words = words.now; content = S.content shelf.old; before = S.faults shelf.old; after = S.faults shelf.new }) r.status r.text.items) }
     ensures content { S.content shelf.new ≡ S.content shelf.old }
@@ -51,7 +57,7 @@ pub fn answer_to<S: Shelf>(
         Command::Sample { file, .. } => file,
     };
     match read_up_to(alloc, shelf, file, MOST_READ) {
-        Ok(bytes) => of_text(alloc, command, bytes.as_slice()),
+        Ok(bytes) => of_text(alloc, command, bytes.as_slice(), shelf, steps),
         Err(ReadStop::Failed) => {
             let text = line(alloc, "refused read\n")?;
             Ok(Report {
@@ -74,11 +80,19 @@ fn line(alloc: Global, line: &str) -> Result<Vec<u8>, AllocError>
 
 /// The answer where these bytes were read of a command's specification.
 #[tactic(auto, using(crate::proofs::Told::told_text))]
-fn of_text(alloc: Global, command: Command<'_>, bytes: &[u8]) -> Result<Report, AllocError>
-    ensures answer { IfOk result (λ r. (w : World) → IsAsked w (named command.entry) bytes.now → Answers w r.status r.text.items) }
+fn of_text<S: Shelf, L: Ledger>(
+    alloc: Global,
+    command: Command<'_>,
+    bytes: &[u8],
+    shelf: &mut S,
+    steps: &mut Steps<L>,
+) -> Result<Report, AllocError>
+    ensures answer { IfOk result (λ r. (w : World) → IsMet w (S.content shelf.old) (S.faults shelf.old) (S.faults shelf.new) → IsAsked w (named command.entry) bytes.now → Answers w r.status r.text.items) }
+    ensures content { S.content shelf.new ≡ S.content shelf.old }
+    ensures counts { (name : List ℕ) → S.faults shelf.old name ≤ S.faults shelf.new name }
 {
     match read_spec(alloc, bytes) {
-        Ok(system) => of_system(alloc, command, bytes, system),
+        Ok(system) => of_system(alloc, command, bytes, system, shelf, steps),
         Err(SpecFault::OutOfMemory) => Err(AllocError),
         Err(fault) => {
             let text = text_refusal(alloc, fault)?.into_bytes();
@@ -92,17 +106,21 @@ fn of_text(alloc: Global, command: Command<'_>, bytes: &[u8]) -> Result<Report, 
 
 /// The answer where the bytes stand for this specification.
 #[tactic(auto, using(crate::proofs::Told::told_cause, crate::proofs::Told::is_named))]
-fn of_system(
+fn of_system<S: Shelf, L: Ledger>(
     alloc: Global,
     command: Command<'_>,
     bytes: &[u8],
     system: System,
+    shelf: &mut S,
+    steps: &mut Steps<L>,
 ) -> Result<Report, AllocError>
     requires accepted { IsAccepted bytes.now system }
-    ensures answer { IfOk result (λ r. (w : World) → IsAsked w (named command.entry) bytes.now → Answers w r.status r.text.items) }
+    ensures answer { IfOk result (λ r. (w : World) → IsMet w (S.content shelf.old) (S.faults shelf.old) (S.faults shelf.new) → IsAsked w (named command.entry) bytes.now → Answers w r.status r.text.items) }
+    ensures content { S.content shelf.new ≡ S.content shelf.old }
+    ensures counts { (name : List ℕ) → S.faults shelf.old name ≤ S.faults shelf.new name }
 {
     match examine(alloc, system) {
-        Ok(founded) => of_founded(alloc, command, bytes, &founded),
+        Ok(founded) => of_founded(alloc, command, bytes, &founded, shelf, steps),
         Err(Unfounded { cause, system }) => {
             system.known();
             let text = cause_refusal(alloc, &system, cause)?;
@@ -115,15 +133,19 @@ fn of_system(
 }
 
 /// The answer where the bytes stand for this well-founded specification.
-#[tactic(auto, using(crate::proofs::Told::told_spec, crate::proofs::Told::told_not_yet))]
-fn of_founded(
+#[tactic(auto, using(crate::proofs::Told::told_spec))]
+fn of_founded<S: Shelf, L: Ledger>(
     alloc: Global,
     command: Command<'_>,
     bytes: &[u8],
     founded: &Founded,
+    shelf: &mut S,
+    steps: &mut Steps<L>,
 ) -> Result<Report, AllocError>
     requires accepted { IsAccepted bytes.now founded.now }
-    ensures answer { IfOk result (λ r. (w : World) → IsAsked w (named command.entry) bytes.now → Answers w r.status r.text.items) }
+    ensures answer { IfOk result (λ r. (w : World) → IsMet w (S.content shelf.old) (S.faults shelf.old) (S.faults shelf.new) → IsAsked w (named command.entry) bytes.now → Answers w r.status r.text.items) }
+    ensures content { S.content shelf.new ≡ S.content shelf.old }
+    ensures counts { (name : List ℕ) → S.faults shelf.old name ≤ S.faults shelf.new name }
 {
     founded.known();
     match command {
@@ -134,14 +156,31 @@ fn of_founded(
                 text,
             })
         }
-        Command::Sample { .. } => {
-            let text = line(alloc, "refused not yet\n")?;
-            Ok(Report {
-                status: Status::SpecRefused,
-                text,
-            })
-        }
+        Command::Sample { x, tape, .. } => of_sample(alloc, founded, x, tape, shelf, steps),
     }
+}
+
+/// The answer where objects of the specification's first class are asked for.
+fn of_sample<S: Shelf, L: Ledger>(
+    alloc: Global,
+    founded: &Founded,
+    x: Fraction,
+    tape: &Word,
+    shelf: &mut S,
+    steps: &mut Steps<L>,
+) -> Result<Report, AllocError>
+    ensures sampled { IfOk result (λ r. Sampled founded.now x.num x.den (met (TapeSource.Named tape.now) (S.content shelf.old) (S.faults shelf.old) (S.faults shelf.new)) r.status r.text.items) }
+    ensures content { S.content shelf.new ≡ S.content shelf.old }
+    ensures counts { (name : List ℕ) → S.faults shelf.old name ≤ S.faults shelf.new name }
+{
+    if x.num > x.den  {
+        let text = line(alloc, "refused not yet\n")?;
+        return Ok(Report {
+            status: Status::SpecRefused,
+            text,
+        });
+    }
+    drawn(alloc, founded, x, tape, shelf, steps)
 }
 
 /// A specification in its canonical form, and the closing line.

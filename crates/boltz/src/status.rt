@@ -11,6 +11,12 @@ pub enum Status {
     WordsRefused,
     /// The specification is refused, or isn't drawn from yet.
     SpecRefused,
+    /// The tape ended before all was drawn.
+    TapeEnded,
+    /// 60 bits left a number open.
+    Undecided,
+    /// The limit of turns was reached.
+    TurnLimit,
     /// A read failed.
     ReadFault,
     /// A write failed.
@@ -28,6 +34,9 @@ impl Status {
             Status::Done => 0,
             Status::WordsRefused => 2,
             Status::SpecRefused => 3,
+            Status::TapeEnded => 5,
+            Status::Undecided => 6,
+            Status::TurnLimit => 7,
             Status::ReadFault => 8,
             Status::WriteFault => 9,
             Status::OutOfMemory => 10,
