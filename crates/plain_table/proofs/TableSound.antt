@@ -11,10 +11,10 @@ use Rattle.class_system.specs.NodeResults.{ranged_nodes}
 use Rattle.class_system.specs.Sound.{IsSound}
 use Rattle.class_system.proofs.Results.{length-node_results, length-zip}
 use Rattle.rounded_map.specs.declared.upper.NoValue.{NoValue}
-use Rattle.rounded_map.specs.RoundedMap.{Setting, setting, amount, value_at, value_up, values_down, values_up, IsFirstMissing}
+use Rattle.rounded_map.specs.RoundedMap.{Setting, setting, amount, value_at, repeated, sweep_down, value_up, values_down, values_up, IsFirstMissing}
 use Rattle.plain_table.specs.FirstForm.{is_first_form}
 use Rattle.plain_table.specs.PlainTable.{Point, point, zeros, bodies_at, lower_classes, upper_classes, plain_bounds, IsTableOf}
-use Rattle.plain_table.proofs.Written.{within-any}
+use Rattle.plain_table.proofs.Written.{within-any, repeated-all}
 use Rattle.plain_table.proofs.Settled.{IsPlain, zeros-second, taken-second, none-missing, enclosed}
 
 -- Bounds of two numbers.
@@ -51,6 +51,13 @@ amounts nodes (b ∷ bodies) = ap (λ n. n ∷ map (slice_index nodes) bodies) (
 pub taken-is : (t : Setting) (classes nodes bodies got : List ℕ) → map Some nodes ≡ values_up t classes → bodies ≡ t.spec.bodies → got ≡ map (slice_index nodes) bodies → got ≡ bodies_at t classes
 taken-is t classes nodes bodies got values are written =
     written ∙ amounts nodes bodies ∙ ap (λ (bs : List ℕ). map amount (map (value_at (map Some nodes)) bs)) are ∙ ap (λ (vs : List (Option ℕ)). map amount (map (value_at vs) t.spec.bodies)) values
+
+-- The values of the nodes after two steps from zero, as the code counts them.
+pub lower-is : (t : Setting) (n : ℕ) (entries start nodes : List ℕ) → n ≡ 2 → nodes ≡ values_down t entries → entries ≡ repeated (sweep_down t) n start → start ≡ zeros t → nodes ≡ values_down t (lower_classes t)
+lower-is t n entries start nodes two values swept same = values ∙ ap (values_down t) (repeated-all (sweep_down t) n entries start (zeros t) two swept same)
+
+pub upper-is : (t : Setting) (n : ℕ) (entries start nodes : List ℕ) → n ≡ 2 → map Some nodes ≡ values_up t entries → entries ≡ repeated (bodies_at t) n start → start ≡ zeros t → map Some nodes ≡ values_up t (upper_classes t)
+upper-is t n entries start nodes two values taken same = values ∙ ap (values_up t) (repeated-all (bodies_at t) n entries start (zeros t) two taken same)
 
 -- The second class's entry among them, and among zeros.
 pub taken-small : (s : Spec) (num den : ℕ) (classes got : List ℕ) → IsSound s → is_first_form s ≡ true → num ≤ den → 0 < den → got ≡ bodies_at (setting s num den 48) classes → slice_index got 1 ≤ 4 * 2 ^ 48
