@@ -17,3 +17,12 @@ pub mod Sounds
 pub mod OneText
 pub mod One
 pub mod OneRefusal
+pub mod PlainTokens
+pub mod Runs
+pub mod Pieces
+pub mod Readings
+pub mod ShownNodes
+pub mod TreeReadings
+pub mod Lines
+pub mod CanonicalReads
+pub mod Lengths

@@ -174,6 +174,9 @@ fn limit_fault(fault: BuildFault) -> SpecFault
 ///
 /// The refusals are tested in the order in which `SpecFault` has them, a whole text's `Syntax` before
 /// its first `Undefined`, `Twice` or `NeedsLabels`. `OutOfMemory` may come at any point.
+///
+/// What a system's `to_text` gives is read back as the same specification
+/// (`laws::what_a_system_prints_is_read_back`).
 pub fn read_spec(alloc: Global, bytes: &[u8]) -> Result<System, SpecFault>
     ensures read { IfOk result (Grammar bytes.now) }
     ensures few { OnOk result (length bytes.now ≤ 65536) }
