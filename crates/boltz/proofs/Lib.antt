@@ -3,3 +3,5 @@ pub mod Told
 pub mod Commands
 pub mod Courses
 pub mod Complete
+pub mod KeptObjects
+pub mod OneTurn

@@ -25,12 +25,19 @@ pub record IsSoFar (s : Spec) (x : Fraction) (table : (level node : ℕ) → Bou
   pub by_bits : IfSome (bits_of t.source t.contents) (IsCourseOver s table t course)
   pub lists : Lists s course.entries lines
 
+-- A drawing has a course that goes as ideal runs do, so many bits being used.
+pub record HasCourse (s : Spec) (x : Fraction) (d : DrawingState) (used : ℕ) : Type 0 where
+  pub course : Course
+  pub state : course.state ≡ state_of d used
+  pub goes : Goes s x usual course
+
 -- A drawing over a tape can make a turn.
 pub record CanTurn (s : Spec) (x : Fraction) (contents : List ℕ → Option (List ℕ)) (d : DrawingState) (tape : TapeState) : Type 0 where
   pub belongs : DrawingBelongs s x d
   pub limits : d.limits ≡ usual
   pub goes_on : d.ending ≡ None
   pub ahead : Belongs contents tape
+  pub so_far : HasCourse s x d tape.used
 
 -- The line of a number that was left open, with the bounds that the ending tells. Other endings have none.
 abbrev pub told_open : Ending → List ℕ

@@ -10,7 +10,7 @@ ghost use Rattle.size_window.specs.Drawing.{ending_of};
 ghost use Rattle.size_window.specs.Turn.{entry_of};
 ghost use Rattle.boltz.specs.Drawn.{ending_word, ending_status, AreLinesOf, IsReported};
 ghost use Rattle.boltz.specs.UnderWay.{met, IsSoFar, CanTurn, IsAtEnd, AfterTurn, GoesOn, told_open};
-ghost use Rattle.bz_model.specs.Oracle.{cost_between};
+ghost use Rattle.bz_model.specs.Oracle.{AreCosts, cost_between};
 ghost use Rattle.bit_tape.specs.Tape.{TapeSource};
 ghost use Rattle.boltz.specs.Lines.{end_line};
 
@@ -63,6 +63,7 @@ pub fn drawn<S: Shelf, L: Ledger>(
     let mut tape = Tape::over(Word::from_bytes(alloc, tape.bytes())?);
     let mut drawing = Drawing::new(alloc, founded, LIMITS)?;
     let mut lines = Vec::new(alloc);
+    table.known();
     let ending = turn_to_the_end::<48, _, S, L>(
         alloc,
         founded,
@@ -98,6 +99,8 @@ fn turn_to_the_end<const F: u32, O: Oracle<F>, S: Shelf, L: Ledger>(
     requires ready { IsReady founded.now }
     requires unlabelled { founded.now.mode ≡ Mode.Unlabelled }
     requires spec { O.spec oracle.old ≡ founded.now }
+    requires costs { AreCosts (O.cost oracle.old) }
+    requires levels { O.raised oracle.old ≤ 6 }
     requires can_turn { CanTurn founded.now (O.x oracle.old) (S.content shelf.old) drawing.old tape.old }
     ensures ended { IfOk result (λ ending. (before : List ℕ → ℕ) → ((name : List ℕ) → before name ≤ S.faults shelf.old name)
         → IsSoFar founded.now (O.x oracle.old) (O.table oracle.old) (met tape.old.source (S.content shelf.old) before (S.faults shelf.old)) drawing.old tape.old.used lines.old.items
@@ -145,6 +148,7 @@ fn turn_once<const F: u32, O: Oracle<F>, S: Shelf, L: Ledger>(
     ensures x { O.x oracle.new ≡ O.x oracle.old }
     ensures table { O.table oracle.new ≡ O.table oracle.old }
     ensures cost { O.cost oracle.new ≡ O.cost oracle.old }
+    ensures levels { O.raised oracle.old ≤ 6 → O.raised oracle.new ≤ 6 }
     ensures raised { O.raised oracle.old ≤ O.raised oracle.new }
     ensures ticks { steps.new ≤ steps.old + cost_between (O.cost oracle.old) (O.raised oracle.old) (O.raised oracle.new) }
     ensures source { tape.new.source ≡ tape.old.source }
@@ -179,7 +183,8 @@ fn write_entry(
     let size = kept.shape.size();
     let cells = kept.cells.items();
     let more = entry(alloc, kept.number, kept.place, size, text.as_slice(), cells)?;
-    lines.extend_from_slice(more.as_slice())
+    lines.extend_from_slice(more.as_slice())?;
+    Ok(())
 }
 
 /// The lines after the last object.

@@ -17,7 +17,6 @@ pub fn what_can_be_printed_is_printed()
 
 /// What can be drawn has no other answer than the text of the drawing over the tape's bits, with the
 /// status of its end.
-#[tactic(auto, using(crate::proofs::Complete::drawn))]
 pub fn what_can_be_drawn_is_drawn()
     ensures drawn { (w : World) (s : Spec) (num den turns : ℕ) (bytes : List ℕ) (ending : Ending) (status : Status) (text : List ℕ)
         → IsDrawable w s num den bytes turns ending → Answers w status text
@@ -25,7 +24,7 @@ pub fn what_can_be_drawn_is_drawn()
 {}
 
 /// What is read of an unfit specification is refused, and what isn't drawn from yet is left.
-#[tactic(auto, using(crate::proofs::Complete::refused, crate::proofs::Complete::left))]
+#[tactic(auto, using(crate::proofs::Complete::refused))]
 pub fn what_is_unfit_is_refused()
     ensures refused { (w : World) (status : Status) (text : List ℕ) → IsUnfit w → Answers w status text
         → status ≡ Status.SpecRefused }

@@ -1,0 +1,180 @@
+-- A course with one turn more.
+use Rattle.std.proofs.Common.{◌≡◌, ◌≢◌, ℕ, zero, suc, ◌+◌, ◌-◌, ◌<◌, ◌≤◌, arith, Bool, true, false, cond, List, [], ◌∷◌, ◌++◌, append-nil, refl, sym, ◌∙◌, ap, subst}
+use Rattle.std.specs.Prelude.{Option, Some, None, IfSome, eqb, option_to_list}
+use Rattle.std.proofs.lemmas.Bool.{eq-eqb, ne_eqb}
+use Rattle.bz_model.specs.declared.cell.Bounds.{Bounds}
+use Rattle.bz_model.specs.Fraction.{Fraction}
+use Rattle.bz_model.specs.Spec.{Spec}
+use Rattle.bit_tape.specs.Tape.{TapeState, TapeSource, Belongs, bits_of, HasFault}
+use Rattle.object_store.specs.Tokens.{IsOf}
+use Rattle.shape_sampler.specs.Answer.{ChoosesBy}
+use Rattle.shape_sampler.specs.Visit.{Chooser}
+use Rattle.size_window.specs.declared.ending.Ending.{Ending as Told}
+use Rattle.size_window.specs.declared.ending.Ending.TheVariants as told
+use Rattle.size_window.specs.declared.ending.Straddle.TheVariants as straddle
+use Rattle.size_window.specs.declared.turned.Turned.{Turned as Answer}
+use Rattle.size_window.specs.declared.turned.Turned.TheVariants as answer
+use Rattle.size_window.specs.RunByBits.{Limits, Sampling, State, Entry, Course, Turned, turn, followed_by, one_turn_on, after}
+use Rattle.size_window.specs.Ideally.{union_chooser}
+use Rattle.size_window.specs.Drawing.{DrawingState, DrawingBelongs, state_of, ending_of}
+use Rattle.size_window.specs.Follows.{Goes}
+use Rattle.size_window.specs.Turn.{IsTurn, IsCounted, told_entry, told_fault, turns_by, turns_of, ending_by, TellsOpen}
+use Rattle.boltz.specs.Drawn.{TapeMet, HasFailed, usual, sampling, IsCourseOver, AreLinesOf, Lists, open_lines}
+use Rattle.boltz.specs.Drawn as drawn
+use Rattle.boltz.specs.UnderWay.{met, IsSoFar, HasCourse, CanTurn, IsAtEnd, told_open}
+use Rattle.boltz.specs.Lines.{open_line}
+use Rattle.boltz.proofs.KeptObjects.{kept-is-of}
+use Rattle.boltz.proofs.Told.{failed-since}
+
+-- failures up to turn n, and this one in turn n
+abbrev extended : (faults : ℕ → Option ℕ) (n : ℕ) (fault : Option ℕ) → ℕ → Option ℕ
+extended faults n fault k = cond (eqb k n) fault (faults k)
+
+-- earlier turns alone count
+agree : (s : Sampling) (f g : ℕ → Option ℕ) (n : ℕ) → ((k : ℕ) → k < n → f k ≡ g k) → after s f n ≡ after s g n
+agree s f g zero same = refl
+agree s f g (suc n) same = ap (λ o. one_turn_on s o (after s f n)) (same n (omega arith)) ∙ ap (one_turn_on s (g n)) (agree s f g n (λ k h. same k (omega arith)))
+
+extended-before : (faults : ℕ → Option ℕ) (n : ℕ) (fault : Option ℕ) (k : ℕ) → k < n → extended faults n fault k ≡ faults k
+extended-before faults n fault k h = ap (λ b. cond b fault (faults k)) (ne_eqb k n (λ e. omega arith))
+
+extended-at : (faults : ℕ → Option ℕ) (n : ℕ) (fault : Option ℕ) → extended faults n fault n ≡ fault
+extended-at faults n fault = ap (λ b. cond b fault (faults n)) (eq-eqb n n refl)
+
+-- the lines of the entry that a turn kept, if it kept one
+abbrev pub Appended : Spec → Option Entry → (more : List ℕ) → Type 0
+Appended s None more = more ≡ []
+Appended s (Some e) more = AreLinesOf s e more
+
+-- a read that failed before a count went on has failed
+failed-until : (source : TapeSource) (before now later : List ℕ → ℕ) → ((name : List ℕ) → now name ≤ later name) → HasFault source before now → HasFault source before later
+failed-until (TapeSource.Named name) before now later h rose = let more = h name in omega arith
+failed-until (TapeSource.Seeded seed) before now later h never = never
+
+-- the failures of the turns so far, and of one more
+caused-on : (Failed : Type 0) (faults : ℕ → Option ℕ) (n : ℕ) (fault : Option ℕ) → ((k given : ℕ) → faults k ≡ Some given → Failed) → ((given : ℕ) → fault ≡ Some given → Failed) → (k given : ℕ) → extended faults n fault k ≡ Some given → Failed
+caused-on Failed faults n fault old new k given is = go (eqb k n) is
+  where
+    go : (b : Bool) → cond b fault (faults k) ≡ Some given → Failed
+    go true e = new given e
+    go false e = old k given e
+
+-- a turn fails only where its answer is a failed read
+fault-told : (ending : Option Told) (a : Answer) (bits given : ℕ) → told_fault ending a bits ≡ Some given → a ≡ answer.Finished told.ReadFault
+fault-told None (answer.Finished told.ReadFault) bits given e = refl
+fault-told None (answer.Finished told.Done) bits given e = absurd (cc)
+fault-told None (answer.Finished told.TapeEnded) bits given e = absurd (cc)
+fault-told None (answer.Finished (told.Undecided straddle)) bits given e = absurd (cc)
+fault-told None (answer.Finished told.TurnLimit) bits given e = absurd (cc)
+fault-told None answer.Going bits given e = absurd (cc)
+fault-told None (answer.Kept entry) bits given e = absurd (cc)
+fault-told None answer.OutOfMemory bits given e = absurd (cc)
+fault-told (Some ending) a bits given e = absurd (cc)
+
+-- What a turn of a drawing tells.
+pub record TellsTurn (s : Spec) (x : Fraction) (table : (level node : ℕ) → Bounds) (source : TapeSource) (contents : List ℕ → Option (List ℕ)) (old new : List ℕ → ℕ) (d now : DrawingState) (start used : ℕ) (a : Answer) : Type 0 where
+  pub limits : d.limits ≡ usual
+  pub goes_on : d.ending ≡ None
+  pub counts : (name : List ℕ) → old name ≤ new name
+  pub cause : a ≡ answer.Finished told.ReadFault → HasFault source old new
+  pub turn : IsTurn s x table (bits_of source contents) d start a now used
+
+module _ (s : Spec) (x : Fraction) (table : (level node : ℕ) → Bounds) (source : TapeSource) (contents : List ℕ → Option (List ℕ)) (old new : List ℕ → ℕ) (d now : DrawingState) (start used : ℕ) (a : Answer) (h : TellsTurn s x table source contents old new d now start used a) where
+  goes-usual : (c : Course) → c.state ≡ state_of d start → Goes s x usual c → Goes s x usual (followed_by c h.turn.turned)
+  goes-usual c at g = subst (λ l. Goes s x l (followed_by c h.turn.turned)) h.limits (h.turn.goes c at (subst (λ l. Goes s x l c) (sym h.limits) g))
+
+  pub course-on : HasCourse s x d start → HasCourse s x now used
+  course-on c = record { course = followed_by c.course h.turn.turned; state = h.turn.state; goes = goes-usual c.course c.state c.goes }
+
+  pub entry-is-of : (e : Entry) → HasCourse s x d start → told_entry a ≡ Some e → IsOf s 0 e.tokens
+  entry-is-of e c is = kept-is-of s x usual c.course h.turn.turned e (goes-usual c.course c.state c.goes).follows (h.turn.entry ∙ is)
+
+  module _ (before : List ℕ → ℕ) (below : (name : List ℕ) → before name ≤ old name) where
+    fault : Option ℕ
+    fault = told_fault d.ending a (used - start)
+
+    failed-now : a ≡ answer.Finished told.ReadFault → HasFault source before new
+    failed-now e = failed-since source before old new below (h.cause e)
+
+    fault-caused : (given : ℕ) → fault ≡ Some given → HasFault source before new
+    unfolding fault
+    fault-caused given e = failed-now (fault-told d.ending a (used - start) given e)
+
+    over-on : (c : Course) → c.state ≡ state_of d start → (bits : Option (ℕ → Option Bool)) → IfSome bits (IsCourseOver s table (met source contents before old) c) → IfSome bits (λ tape. (k : Chooser) → ChoosesBy s table k → h.turn.turned ≡ turn (record { chooser = k; limits = d.limits; tape = tape }) (told_fault d.ending a (used - start)) (state_of d start)) → IfSome bits (IsCourseOver s table (met source contents before new) (followed_by c h.turn.turned))
+    unfolding fault
+    over-on c at None over exact = tt
+    over-on c at (Some bits) over exact =
+        let sample : Sampling = sampling s table bits in
+        let same-turn : h.turn.turned ≡ turn sample fault c.state =
+            subst (λ l. h.turn.turned ≡ turn (record { chooser = union_chooser s table; limits = l; tape = bits }) fault c.state) h.limits
+            (subst (λ st. h.turn.turned ≡ turn (record { chooser = union_chooser s table; limits = d.limits; tape = bits }) fault st) (sym at)
+            (exact (union_chooser s table) (record { same_spec = refl; at_unions = λ e room is. refl }))) in
+        let faults : ℕ → Option ℕ = extended over.faults over.turns fault in
+        let earlier : after sample over.faults over.turns ≡ after sample faults over.turns = agree sample over.faults faults over.turns (λ k lt. sym (extended-before over.faults over.turns fault k lt)) in
+        record {
+          turns = suc over.turns;
+          faults = faults;
+          caused = caused-on (HasFault source before new) over.faults over.turns fault (λ k given e. failed-until source before old new h.counts (over.caused k given e)) fault-caused;
+          same = ap (followed_by c) same-turn ∙ ap (one_turn_on sample fault) (over.same ∙ earlier) ∙ ap (λ o. one_turn_on sample o (after sample faults over.turns)) (sym (extended-at over.faults over.turns fault));
+        }
+
+    lists-on : (c : Course) (lines more : List ℕ) (o : Option Entry) → Lists s c.entries lines → Appended s o more → Lists s (c.entries ++ option_to_list o) (lines ++ more)
+    lists-on c lines more None l none = subst (λ es. Lists s es (lines ++ more)) (sym (append-nil c.entries)) (subst (Lists s c.entries) (sym (ap (λ m. lines ++ m) none ∙ append-nil lines)) l)
+    lists-on c lines more (Some e) l of = drawn.one_more c.entries e lines more l of refl refl
+
+    pub so-far-on : (lines more : List ℕ) → Appended s (told_entry a) more → IsSoFar s x table (met source contents before old) d start lines → IsSoFar s x table (met source contents before new) now used (lines ++ more)
+    so-far-on lines more appended p = record {
+      course = followed_by p.course h.turn.turned;
+      state = h.turn.state;
+      goes = goes-usual p.course p.state p.goes;
+      by_bits = over-on p.course p.state (bits_of source contents) p.by_bits h.turn.exact;
+      lists = subst (λ o. Lists s (p.course.entries ++ option_to_list o) (lines ++ more)) (sym h.turn.entry) (lists-on p.course lines more (told_entry a) p.lists appended);
+    }
+
+abbrev bounds : (lo hi : ℕ) → Bounds
+bounds lo hi = record { lo = lo; hi = hi }
+
+same-bounds : (b : Bounds) (lo hi : ℕ) → lo ≡ b.lo → hi ≡ b.hi → bounds lo hi ≡ b
+same-bounds b lo hi e f = ap (λ l. bounds l hi) e ∙ ap (λ h. bounds b.lo h) f
+
+-- the bounds that an ending tells are those of the table
+open-told : (table : (level node : ℕ) → Bounds) (e : Told) → TellsOpen table (answer.Finished e) → told_open e ≡ open_lines table (ending_of e)
+open-told table told.Done h = refl
+open-told table told.TapeEnded h = refl
+open-told table (told.Undecided (straddle.Node node cell lo hi)) h = ap (λ b. open_line node.0 cell b) (same-bounds (table 6 node.0) lo hi h.lower h.upper)
+open-told table told.TurnLimit h = refl
+open-told table told.ReadFault h = refl
+
+-- the limits are the usual ones
+count-one : (l : Limits) → l ≡ usual → l.count ≡ 1
+count-one l e = ap (λ k. k.count) e
+
+million : (l : Limits) → l ≡ usual → l.turns ≡ 1000000
+million l e = ap (λ k. k.turns) e
+
+turns-none : (ending : Option Told) (e : Told) → ending ≡ None → e ≡ told.TurnLimit → turns_by ending (answer.Finished e) ≡ 0
+turns-none ending e none is = ap (λ o. turns_by o (answer.Finished e)) none ∙ ap (λ f. turns_of f) is
+
+pub turns-one : (ending : Option Told) (a : Answer) → ending ≡ None → turns_by None a ≡ 1 → turns_by ending a ≡ 1
+turns-one ending a none one = ap (λ o. turns_by o a) none ∙ one
+
+-- a drawing that ended in this turn has come to its end
+pub at-end : (s : Spec) (x : Fraction) (table : (level node : ℕ) → Bounds) (source : TapeSource) (contents : List ℕ → Option (List ℕ)) (old new : List ℕ → ℕ) (d now : DrawingState) (start used : ℕ) (e : Told) → TellsTurn s x table source contents old new d now start used (answer.Finished e) → IsCounted d (answer.Finished e) now → ((answer.Finished e ≡ answer.Finished told.Done) → d.kept ≡ d.limits.count) → ((answer.Finished e ≡ answer.Finished told.TurnLimit) → d.turns ≡ d.limits.turns) → TellsOpen table (answer.Finished e) → (before : List ℕ → ℕ) → ((name : List ℕ) → before name ≤ old name) → (lines : List ℕ) → IsSoFar s x table (met source contents before old) d start lines → IsAtEnd s x table (met source contents before new) now used lines e
+at-end s x table source contents old new d now start used e h counted done turn_limit tells_open before below lines p = record {
+  so_far = subst (IsSoFar s x table (met source contents before new) now used) (append-nil lines) (so-far-on s x table source contents old new d now start used (answer.Finished e) h before below lines [] refl p);
+  ended = counted.ending;
+  kept = λ is. let all = done (ap answer.Finished is) in let one = count-one d.limits h.limits in let same = counted.kept in omega (arith, all, one, same);
+  out_of_turns = λ is. let all = turn_limit (ap answer.Finished is) in let most = million d.limits h.limits in let same = counted.turns in let none = turns-none d.ending e h.goes_on is in omega (arith, all, most, same, none);
+  failed = λ is. failed-since source before old new below (h.cause (ap answer.Finished is));
+  open_is = open-told table e tells_open;
+}
+
+-- a drawing that goes on can make another turn
+pub can-turn-on : (s : Spec) (x : Fraction) (table : (level node : ℕ) → Bounds) (source : TapeSource) (contents : List ℕ → Option (List ℕ)) (old new : List ℕ → ℕ) (d now : DrawingState) (before_tape tape : TapeState) (a : Answer) → TellsTurn s x table source contents old new d now before_tape.used tape.used a → CanTurn s x contents d before_tape → IsCounted d a now → turns_by None a ≡ 1 → ending_by d.ending a ≡ d.ending → DrawingBelongs s x now → Belongs contents tape → CanTurn s x contents now tape × (now.turns ≡ d.turns + 1)
+can-turn-on s x table source contents old new d now before_tape tape a h can counted one same belongs ahead = (record {
+  belongs = belongs;
+  limits = counted.limits ∙ can.limits;
+  goes_on = counted.ending ∙ same ∙ can.goes_on;
+  ahead = ahead;
+  so_far = course-on s x table source contents old new d now before_tape.used tape.used a h can.so_far;
+}, counted.turns ∙ ap (λ n. d.turns + n) (turns-one d.ending a can.goes_on one))
