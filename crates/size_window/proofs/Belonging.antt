@@ -1,5 +1,5 @@
 -- A drawing still belongs after a turn, and what it kept is numbered and sized right.
-use Rattle.std.proofs.Common.{◌≡◌, ◌≢◌, ℕ, ◌+◌, ◌-◌, ◌<◌, ◌≤◌, max, inl, inr, List, [], ◌∷◌, length, Option, Some, None, refl, sym, ◌∙◌, ap, subst, arith}
+use Rattle.std.proofs.Common.{◌≡◌, ◌≢◌, ℕ, suc, ◌+◌, ◌-◌, ◌<◌, ◌≤◌, max, inl, inr, List, [], ◌∷◌, length, Option, Some, None, refl, sym, ◌∙◌, ap, subst, arith}
 use Rattle.std.specs.Prelude.{slice_get, ◌↔◌, Bool, true, false, IsTrue}
 use Rattle.bz_model.specs.declared.cell.Bounds.{Bounds}
 use Rattle.bz_model.specs.Fraction.{Fraction}
@@ -19,7 +19,7 @@ use Rattle.size_window.specs.declared.turned.Turned.TheVariants as answer
 use Rattle.size_window.specs.declared.turned.Outcome.TheVariants as outcome
 use Rattle.size_window.specs.RunByBits.{bits_in}
 use Rattle.size_window.specs.Drawing.{DrawingState, DrawingBelongs, counted, thrown_one, kept_shape, ended_by, begun_one}
-use Rattle.size_window.specs.Turn.{IsIdleTurn, Settles, Keeps, outcome_of, MaySettle, IfStraddles, IfKept, IsNext}
+use Rattle.size_window.specs.Turn.{turns_by, IsIdleTurn, Settles, Keeps, outcome_of, MaySettle, IfStraddles, IfKept, IsNext}
 use Rattle.size_window.specs.Turn as turning
 use Rattle.size_window.proofs.Going.{ideal-fits}
 
@@ -179,6 +179,24 @@ module _ (s : Spec) (x : Fraction) (before : DrawingState) (b : DrawingBelongs s
   open-node stepped.Ended session start used raised draws six = tt
   open-node stepped.ReadFault session start used raised draws six = tt
   open-node stepped.OutOfMemory session start used raised draws six = tt
+
+-- a visit that counts no turn is one for which memory was wanting
+pub uncounted : (going : Option Ending) → going ≡ None → (table : (level node : ℕ) → Bounds) (step : Stepped) (used : ℕ) (before now : DrawingState) (result : Turned) → Settles (outcome_of table step) used before result now → turns_by going result ≡ 0 → step ≡ stepped.OutOfMemory
+uncounted (Some e) is table step used before now result settles none = absurd (let no : ⊥ = cc in no)
+uncounted None is table step used before now result settles none = by step settles
+  where
+    counts : (told : Turned) (n : ℕ) → result ≡ told → turns_by None told ≡ suc n → ⊥
+    counts told n same one = let e : turns_by None result ≡ turns_by None told = ap (turns_by None) same in omega arith
+
+    by : (step : Stepped) → Settles (outcome_of table step) used before result now → step ≡ stepped.OutOfMemory
+    by stepped.Moved settles = absurd (counts _ 0 settles.0 refl)
+    by stepped.Made (inl settles) = absurd (counts _ 0 settles.1.0 refl)
+    by stepped.Made (inr settles) = absurd (counts _ 0 settles.1.told refl)
+    by stepped.Overshot settles = absurd (counts _ 0 settles.0 refl)
+    by (stepped.Straddles node cell) settles = absurd (counts _ 0 settles.0 refl)
+    by stepped.Ended settles = absurd (counts _ 0 settles.0 refl)
+    by stepped.ReadFault settles = absurd (counts _ 0 settles.0 refl)
+    by stepped.OutOfMemory settles = refl
 
 -- where 60 bits were used, level 6 is raised
 pub six-raised : (raised earlier start used : ℕ) → raised ≡ max earlier (level_for (used - start)) → used ≡ start + 60 → 6 ≤ raised

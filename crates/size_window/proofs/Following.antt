@@ -28,7 +28,8 @@ use Rattle.shape_sampler.proofs.Visits.{begins}
 use Rattle.size_window.specs.RunByBits
 use Rattle.size_window.specs.RunByBits.{Limits, Sampling, State, Entry, Turned, Course, Ending, added, start, quiet, ended, entry_of, thrown_away, kept_one, shape_made, kept_or_waits, went, visited, shape_turn, counted_turn, open_turn, turn_unless, turn, fault_place, followed_by, one_turn_on, at_start, after, with_attempt}
 use Rattle.size_window.specs.Ideally.{DecidesIdeally}
-use Rattle.size_window.specs.Follows.{IsEntryOf, AreEntriesOf, window_of, Follows}
+use Rattle.size_window.specs.Follows.{AreEntriesOf, window_of, Follows}
+use Rattle.size_window.proofs.Going.{entries-more}
 use Rattle.size_window.proofs.Visiting.{IsIdeally, node-ideally, at_index}
 use Rattle.size_window.proofs.VisitCells.{ExtendsCells, node-extends, PendsBelow, node-pends}
 
@@ -54,13 +55,6 @@ module _ (s : Spec) (x : Fraction) (whole : ℕ) (tokens : List Token) (cells : 
         let same : m.object ≡ first-made.object = one-of-class s 0 (tokens ++ []) (is-of m) (is-of first-made) in
         subst (λ o. ClassMakes s x 0 whole (us ++ rest) (Just o room) rest) same m.made;
   }
-
--- entries with one more at the end
-entries-more : (ks : List Kept) (es : List Entry) (k : Kept) (e : Entry) → AreEntriesOf ks es → IsEntryOf k e → AreEntriesOf (ks ++ k ∷ []) (es ++ e ∷ [])
-entries-more [] [] k e h i = (i, tt)
-entries-more [] (d ∷ es) k e h i = elim h [ ]
-entries-more (j ∷ ks) [] k e h i = elim h [ ]
-entries-more (j ∷ ks) (d ∷ es) k e h i = (h.0, entries-more ks es k e h.1 i)
 
 module _ (s : Sampling) (x : Fraction) (ideal : DecidesIdeally s.chooser x) (sound : IsSound s.chooser.spec) (plain : s.chooser.spec.mode ≡ Mode.Unlabelled) where
   -- What stands of a course: the ideal run that its finished attempts make, and how many objects it kept.

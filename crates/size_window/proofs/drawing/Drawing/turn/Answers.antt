@@ -6,7 +6,7 @@ use Rattle.size_window.specs.Drawing.{DrawingBelongs}
 use Rattle.size_window.specs.Turn.{outcome_of, IfStraddles, Settles}
 use Rattle.size_window.specs.contracts.drawing.Drawing.{the_view}
 use Rattle.size_window.proofs.Turning.{idle-turn}
-use Rattle.size_window.proofs.Belonging.{Visits, visits-then, idle-belongs, open-node, six-raised}
+use Rattle.size_window.proofs.Belonging.{Visits, visits-then, idle-belongs, open-node, six-raised, uncounted}
 use Rattle.size_window.proofs.Turns.{may-settle-seen, belongs-then, kept-then, turn-then}
 use Rattle.size_window.proofs.drawing.Drawing.turn.Goals as goal
 
@@ -53,3 +53,10 @@ returns-clause-turned g c =
     let outcome = c.outcome_by-outcome.ensures ∙ ap (λ t. outcome_of t c.step-answer.result) c.step-answer.ensures.table in
     turn-then c.args.founded.now (g.O.Oracle.x c.args.oracle.now) c.args.self.now (the_view c.self.inside) (c.self.view_is ∙ w.1) c.requires.drawing w.0 c.step-answer.new.self c.step-answer.ensures.session c.step-answer.result c.step-answer.ensures.leaves c.step-answer.ensures.ideal (g.O.Oracle.table c.args.oracle.now) c.outcome_by-outcome.result outcome c.step-answer.new.tape.used c.settle.result c.settle.new.self settled
     c.requires.unlabelled (bits_of c.args.tape.now.source (g.S.Shelf.content c.args.shelf.now)) c.args.tape.now.used c.step-answer.ensures.used.0 c.step-answer.ensures.draws c.step-answer.ensures.exact
+
+pub returns-clause-uncounted : goal.returns-clause-uncounted
+returns-clause-uncounted g c = λ none.
+    let w = visits-then c.args.self.now c.idle_turn.new.self c.idle_turn.result c.idle_turn.ensures c.in_default.not-Some in
+    let wanting = uncounted c.args.self.now.ending w.0.going (g.O.Oracle.table c.step-answer.new.oracle) c.step-answer.result c.used.result (record (the_view c.self.inside) { session = c.step-answer.new.self }) c.settle.new.self c.settle.result (subst (λ o. Settles o c.used.result (record (the_view c.self.inside) { session = c.step-answer.new.self }) c.settle.result c.settle.new.self) c.outcome_by-outcome.ensures c.settle.ensures) none in
+    let same = c.step-answer.ensures.no_memory wanting in
+    (same.1, same.2)
