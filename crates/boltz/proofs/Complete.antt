@@ -3,7 +3,7 @@ use Rattle.std.proofs.Common.{arith, ◌⊎◌, inl, inr, ◌≡◌, ◌≢◌, 
 use Rattle.std.specs.Prelude.{◌<◌, Bool, true, false, length, take, Option, Some, None, IfSome, option_map}
 use Rattle.bz_model.specs.Spec.{Spec}
 use Rattle.bz_model.specs.WellFounded.{IsWellFounded}
-use Rattle.bz_outside.specs.Outside.{Rose}
+use Rattle.bz_outside.specs.Outside.{Rose, Appends}
 use Rattle.bit_tape.specs.Bits.{file_bit}
 use Rattle.spec_reader.specs.Reading.{Grammar, Refuses}
 use Rattle.spec_reader.proofs.OneText.{one_specification, accepted}
@@ -132,6 +132,43 @@ drawn-only s num den turns tape bytes w ending status text first small no_fault 
 
 pub drawn : (w : World) (s : Spec) (num den turns : ℕ) (bytes : List ℕ) (ending : Ending) (status : Status) (text : List ℕ) → IsDrawable w s num den bytes turns ending → Answers w status text → (status ≡ ending_status ending) × IsDrawnText s num den (plain_bounds s num den) (undisturbed s num den bytes turns) ending text
 drawn w s num den turns bytes ending status text p h = drawn-only s num den turns p.tape bytes w ending status text p.first_form p.small p.no_fault p.tape_told p.ends (outcome w (Command.Sample p.file num den p.tape) s p.fit status text h)
+
+-- an answer with a text is none of want of memory and none of a failed write
+abbrev IsTold : Status → Type 0
+IsTold Status.OutOfMemory = ⊥
+IsTold Status.WriteFault = ⊥
+IsTold _ = Unit {0}
+
+ending-told : (ending : Ending) → IsTold (ending_status ending)
+ending-told Ending.Done = tt
+ending-told Ending.TapeEnded = tt
+ending-told (Ending.Undecided left_open) = tt
+ending-told Ending.TurnLimit = tt
+ending-told Ending.ReadFault = tt
+
+sampled-told : (s : Spec) (num den : ℕ) (t : TapeMet) (status : Status) (text : List ℕ) → Sampled s num den t status text → IsTold status
+sampled-told s num den t status text (answers.not_yet not_yet e f) = subst IsTold (sym e) tt
+sampled-told s num den t status text (answers.drawn first small r) = subst IsTold (sym r.answer) (ending-told r.ending)
+
+is-told : (w : World) (status : Status) (text : List ℕ) → Answers w status text → IsTold status
+is-told w status text (answers.words_refused none e) = tt
+is-told w status text (answers.not_read d named rose e) = tt
+is-told w status text (answers.text_refused d read fault asked memory refuses e) = tt
+is-told w status text (answers.unfounded d read t cause asked accepts memory tells e) = tt
+is-told w status text (answers.printed file read t asked accepts founded e) = tt
+is-told w status text (answers.sampled file tape read num den t asked accepts founded done) = sampled-told t num den (tape_of w tape) status text done
+
+-- an answer whose text is written is how a call ends
+pub written : (w : World) (o : Output) (status : Status) (text : List ℕ) → Answers w status text → Appends o.before o.after text → Ends w o status
+written w o variants.Done text h a = record { text = text; answers = h; appends = a }
+written w o variants.WordsRefused text h a = record { text = text; answers = h; appends = a }
+written w o variants.SpecRefused text h a = record { text = text; answers = h; appends = a }
+written w o variants.TapeEnded text h a = record { text = text; answers = h; appends = a }
+written w o variants.Undecided text h a = record { text = text; answers = h; appends = a }
+written w o variants.TurnLimit text h a = record { text = text; answers = h; appends = a }
+written w o variants.ReadFault text h a = record { text = text; answers = h; appends = a }
+written w o variants.WriteFault text h a = absurd (is-told w Status.WriteFault text h)
+written w o variants.OutOfMemory text h a = absurd (is-told w Status.OutOfMemory text h)
 
 -- what holds of each answer holds of how a call ends, but for want of memory
 pub unless-wanting : (w : World) (o : Output) (status want : Status) → Ends w o status → ((text : List ℕ) → Answers w status text → status ≡ want) → ¬ (Rose o.faults_before o.faults_after) → (status ≡ want) ⊎ (status ≡ Status.OutOfMemory)

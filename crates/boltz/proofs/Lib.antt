@@ -5,3 +5,4 @@ pub mod Courses
 pub mod Complete
 pub mod KeptObjects
 pub mod OneTurn
+pub mod AtTheEnd

@@ -1,6 +1,7 @@
 //! What the program writes, and its answer.
-ghost use Rattle.std.specs.Prelude.{◌≡◌, ℕ, ◌≤◌, List, IfOk};
-ghost use Rattle.boltz.specs.Answers.{World, IsAsked, IsAccepted, Answers, Sampled, spec_text};
+ghost use Rattle.std.specs.Prelude.{◌≡◌, ℕ, ◌≤◌, true, List, IfOk, IsTrue, IsFalse};
+ghost use Rattle.boltz.specs.Answers.{World, IsAsked, IsAccepted, IsNotYet, Answers, Sampled, spec_text};
+ghost use Rattle.plain_table.specs.FirstForm.{is_first_form};
 ghost use Rattle.boltz.specs.Reads.{named, IsMet};
 ghost use Rattle.boltz.specs.UnderWay.{met};
 ghost use Rattle.bit_tape.specs.Tape.{TapeSource};
@@ -173,7 +174,7 @@ fn of_sample<S: Shelf, L: Ledger>(
     ensures content { S.content shelf.new ≡ S.content shelf.old }
     ensures counts { (name : List ℕ) → S.faults shelf.old name ≤ S.faults shelf.new name }
 {
-    if x.num > x.den  {
+    if !is_drawn_from(founded, x) {
         let text = line(alloc, "refused not yet\n")?;
         return Ok(Report {
             status: Status::SpecRefused,
@@ -181,6 +182,17 @@ fn of_sample<S: Shelf, L: Ledger>(
         });
     }
     drawn(alloc, founded, x, tape, shelf, steps)
+}
+
+/// Whether objects are drawn from the specification at this fraction so far.
+fn is_drawn_from(founded: &Founded, x: Fraction) -> bool
+    ensures drawn { IsTrue result → (is_first_form founded.now ≡ true) × (x.num ≤ x.den) }
+    ensures not_yet { IsFalse result → IsNotYet founded.now x.num x.den }
+{
+    if x.num > x.den {
+        return false;
+    }
+    is_first_form(founded.system())
 }
 
 /// A specification in its canonical form, and the closing line.
