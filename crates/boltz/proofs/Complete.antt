@@ -79,7 +79,7 @@ module _ (w : World) (c : Command) (s : Spec) (fit : IsFit w c s) where
   outcome status text (answers.sampled file tape read num den t asked accepts founded done) =
       let same = same-tables (Command.Sample file num den tape) read t asked accepts in
       subst (Outcome w s status text) (alone w c fit.bytes fit.given (Command.Sample file num den tape) asked.named)
-        (subst (λ u. Sampled u num den (tape_of w tape) status text) same done)
+      (subst (λ u. Sampled u num den (tape_of w tape) status text) same done)
 
 pub printed : (w : World) (s : Spec) (status : Status) (text : List ℕ) → IsPrintable w s → Answers w status text → (status ≡ Status.Done) × (text ≡ spec_text s)
 printed w s status text p h = outcome w (Command.Spec p.file) s p.fit status text h

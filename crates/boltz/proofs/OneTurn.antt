@@ -106,9 +106,9 @@ module _ (s : Spec) (x : Fraction) (table : (level node : ℕ) → Bounds) (sour
     over-on c at (Some bits) over exact =
         let sample : Sampling = sampling s table bits in
         let same-turn : h.turn.turned ≡ turn sample fault c.state =
-            subst (λ l. h.turn.turned ≡ turn (record { chooser = union_chooser s table; limits = l; tape = bits }) fault c.state) h.limits
-            (subst (λ st. h.turn.turned ≡ turn (record { chooser = union_chooser s table; limits = d.limits; tape = bits }) fault st) (sym at)
-            (exact (union_chooser s table) (record { same_spec = refl; at_unions = λ e room is. refl }))) in
+        subst (λ l. h.turn.turned ≡ turn (record { chooser = union_chooser s table; limits = l; tape = bits }) fault c.state) h.limits
+        (subst (λ st. h.turn.turned ≡ turn (record { chooser = union_chooser s table; limits = d.limits; tape = bits }) fault st) (sym at)
+        (exact (union_chooser s table) (record { same_spec = refl; at_unions = λ e room is. refl }))) in
         let faults : ℕ → Option ℕ = extended over.faults over.turns fault in
         let earlier : after sample over.faults over.turns ≡ after sample faults over.turns = agree sample over.faults faults over.turns (λ k lt. sym (extended-before over.faults over.turns fault k lt)) in
         record {
@@ -171,10 +171,13 @@ at-end s x table source contents old new d now start used e h counted done turn_
 
 -- a drawing that goes on can make another turn
 pub can-turn-on : (s : Spec) (x : Fraction) (table : (level node : ℕ) → Bounds) (source : TapeSource) (contents : List ℕ → Option (List ℕ)) (old new : List ℕ → ℕ) (d now : DrawingState) (before_tape tape : TapeState) (a : Answer) → TellsTurn s x table source contents old new d now before_tape.used tape.used a → CanTurn s x contents d before_tape → IsCounted d a now → turns_by None a ≡ 1 → ending_by d.ending a ≡ d.ending → DrawingBelongs s x now → Belongs contents tape → CanTurn s x contents now tape × (now.turns ≡ d.turns + 1)
-can-turn-on s x table source contents old new d now before_tape tape a h can counted one same belongs ahead = (record {
-  belongs = belongs;
-  limits = counted.limits ∙ can.limits;
-  goes_on = counted.ending ∙ same ∙ can.goes_on;
-  ahead = ahead;
-  so_far = course-on s x table source contents old new d now before_tape.used tape.used a h can.so_far;
-}, counted.turns ∙ ap (λ n. d.turns + n) (turns-one d.ending a can.goes_on one))
+can-turn-on s x table source contents old new d now before_tape tape a h can counted one same belongs ahead = (
+  record {
+    belongs = belongs;
+    limits = counted.limits ∙ can.limits;
+    goes_on = counted.ending ∙ same ∙ can.goes_on;
+    ahead = ahead;
+    so_far = course-on s x table source contents old new d now before_tape.used tape.used a h can.so_far;
+  },
+  counted.turns ∙ ap (λ n. d.turns + n) (turns-one d.ending a can.goes_on one),
+)

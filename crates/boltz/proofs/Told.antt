@@ -59,9 +59,15 @@ over-since s table t earlier c h (Some bits) over = record { turns = over.turns;
 
 reported-since : (s : Spec) (num den : ℕ) (table : (level node : ℕ) → Bounds) (t : TapeMet) (earlier : List ℕ → ℕ) (status : Status) (text : List ℕ) → ((name : List ℕ) → earlier name ≤ t.before name) → IsReported s num den table t status text → IsReported s num den table (since t earlier) status text
 reported-since s num den table t earlier status text h r = record {
-  course = r.course; ending = r.ending; told = r.told; answer = r.answer;
+  course = r.course;
+  ending = r.ending;
+  told = r.told;
+  answer = r.answer;
   drawn = record {
-    ended = r.drawn.ended; follows = r.drawn.follows; kept = r.drawn.kept; out_of_turns = r.drawn.out_of_turns;
+    ended = r.drawn.ended;
+    follows = r.drawn.follows;
+    kept = r.drawn.kept;
+    out_of_turns = r.drawn.out_of_turns;
     by_bits = over-since s table t earlier r.course h (bits_of t.source t.contents) r.drawn.by_bits;
     failed = λ e. failed-since t.source earlier t.before t.now h (r.drawn.failed e);
   };

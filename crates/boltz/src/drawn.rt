@@ -116,9 +116,9 @@ fn turn_to_the_end<const F: u32, O: Oracle<F>, S: Shelf, L: Ledger>(
     ensures counts { (other : List ℕ) → S.faults shelf.old other ≤ S.faults shelf.new other }
 {
     loop {
-        if let Some(ending) =
-            turn_once(alloc, founded, oracle, tape, drawing, shelf, steps, lines)?
-        {
+        if let Some(ending) = turn_once(
+            alloc, founded, oracle, tape, drawing, shelf, steps, lines,
+        )? {
             return Ok(ending);
         }
     }
@@ -188,12 +188,7 @@ fn write_entry(
 }
 
 /// The lines after the last object.
-fn closing(
-    alloc: Global,
-    ending: Ending,
-    counts: Counts,
-    bits: u64,
-) -> Result<String, AllocError>
+fn closing(alloc: Global, ending: Ending, counts: Counts, bits: u64) -> Result<String, AllocError>
     ensures { IfOk result (λ text. string_bytes text ≡ told_open ending ++ end_line (ending_word (ending_of ending)) counts.kept counts.thrown bits counts.turns) }
 {
     let word = word_of(ending);

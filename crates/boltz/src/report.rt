@@ -6,7 +6,6 @@ ghost use Rattle.boltz.specs.Reads.{named, IsMet};
 ghost use Rattle.boltz.specs.UnderWay.{met};
 ghost use Rattle.bit_tape.specs.Tape.{TapeSource};
 
-
 use crate::drawn::drawn;
 use crate::lines::spec_end;
 use crate::refusals::{cause_refusal, text_refusal};
