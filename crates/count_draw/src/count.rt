@@ -222,16 +222,15 @@ fn least_or_high<const F: u32>(
     if let Some(option) = table.least(cell) {
         return Some(option);
     }
-    match high {
-        Some(high) if u64::from(high) <= room => Some(u64::from(high)),
-        _ => None,
-    }
+    let high = u64::from(high?);
+    if high <= room { Some(high) } else { None }
 }
 
 /// Whether an option is the first, or no number of the cell lies before the end of the one before it.
 fn reaches<const F: u32>(table: &CountTable<F>, cell: Cell, option: u64) -> bool
     requires fraction { (24 ≤ F) × (F ≤ 56) }
     requires cell { IsCell cell.k cell.b }
+    requires first { table.now.low ≤ option }
     requires option { option ≤ table.now.room }
     ensures exact { (high : Option ℕ) (room : ℕ) → is_reached (options_of F table.now high room) cell option ≡ result }
 {
