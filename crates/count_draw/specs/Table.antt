@@ -2,7 +2,9 @@
 use Rattle.std.specs.Prelude.{◌≡◌, ℕ, suc, ◌-◌, ◌*◌, ◌^◌, ◌<◌, ◌≤◌, Bool, true, false, nat_le, Option}
 use Rattle.bz_model.specs.declared.cell.Cell.{Cell}
 use Rattle.bz_model.specs.declared.cell.Bounds.{Bounds}
-use Rattle.series_bounds.specs.Series.{Kind, part_down, part_up}
+use Rattle.series_bounds.specs.Series.{Kind, carried, part_down, part_up}
+use Rattle.fixed_enclosure.specs.Rounded.{Side}
+use Rattle.fixed_enclosure.specs.Rounded.Side.{Down, Up}
 use Rattle.series_bounds.specs.ExactSums.{first_term}
 use Rattle.choice_draw.specs.Decision.{Options, least_passing}
 use Rattle.count_draw.specs.Decision.{counted_options}
@@ -52,3 +54,22 @@ pub record IsBracket (f : ℕ) (t : Filling) (cell : Cell) (from to : ℕ) : Typ
   pub room : to ≤ t.room
   pub before : (j : ℕ) → t.low ≤ j → j < from → passes_at f t cell j ≡ false
   pub passing : passes_at f t cell to ≡ true
+
+-- No option before the place passes.
+pub record NonePasses (f : ℕ) (t : Filling) (cell : Cell) (place : ℕ) : Type 0 where
+  pub before : (j : ℕ) → t.low ≤ j → j < place → passes_at f t cell j ≡ false
+
+-- The part's bound of a side.
+abbrev pub bound_of : Side → Filling → ℕ
+bound_of Down t = t.part.lo
+bound_of Up t = t.part.hi
+
+-- The value of a side from the low to i parts.
+abbrev pub value_at : Side → (f : ℕ) → Filling → (i : ℕ) → ℕ
+value_at Down f t i = lower_at f t i
+value_at Up f t i = upper_at f t i
+
+-- A run of the terms of a side stands at a place: the power is the number carried to it, and the sum is the value up to it.
+pub record IsRun (side : Side) (f : ℕ) (t : Filling) (place power sum : ℕ) : Type 0 where
+  pub carried_to : power ≡ carried side t.kind f (bound_of side t) place
+  pub summed : sum ≡ value_at side f t place

@@ -11,4 +11,5 @@ mod cells;
 pub mod count;
 pub mod drawn;
 pub mod kind;
-pub mod table;
+mod sums;
+mod terms;

@@ -1,22 +1,25 @@
-//! The partial values of one choice among numbers of parts.
-ghost use Rattle.std.specs.Prelude.{◌≡◌, ◌<◌, ◌≤◌, Some, None, IfSome, IfNone};
+//! The partial values of one choice among numbers of parts, summed where they are asked.
+ghost use Rattle.std.specs.Prelude.{◌≡◌, ◌+◌, ◌^◌, ◌<◌, ◌≤◌, Some, None, IfSome, IfNone};
 ghost use Rattle.bz_model.specs.Cell.{IsCell};
+ghost use Rattle.fixed_enclosure.specs.Rounded.{Side};
 ghost use Rattle.series_bounds.specs.Series.{part_down, part_up};
 ghost use Rattle.series_bounds.specs.ExactSums.{first_term};
 ghost use Rattle.count_draw.specs.Kinds.{kind_of};
-ghost use Rattle.count_draw.specs.Table.{lower_at, upper_at, passes_at, passed_at, least_at, IsBracket};
+ghost use Rattle.count_draw.specs.Table.{lower_at, upper_at, passes_at, passed_at, least_at, IsBracket, IsRun, NonePasses};
 
 use crate::cells::{begins_after, ends_before};
 use crate::kind::CountKind;
+use crate::terms::{carry_down, kept_of, term_down};
 use bz_model::cell::{Bounds, Cell};
+use fixed_enclosure::narrow::power_of_two;
 use fixed_enclosure::{Hi, Lo};
 use series_bounds::{cyc_part_hi, cyc_part_lo, seq_part_hi, seq_part_lo, set_part_hi, set_part_lo};
 use std::marker::Model;
 
 /// The lower and upper values, in units of `2^-F`, of the objects with at most i parts, for each i up
-/// to a room.
+/// to a room: each is summed anew.
 #[derive(Debug, Drop)]
-pub struct CountTable<const F: u32> {
+pub(crate) struct CountSums<const F: u32> {
     kind: CountKind,
     low: u64,
     part: Bounds,
@@ -24,7 +27,7 @@ pub struct CountTable<const F: u32> {
     room: u64,
 }
 
-impl<const F: u32> Model for CountTable<F> {
+impl<const F: u32> Model for CountSums<F> {
     ghost use Rattle.count_draw.specs.Kinds.{kind_of};
     ghost use Rattle.count_draw.specs.Table.{Filling, IsFilling};
 
@@ -35,17 +38,23 @@ impl<const F: u32> Model for CountTable<F> {
     ghost invariant = { λ t. IsFilling (record { kind = kind_of t.kind; low = t.low; part = t.part; whole = t.whole; room = t.room }) };
 }
 
-impl<const F: u32> CountTable<F> {
-    /// The table of a construction from `low` parts on, from bounds of its part and of the whole
+impl<const F: u32> CountSums<F> {
+    /// The sums of a construction from `low` parts on, from bounds of its part and of the whole
     /// node. Takes no memory.
-    pub fn fill(kind: CountKind, low: u64, part: Bounds, whole: Bounds, room: u64) -> CountTable<F>
+    pub(crate) fn new(
+        kind: CountKind,
+        low: u64,
+        part: Bounds,
+        whole: Bounds,
+        room: u64,
+    ) -> CountSums<F>
         requires fraction { (24 ≤ F) × (F ≤ 56) }
         requires first { first_term (kind_of kind) ≤ low }
         requires few { low ≤ 64 }
         requires room { room ≤ 1000000 }
         ensures filled { result ≡ record { kind = kind_of kind; low = low; part = part; whole = whole; room = room } }
     {
-        CountTable {
+        CountSums {
             kind,
             low,
             part,
@@ -62,7 +71,7 @@ impl<const F: u32> CountTable<F> {
     }
 
     /// The lower value of the objects with at most i parts: 0 below the low. Takes no memory.
-    pub fn lower(&self, i: u64) -> u64
+    pub(crate) fn lower(&self, i: u64) -> u64
         requires fraction { (24 ≤ F) × (F ≤ 56) }
         requires option { i ≤ self.now.room }
         ensures exact { result ≡ lower_at F self.now i }
@@ -72,7 +81,7 @@ impl<const F: u32> CountTable<F> {
 
     /// The upper value of the objects with at most i parts, at most that of the whole node: 0 below
     /// the low. Takes no memory.
-    pub fn upper(&self, i: u64) -> u64
+    pub(crate) fn upper(&self, i: u64) -> u64
         requires fraction { (24 ≤ F) × (F ≤ 56) }
         requires option { i ≤ self.now.room }
         ensures exact { result ≡ upper_at F self.now i }
@@ -82,14 +91,81 @@ impl<const F: u32> CountTable<F> {
 
     /// The least number of parts up to the room whose end lies after every number of the cell;
     /// `None` exactly where there is none. Takes no memory.
-    pub fn least(&self, cell: Cell) -> Option<u64>
+    pub(crate) fn least(&self, cell: Cell) -> Option<u64>
         requires fraction { (24 ≤ F) × (F ≤ 56) }
         requires cell { IsCell cell.k cell.b }
         ensures exact { result ≡ least_at F self.now cell }
         ensures in_range { IfSome result (λ i. (self.now.low ≤ i) × (i ≤ self.now.room)) }
     {
-        let bracket = self.bracket(cell)?;
-        Some(self.least_between(cell, bracket))
+        if u128::from(self.part.lo) > power_of_two(F) {
+            let bracket = self.bracket(cell)?;
+            return Some(self.least_between(cell, bracket));
+        }
+        let start = self.start_down();
+        self.least_from(cell, start)
+    }
+
+    /// The least option that passes, where none before the run's place does: a pass over the terms,
+    /// up to one of which all later ones are 0.
+    pub(crate) fn least_from(&self, cell: Cell, start: Run) -> Option<u64>
+        requires fraction { (24 ≤ F) × (F ≤ 56) }
+        requires cell { IsCell cell.k cell.b }
+        requires small { self.now.part.lo ≤ 2 ^ F }
+        requires start { IsRun Side.Down F self.now start.place start.power start.sum }
+        requires room { start.place ≤ self.now.room }
+        requires before { NonePasses F self.now cell start.place }
+        ensures exact { result ≡ least_at F self.now cell }
+        ensures in_range { IfSome result (λ i. (self.now.low ≤ i) × (i ≤ self.now.room)) }
+    {
+        let mut run = start;
+        'terms: loop {
+            if run.place >= self.low {
+                if ends_before(cell, run.sum, self.whole.hi) {
+                    return Some(run.place);
+                }
+                if run.power == 0 {
+                    return None;
+                }
+            }
+            if run.place >= self.room {
+                return None;
+            }
+            run = self.next_down(run);
+        }
+    }
+
+    /// The run of the lower terms at its first.
+    pub(crate) fn start_down(&self) -> Run
+        requires fraction { (24 ≤ F) × (F ≤ 56) }
+        requires small { self.now.part.lo ≤ 2 ^ F }
+        ensures run { IsRun Side.Down F self.now result.place result.power result.sum }
+        ensures first { result.place ≡ 0 }
+    {
+        let power = power_of_two(F) as u64;
+        Run {
+            place: 0,
+            power,
+            sum: kept_of(self.low, 0, term_down(self.kind, 0, power)),
+        }
+    }
+
+    /// The run of the lower terms, one term on.
+    pub(crate) fn next_down(&self, run: Run) -> Run
+        requires fraction { (24 ≤ F) × (F ≤ 56) }
+        requires small { self.now.part.lo ≤ 2 ^ F }
+        requires run { IsRun Side.Down F self.now run.place run.power run.sum }
+        requires places { run.place < 1000000 }
+        ensures run { IsRun Side.Down F self.now result.place result.power result.sum }
+        ensures next { result.place ≡ run.place + 1 }
+    {
+        let power = carry_down::<F>(self.kind, self.part.lo, run.place, run.power);
+        let place = run.place + 1;
+        let term = term_down(self.kind, place, power);
+        Run {
+            place,
+            power,
+            sum: run.sum.saturating_add(kept_of(self.low, place, term)),
+        }
     }
 
     /// Whether no number of the cell lies before the end of option i.
@@ -156,6 +232,14 @@ impl<const F: u32> CountTable<F> {
     {
         ends_before(cell, self.lower(i), self.whole.hi)
     }
+}
+
+/// A place in the terms of one side, the number carried to it, and the sum up to it.
+#[derive(Clone, Copy)]
+pub(crate) struct Run {
+    pub(crate) place: u64,
+    pub(crate) power: u64,
+    pub(crate) sum: u64,
 }
 
 /// The options from one on that may be the least that passes, up to one that passes.
