@@ -1,5 +1,5 @@
 -- Tables of the partial values of one choice among numbers of parts.
-use Rattle.std.specs.Prelude.{◌≡◌, ℕ, suc, ◌-◌, ◌*◌, ◌^◌, ◌<◌, ◌≤◌, Bool, true, false, nat_le, Option}
+use Rattle.std.specs.Prelude.{◌≡◌, ℕ, suc, ◌-◌, ◌*◌, ◌^◌, ◌<◌, ◌≤◌, Bool, true, false, nat_le, List, length, slice_index, Option}
 use Rattle.bz_model.specs.declared.cell.Cell.{Cell}
 use Rattle.bz_model.specs.declared.cell.Bounds.{Bounds}
 use Rattle.series_bounds.specs.Series.{Kind, carried, part_down, part_up}
@@ -73,3 +73,20 @@ value_at Up f t i = upper_at f t i
 pub record IsRun (side : Side) (f : ℕ) (t : Filling) (place power sum : ℕ) : Type 0 where
   pub carried_to : power ≡ carried side t.kind f (bound_of side t) place
   pub summed : sum ≡ value_at side f t place
+
+-- These are the lower values up to the first options.
+pub record AreLower (f : ℕ) (t : Filling) (values : List ℕ) : Type 0 where
+  pub at : (i : ℕ) → i < length values → slice_index values i ≡ lower_at f t i
+
+-- These are the upper values up to the first options.
+pub record AreUpper (f : ℕ) (t : Filling) (values : List ℕ) : Type 0 where
+  pub at : (i : ℕ) → i < length values → slice_index values i ≡ upper_at f t i
+
+-- A table keeps the values up to the first 256 options, and the run of the lower terms at the last of them.
+pub record IsKept (f : ℕ) (t : Filling) (lower upper : List ℕ) (place power sum : ℕ) : Type 0 where
+  pub small : t.part.lo ≤ 2 ^ f
+  pub lower_count : length lower ≡ 256
+  pub upper_count : length upper ≡ 256
+  pub lower_kept : AreLower f t lower
+  pub upper_kept : AreUpper f t upper
+  pub run : IsRun Down f t place power sum

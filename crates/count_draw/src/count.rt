@@ -253,3 +253,45 @@ fn over<const F: u32>(
     }
     sums.is_passed(cell, room).then_some(CountChoice::Over)
 }
+
+#[cfg(test)]
+mod tests {
+    use super::*;
+
+    const ONE: u64 = 1 << 24;
+
+    /// What a cell of two bits decides for sequences of parts of value 1/2, whose whole has this lower
+    /// bound and the upper bound 2.
+    fn chosen(lo: u64, high: Option<u32>, room: u64, k: u64) -> Option<CountChoice>
+        requires room { room ≤ 300 }
+        requires cell { k < 4 }
+    {
+        let half = Bounds {
+            lo: ONE / 2,
+            hi: ONE / 2,
+        };
+        let whole = Bounds { lo, hi: 2 * ONE };
+        let sums = CountSums::<24>::new(CountKind::Seq, 0, half, whole, top_of(high, room));
+        choose(&sums, high, room, Cell { k, b: 2 })
+    }
+
+    #[test]
+    fn a_cell_at_a_threshold_decides(rt: HostRuntime) {
+        for (below, high, room, k, want) in [
+            (0, None, 300, 1, Some(CountChoice::Take(0))),
+            (0, None, 300, 2, Some(CountChoice::Take(1))),
+            (1, None, 300, 2, None),
+            (0, None, 300, 3, None),
+            (0, None, 0, 1, Some(CountChoice::Take(0))),
+            (0, None, 0, 2, Some(CountChoice::Over)),
+            (1, None, 0, 2, None),
+            (0, Some(1), 300, 3, Some(CountChoice::Take(1))),
+            (0, Some(1), 0, 2, Some(CountChoice::Over)),
+            (0, Some(0), 0, 3, Some(CountChoice::Take(0))),
+        ] {
+            assert!(rt; k < 4 && room <= 300 && below <= 1);
+            let got = chosen(2 * ONE - below, high, room, k);
+            assert_eq!(rt; got, want, "cell {k}/2 at room {room}");
+        }
+    }
+}

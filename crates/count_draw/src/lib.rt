@@ -12,4 +12,5 @@ pub mod count;
 pub mod drawn;
 pub mod kind;
 mod sums;
+pub mod table;
 mod terms;

@@ -5,11 +5,11 @@ ghost use Rattle.fixed_enclosure.specs.Rounded.{Side};
 ghost use Rattle.series_bounds.specs.Series.{part_down, part_up};
 ghost use Rattle.series_bounds.specs.ExactSums.{first_term};
 ghost use Rattle.count_draw.specs.Kinds.{kind_of};
-ghost use Rattle.count_draw.specs.Table.{lower_at, upper_at, passes_at, passed_at, least_at, IsBracket, IsRun, NonePasses};
+ghost use Rattle.count_draw.specs.Table.{lower_at, upper_at, passes_at, passed_at, least_at, IsBracket, IsRun, NonePasses, AreLower};
 
 use crate::cells::{begins_after, ends_before};
 use crate::kind::CountKind;
-use crate::terms::{carry_down, kept_of, term_down};
+use crate::terms::{carry_down, carry_up, kept_of, term_down, term_up};
 use bz_model::cell::{Bounds, Cell};
 use fixed_enclosure::narrow::power_of_two;
 use fixed_enclosure::{Hi, Lo};
@@ -70,6 +70,14 @@ impl<const F: u32> CountSums<F> {
         self.low
     }
 
+    /// The greatest number of parts that is asked.
+    pub(crate) fn room(&self) -> u64
+        ensures asked { result ≡ self.now.room }
+        ensures small { result ≤ 1000000 }
+    {
+        self.room
+    }
+
     /// The lower value of the objects with at most i parts: 0 below the low. Takes no memory.
     pub(crate) fn lower(&self, i: u64) -> u64
         requires fraction { (24 ≤ F) × (F ≤ 56) }
@@ -99,7 +107,7 @@ impl<const F: u32> CountSums<F> {
     {
         if u128::from(self.part.lo) > power_of_two(F) {
             let bracket = self.bracket(cell)?;
-            return Some(self.least_between(cell, bracket));
+            return Some(self.least_between(cell, bracket, &[]));
         }
         let start = self.start_down();
         self.least_from(cell, start)
@@ -168,6 +176,42 @@ impl<const F: u32> CountSums<F> {
         }
     }
 
+    /// The run of the upper terms at its first.
+    pub(crate) fn start_up(&self) -> Run
+        requires fraction { (24 ≤ F) × (F ≤ 56) }
+        requires small { self.now.part.hi ≤ 2 ^ F }
+        ensures run { IsRun Side.Up F self.now result.place result.power result.sum }
+        ensures first { result.place ≡ 0 }
+    {
+        let power = power_of_two(F) as u64;
+        let first = kept_of(self.low, 0, term_up(self.kind, 0, power));
+        Run {
+            place: 0,
+            power,
+            sum: first.min(self.whole.hi),
+        }
+    }
+
+    /// The run of the upper terms, one term on.
+    pub(crate) fn next_up(&self, run: Run) -> Run
+        requires fraction { (24 ≤ F) × (F ≤ 56) }
+        requires small { self.now.part.hi ≤ 2 ^ F }
+        requires run { IsRun Side.Up F self.now run.place run.power run.sum }
+        requires places { run.place < 1000000 }
+        ensures run { IsRun Side.Up F self.now result.place result.power result.sum }
+        ensures next { result.place ≡ run.place + 1 }
+    {
+        let power = carry_up::<F>(self.kind, self.part.hi, run.place, run.power);
+        let place = run.place + 1;
+        let term = term_up(self.kind, place, power);
+        let sum = run.sum.saturating_add(kept_of(self.low, place, term));
+        Run {
+            place,
+            power,
+            sum: sum.min(self.whole.hi),
+        }
+    }
+
     /// Whether no number of the cell lies before the end of option i.
     pub(crate) fn is_passed(&self, cell: Cell, i: u64) -> bool
         requires fraction { (24 ≤ F) × (F ≤ 56) }
@@ -191,7 +235,7 @@ impl<const F: u32> CountSums<F> {
         let mut from = self.low;
         let mut to = self.low;
         'steps: loop {
-            if self.passes(cell, to) {
+            if self.passes(cell, to, &[]) {
                 return Some(Bracket { from, to });
             }
             if to >= self.room {
@@ -202,11 +246,12 @@ impl<const F: u32> CountSums<F> {
         }
     }
 
-    /// The least option that passes, found by halves.
-    fn least_between(&self, cell: Cell, bracket: Bracket) -> u64
+    /// The least option that passes, found by halves. `near` has lower values of the first options.
+    pub(crate) fn least_between(&self, cell: Cell, bracket: Bracket, near: &[u64]) -> u64
         requires fraction { (24 ≤ F) × (F ≤ 56) }
         requires cell { IsCell cell.k cell.b }
         requires bracket { IsBracket F self.now cell bracket.from bracket.to }
+        requires near { AreLower F self.now near.now }
         ensures exact { least_at F self.now cell ≡ Some result }
         ensures in_range { (self.now.low ≤ result) × (result ≤ self.now.room) }
     {
@@ -214,7 +259,7 @@ impl<const F: u32> CountSums<F> {
         let mut to = bracket.to;
         'halves: while from < to {
             let middle = from + (to - from) / 2;
-            if self.passes(cell, middle) {
+            if self.passes(cell, middle, near) {
                 to = middle;
             } else {
                 from = middle + 1;
@@ -224,13 +269,28 @@ impl<const F: u32> CountSums<F> {
     }
 
     /// Whether every number of the cell lies before the end of option i.
-    fn passes(&self, cell: Cell, i: u64) -> bool
+    pub(crate) fn passes(&self, cell: Cell, i: u64, near: &[u64]) -> bool
         requires fraction { (24 ≤ F) × (F ≤ 56) }
         requires cell { IsCell cell.k cell.b }
         requires option { i ≤ self.now.room }
+        requires near { AreLower F self.now near.now }
         ensures exact { result ≡ passes_at F self.now cell i }
     {
-        ends_before(cell, self.lower(i), self.whole.hi)
+        ends_before(cell, self.lower_by(i, near), self.whole.hi)
+    }
+
+    /// The lower value of the objects with at most i parts, of which `near` has the first.
+    pub(crate) fn lower_by(&self, i: u64, near: &[u64]) -> u64
+        requires fraction { (24 ≤ F) × (F ≤ 56) }
+        requires option { i ≤ self.now.room }
+        requires near { AreLower F self.now near.now }
+        ensures exact { result ≡ lower_at F self.now i }
+    {
+        if i < near.len() as u64 {
+            near[i as usize]
+        } else {
+            self.lower(i)
+        }
     }
 }
 
@@ -244,9 +304,9 @@ pub(crate) struct Run {
 
 /// The options from one on that may be the least that passes, up to one that passes.
 #[derive(Clone, Copy)]
-struct Bracket {
-    from: u64,
-    to: u64,
+pub(crate) struct Bracket {
+    pub(crate) from: u64,
+    pub(crate) to: u64,
 }
 
 /// The lower sum of the terms from `low` to `i`.
