@@ -1,0 +1,9 @@
+pub mod SmallTerms
+pub mod NextValues
+pub mod PartialValues
+pub mod Runs
+pub mod LeastOptions
+pub mod CountedNodes
+pub mod CountsSound
+pub mod CountsIdeal
+pub mod ToldCounts
