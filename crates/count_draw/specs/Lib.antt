@@ -1,0 +1,4 @@
+pub mod Kinds
+pub mod Decision
+pub mod Table
+pub mod Answer

@@ -1,0 +1,14 @@
+//! Draws the number of parts of a sequence, set or cycle from tape bits.
+//!
+//! A draw takes bits until its cell decides (`specs/Answer.antt`). What a cell decides is a function
+//! of a table of bounds (`specs/Decision.antt`): the least number of parts whose lower value ends
+//! after the cell, where the upper value of one part less ends before it, or that every number up to
+//! a room is passed over. A number decided is the ideal option of every number of the cell, and where
+//! all are passed over, none is ideal. No clause says that a cell is ever decided.
+#![tactic(auto)]
+
+mod cells;
+pub mod count;
+pub mod drawn;
+pub mod kind;
+pub mod table;
