@@ -1,5 +1,5 @@
 -- The visit of a sequence, set or cycle, from what was drawn and what was put.
-use Rattle.std.proofs.Common.{◌≡◌, ◌⊎◌, inl, inr, ℕ, ◌+◌, ◌≤◌, List, [], ◌∷◌, ◌++◌, replicate, refl, sym, ◌∙◌, ap, subst, cond, append-nil, zero-add, Bool, true, Option, Some, None, slice_get}
+use Rattle.std.proofs.Common.{◌≡◌, ◌⊎◌, inl, inr, ℕ, ◌+◌, ◌≤◌, List, [], ◌∷◌, ◌++◌, replicate, refl, sym, ◌∙◌, ap, subst, cond, append-nil, zero-add, Bool, Option, Some, None, slice_get}
 use Rattle.std.specs.Prelude.{IsTrue, ◌↔◌}
 use Rattle.std.proofs.lemmas.Bool.{cases_Bool}
 use Rattle.bz_model.specs.declared.cell.Cell.{Cell}

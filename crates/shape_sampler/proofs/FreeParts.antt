@@ -1,9 +1,9 @@
 -- Counted nodes whose part has an object of size 0: their range has a high, which is at most 64, so that not every number up to 64 can be passed over.
-use Rattle.std.proofs.Common.{◌≡◌, ◌⊎◌, inl, inr, ℕ, zero, suc, ◌<◌, ◌≤◌, Option, Some, None, arith, refl, subst}
+use Rattle.std.proofs.Common.{◌≡◌, inl, inr, ℕ, zero, suc, ◌<◌, ◌≤◌, Option, Some, None, arith, refl, subst}
 use Rattle.std.proofs.Math.Decide.{dec_le}
 use Rattle.bz_model.specs.declared.cell.Cell.{Cell}
 use Rattle.bz_model.specs.Fraction.{Fraction}
-use Rattle.bz_model.specs.Spec.{Spec, Range, node_at, range_at}
+use Rattle.bz_model.specs.Spec.{Spec, node_at, range_at}
 use Rattle.bz_model.specs.Measures.{HasZero}
 use Rattle.bz_model.specs.WellFounded.{IsWellFounded}
 use Rattle.bz_model.specs.Ideal.{Before, IsIdealOption, IsGreatestOption}
@@ -11,7 +11,7 @@ use Rattle.bz_laws.proofs.Counted.{high-greatest}
 use Rattle.class_system.specs.Sound.{IsSound}
 use Rattle.class_system.proofs.Soundness.{has_range}
 use Rattle.well_founded.specs.Foundedness.{Counts, IsCountedOf}
-use Rattle.well_founded.proofs.Orderly.{IsOrderly, IsSoundRange, orderly}
+use Rattle.well_founded.proofs.Orderly.{IsOrderly, orderly}
 use Rattle.well_founded.proofs.Least.{belongs-empty}
 use Rattle.well_founded.proofs.Refused.{zero_part-unfounded}
 use Rattle.series_bounds.specs.Series.{Kind}

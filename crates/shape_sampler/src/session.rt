@@ -13,7 +13,8 @@ ghost use Rattle.shape_sampler.specs.State.{SessionState, SessionBelongs, HasCou
 ghost use Rattle.shape_sampler.specs.Answer.{ChoosesBy, IsVisit, IsIdealAnswer, IsVisitOfAll, IsPlainAnswer, IsPlainVisit, room_atom_visited, replaced_by, Draws};
 
 use crate::placing::{
-    answer, answer_to, answer_to_count, put_counted, put_drawn, put_token, replace_first, stop_of,
+    answer, answer_to, answer_to_count, put_counted, put_drawn, put_token, replace_first,
+    reserve_drawn, stop_of,
 };
 use crate::stepped::Stepped;
 use bit_tape::tape::Tape;
@@ -325,10 +326,7 @@ impl Session {
         ensures cause { result ≡ Stepped.ReadFault → HasFault tape.old.source (S.faults shelf.old) (S.faults shelf.new) }
         ensures seeded { (seed : ℕ) → tape.old.source ≡ TapeSource.Seeded seed → shelf.new ≡ shelf.old }
     {
-        if self.pending.reserve(1).is_err()
-            || self.shape.reserve(1).is_err()
-            || self.cells.reserve(1).is_err()
-        {
+        if reserve_drawn(&mut self.pending, &mut self.shape, &mut self.cells).is_err() {
             return Stepped::OutOfMemory;
         }
         system.known();
@@ -385,15 +383,12 @@ impl Session {
         ensures cause { result ≡ Stepped.ReadFault → HasFault tape.old.source (S.faults shelf.old) (S.faults shelf.new) }
         ensures seeded { (seed : ℕ) → tape.old.source ≡ TapeSource.Seeded seed → shelf.new ≡ shelf.old }
     {
-        if self.pending.reserve(1).is_err()
-            || self.shape.reserve(1).is_err()
-            || self.cells.reserve(1).is_err()
-        {
+        founded.known();
+        if reserve_drawn(&mut self.pending, &mut self.shape, &mut self.cells).is_err() {
             return Stepped::OutOfMemory;
         }
         let system = founded.system();
         system.known();
-        founded.known();
         let room = room_for(founded, part, self.room);
         let drawn = draw_count(system, node, room, oracle, tape, shelf, steps);
         put_counted(
@@ -403,9 +398,9 @@ impl Session {
             part,
             drawn,
         );
-        let answer = answer_to_count(node, drawn, &self.pending);
-        self.stopped = stop_of(answer);
-        answer
+        let told = answer_to_count(node, drawn, &self.pending);
+        self.stopped = stop_of(told);
+        told
     }
 }
 
