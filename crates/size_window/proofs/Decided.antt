@@ -1,9 +1,9 @@
 -- What a draw's answer says: its cell is one, and decides the answer.
-use Rattle.std.proofs.Common.{◌≡◌, ℕ, Bool, true, false, zero, suc, ◌+◌, ◌*◌, ◌^◌, ◌<◌, ◌≤◌, Option, Some, None, refl, sym, ◌∙◌, ap, subst, arith}
+use Rattle.std.proofs.Common.{◌≡◌, ℕ, Bool, true, false, zero, suc, ◌+◌, ◌*◌, ◌^◌, ◌<◌, ◌≤◌, Option, Some, None, refl, ◌∙◌, ap, subst, arith}
 use Rattle.std.proofs.Math.Nat.{pow-suc}
 use Rattle.bz_model.specs.declared.cell.Cell.{Cell}
 use Rattle.bz_model.specs.Cell.{IsCell}
-use Rattle.choice_draw.specs.Draw.{Bit, Draw, bit_number, halved, draw_from, draw}
+use Rattle.choice_draw.specs.Draw.{Bit, Draw, halved, draw_from, draw}
 
 -- the cell has so many bits, and lies below 1
 pub record IsBelowOne (cell : Cell) (n : ℕ) : Type 0 where

@@ -1,12 +1,12 @@
 -- A drawing by a chooser that decides ideally follows the ideal run, turn after turn (unlabelled).
-use Rattle.std.proofs.Common.{◌≡◌, ◌≢◌, ◌⊎◌, inl, inr, ℕ, zero, suc, ◌+◌, ◌<◌, ◌≤◌, Bool, true, false, cond, List, [], ◌∷◌, ◌++◌, length, Option, Some, None, refl, sym, ◌∙◌, ap, subst, arith, append-nil, append_assoc, length-append}
+use Rattle.std.proofs.Common.{◌≡◌, ◌≢◌, ℕ, zero, suc, ◌<◌, ◌≤◌, Bool, true, false, cond, List, [], ◌∷◌, ◌++◌, length, Option, Some, None, refl, sym, ◌∙◌, ap, subst, arith, append-nil, append_assoc, length-append}
 use Rattle.std.specs.Prelude.{slice_index, slice_get, nat_eq, nat_lt}
-use Rattle.std.proofs.lemmas.Bool.{cases_Bool, eqb-true, eqb-false, ltb-true, ltb-false}
+use Rattle.std.proofs.lemmas.Bool.{eqb-false, ltb-true, ltb-false}
 use Rattle.bz_model.specs.declared.cell.Cell.{Cell}
 use Rattle.bz_model.specs.Fraction.{Fraction}
 use Rattle.bz_model.specs.Spec.{Spec, Mode, Node, node_at, body_of}
 use Rattle.bz_model.specs.Cell.{AreInCells}
-use Rattle.bz_model.specs.Object.{Object, none}
+use Rattle.bz_model.specs.Object.{none}
 use Rattle.bz_model.specs.Measures.{size}
 use Rattle.bz_model.specs.Making.{Just, Over, All, ClassMakes}
 use Rattle.bz_model.specs.Making as making
@@ -14,14 +14,14 @@ use Rattle.bz_model.specs.Run.{Window, Kept, IdealRun, KeepsLabels}
 use Rattle.bz_model.specs.Run as run
 use Rattle.bz_laws.proofs.Makings.{fine}
 use Rattle.object_store.specs.declared.token.Token.{Token}
-use Rattle.object_store.specs.Tokens.{tokens_of, tokens_all, size_of, IsOf}
+use Rattle.object_store.specs.Tokens.{size_of, IsOf}
 use Rattle.object_store.specs.Walk.{AllBelow}
 use Rattle.object_store.proofs.OneToOne.{one-of-class}
 use Rattle.object_store.proofs.Sizes.{size_of-tokens}
 use Rattle.class_system.specs.Sound.{IsSound}
 use Rattle.class_system.proofs.Soundness.{has_body, body_in_range, class_in_range}
 use Rattle.choice_draw.specs.Draw.{Bit, bit_of}
-use Rattle.shape_sampler.specs.Visit.{Chooser, Attempt, Visited, visit, visit_among, node_visited, begun}
+use Rattle.shape_sampler.specs.Visit.{Attempt, Visited, visit_among, node_visited, begun}
 use Rattle.shape_sampler.specs.Belonging.{GoesOn, MakesTokens, IsIdealShape, IsIdealOver}
 use Rattle.shape_sampler.proofs.Numbers.{apart, least_of, least_of-in}
 use Rattle.shape_sampler.proofs.Visits.{begins}
@@ -29,8 +29,9 @@ use Rattle.size_window.specs.RunByBits
 use Rattle.size_window.specs.RunByBits.{Limits, Sampling, State, Entry, Turned, Course, Ending, added, start, quiet, ended, entry_of, thrown_away, kept_one, shape_made, kept_or_waits, went, visited, shape_turn, counted_turn, open_turn, turn_unless, turn, fault_place, followed_by, one_turn_on, at_start, after, with_attempt}
 use Rattle.size_window.specs.Ideally.{DecidesIdeally}
 use Rattle.size_window.specs.Follows.{IsEntryOf, AreEntriesOf, window_of, Follows}
+use Rattle.size_window.proofs.Going.{entries-more}
 use Rattle.size_window.proofs.Visiting.{IsIdeally, node-ideally, at_index}
-use Rattle.size_window.proofs.VisitCells.{ExtendsCells, node-extends, PendsBelow, node-pends, added-after}
+use Rattle.size_window.proofs.VisitCells.{ExtendsCells, node-extends, PendsBelow, node-pends}
 
 -- an attempt that goes on with nothing pending has the ideal shape
 module _ (s : Spec) (x : Fraction) (whole : ℕ) (tokens : List Token) (cells : List Cell) (room : ℕ) (g : GoesOn s x whole tokens cells room []) where
@@ -54,13 +55,6 @@ module _ (s : Spec) (x : Fraction) (whole : ℕ) (tokens : List Token) (cells : 
         let same : m.object ≡ first-made.object = one-of-class s 0 (tokens ++ []) (is-of m) (is-of first-made) in
         subst (λ o. ClassMakes s x 0 whole (us ++ rest) (Just o room) rest) same m.made;
   }
-
--- entries with one more at the end
-entries-more : (ks : List Kept) (es : List Entry) (k : Kept) (e : Entry) → AreEntriesOf ks es → IsEntryOf k e → AreEntriesOf (ks ++ k ∷ []) (es ++ e ∷ [])
-entries-more [] [] k e h i = (i, tt)
-entries-more [] (d ∷ es) k e h i = elim h [ ]
-entries-more (j ∷ ks) [] k e h i = elim h [ ]
-entries-more (j ∷ ks) (d ∷ es) k e h i = (h.0, entries-more ks es k e h.1 i)
 
 module _ (s : Sampling) (x : Fraction) (ideal : DecidesIdeally s.chooser x) (sound : IsSound s.chooser.spec) (plain : s.chooser.spec.mode ≡ Mode.Unlabelled) where
   -- What stands of a course: the ideal run that its finished attempts make, and how many objects it kept.

@@ -1,5 +1,10 @@
 pub mod Decided
 pub mod Visiting
 pub mod VisitCells
+pub mod Going
+pub mod Turning
+pub mod Settling
+pub mod Belonging
+pub mod Turns
 pub mod Following
 pub mod UnionsIdeally

@@ -1,13 +1,12 @@
 -- What a visit leaves of an attempt: more cells after those before, and nodes of the specification pending.
-use Rattle.std.proofs.Common.{◌≡◌, ℕ, zero, suc, ◌+◌, ◌<◌, ◌≤◌, List, [], ◌∷◌, ◌++◌, length, Option, Some, None, refl, sym, ◌∙◌, ap, subst, arith, append-nil, append_assoc}
+use Rattle.std.proofs.Common.{◌≡◌, ℕ, zero, suc, ◌<◌, List, [], ◌∷◌, ◌++◌, length, Option, Some, None, refl, sym, ◌∙◌, ap, arith, append-nil}
 use Rattle.std.specs.Prelude.{slice_get, slice_index, replicate}
-use Rattle.std.specs.List.{AllByRecursion}
 use Rattle.bz_model.specs.declared.cell.Cell.{Cell}
-use Rattle.bz_model.specs.Spec.{Spec, Node, node_at, body_of}
+use Rattle.bz_model.specs.Spec.{Node, node_at}
 use Rattle.object_store.specs.Walk.{AllBelow}
 use Rattle.class_system.specs.Sound.{IsSound}
-use Rattle.class_system.specs.NodeOrder.{HasPart, parts_of}
-use Rattle.class_system.proofs.Soundness.{part_in_range, body_in_range, class_in_range, has_body}
+use Rattle.class_system.specs.NodeOrder.{parts_of}
+use Rattle.class_system.proofs.Soundness.{part_in_range, body_in_range}
 use Rattle.choice_draw.specs.Decision.{Choice}
 use Rattle.choice_draw.specs.Draw.{Bit, Draw, draw}
 use Rattle.shape_sampler.specs.Visit.{Chooser, Attempt, Visited, node_visited, after_draw, union_answered, counted_answered, room_for, atom_visited}
@@ -26,7 +25,7 @@ ExtendsCells a (Visited.Straddled node cell) = Unit {0}
 ExtendsCells a (Visited.Ended place) = Unit {0}
 ExtendsCells a (Visited.Failed place) = Unit {0}
 
-extended : (before more now : List Cell) → now ≡ before ++ more → now ≡ before ++ added before now
+pub extended : (before more now : List Cell) → now ≡ before ++ more → now ≡ before ++ added before now
 extended before more now e = e ∙ ap (λ m. before ++ m) (sym (ap (added before) e ∙ added-after before more))
 
 same-cells : (before now : List Cell) → now ≡ before → now ≡ before ++ added before now

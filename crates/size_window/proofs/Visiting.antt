@@ -1,6 +1,6 @@
 -- One visit of an attempt that goes on as ideal making does, by a chooser that decides ideally.
-use Rattle.std.proofs.Common.{◌≡◌, ◌⊎◌, inl, inr, ℕ, zero, suc, ◌+◌, ◌<◌, ◌≤◌, Bool, true, false, cond, List, [], ◌∷◌, ◌++◌, length, Option, Some, None, refl, sym, ◌∙◌, ap, subst, arith, append-nil}
-use Rattle.std.specs.Prelude.{slice_get, slice_index, replicate}
+use Rattle.std.proofs.Common.{◌≡◌, ◌⊎◌, inl, inr, ℕ, zero, suc, ◌<◌, ◌≤◌, Bool, true, false, cond, List, [], ◌∷◌, ◌++◌, length, Some, refl, sym, ◌∙◌, ap, subst, arith, append-nil}
+use Rattle.std.specs.Prelude.{slice_get, slice_index}
 use Rattle.bz_model.specs.declared.cell.Cell.{Cell}
 use Rattle.bz_model.specs.Fraction.{Fraction}
 use Rattle.bz_model.specs.Spec.{Spec, Node, node_at, body_of}
@@ -8,14 +8,13 @@ use Rattle.bz_model.specs.Object.{Object, Objects}
 use Rattle.bz_model.specs.Making.{IsCounted}
 use Rattle.bz_model.specs.Measures.{HasZero}
 use Rattle.object_store.specs.declared.token.Token.{Token}
-use Rattle.object_store.specs.declared.token.Token.TheVariants as token
 use Rattle.choice_draw.specs.Decision.{Choice}
 use Rattle.choice_draw.specs.Draw.{Bit, Draw, draw}
-use Rattle.shape_sampler.specs.Visit.{Chooser, Attempt, Visited, visit, node_visited, after_draw, union_answered, counted_answered, union_visited, counted_visited, room_for, atom_visited}
+use Rattle.shape_sampler.specs.Visit.{Chooser, Attempt, Visited, node_visited, after_draw, union_answered, counted_answered, counted_visited, room_for, atom_visited}
 use Rattle.shape_sampler.specs.Belonging.{GoesOn, IsIdealOver}
 use Rattle.shape_sampler.proofs.Visits.{goes-on, is-over, empty-turns, atom-turns, atom-over, class-turns, product-turns, union-turns, counted-turns, counted-over}
 use Rattle.size_window.specs.Ideally.{DecidesIdeally}
-use Rattle.size_window.proofs.Decided.{Decides, draw-decided}
+use Rattle.size_window.proofs.Decided.{draw-decided}
 
 -- What a visit's outcome means: an attempt that went on goes on as ideal making does, and one that is over is over for all numbers of its cells.
 abbrev pub IsIdeally : Spec → Fraction → (whole : ℕ) → Visited → Type 0

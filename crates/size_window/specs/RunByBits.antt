@@ -1,12 +1,12 @@
 -- A drawing as a function of the tape's bits: its state, one turn, and the state after any number of turns.
-use Rattle.std.specs.Prelude.{ℕ, zero, suc, ◌+◌, ◌-◌, Bool, true, false, nat_eq, nat_lt, List, [], ◌∷◌, ◌++◌, map, sum, length, remove, slice_index, Option, Some, None, option_map, option_to_list, if◌then◌else◌}
+use Rattle.std.specs.Prelude.{ℕ, zero, suc, ◌+◌, ◌-◌, Bool, true, false, nat_eq, nat_lt, List, [], ◌∷◌, ◌++◌, map, sum, remove, slice_index, Option, Some, None, option_map, option_to_list, if◌then◌else◌}
 use Rattle.bz_model.specs.declared.cell.Cell.{Cell}
 use Rattle.bz_model.specs.Spec.{Mode}
 use Rattle.bz_model.specs.Labels.{numbers_from}
 use Rattle.object_store.specs.declared.token.Token.{Token}
 use Rattle.object_store.specs.Tokens.{size_of}
 use Rattle.choice_draw.specs.Decision.{whole_decision}
-use Rattle.choice_draw.specs.Draw.{Bit, Draw, bit_of, draw}
+use Rattle.choice_draw.specs.Draw.{Bit, bit_of, draw}
 use Rattle.choice_draw.specs.Draw.Draw.{Decided, Straddled, Ended, Failed}
 use Rattle.shape_sampler.specs.Visit.{Chooser, Attempt, Visited, visit, begun}
 

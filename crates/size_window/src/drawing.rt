@@ -9,7 +9,7 @@ ghost use Rattle.object_store.specs.Tokens.{size_of};
 ghost use Rattle.shape_sampler.specs.Ready.{IsReady};
 ghost use Rattle.size_window.specs.RunByBits.{start, bits_in};
 ghost use Rattle.size_window.specs.Drawing.{limits_of, state_of, AreLimits, DrawingBelongs, counted, thrown_one, kept_shape, ended_by, begun_one};
-ghost use Rattle.size_window.specs.Turn.{IsTurn, IsCounted, IfKept, IsNext, TellsOpen, outcome_of, IsIdleTurn, IfStraddles, Settles, MaySettle};
+ghost use Rattle.size_window.specs.Turn.{IsTurn, turns_by, IsCounted, IfKept, IsNext, TellsOpen, outcome_of, IsIdleTurn, IfStraddles, Settles, MaySettle};
 
 use crate::ending::{Ending, Straddle};
 use crate::limits::{Counts, Limits};
@@ -40,7 +40,15 @@ impl Model for Drawing {
 
     ghost Value = { DrawingState };
 
-    ghost view = { λ d. record { session = d.session; limits = limits_of d.limits; kept = d.counts.kept; thrown = d.counts.thrown; turns = d.counts.turns; atoms = d.counts.atoms; ending = d.ending } };
+    ghost view = { λ d. record {
+      session = d.session;
+      limits = limits_of d.limits;
+      kept = d.counts.kept;
+      thrown = d.counts.thrown;
+      turns = d.counts.turns;
+      atoms = d.counts.atoms;
+      ending = d.ending;
+    } };
 }
 
 impl Drawing {
@@ -102,13 +110,24 @@ impl Drawing {
         requires drawing { DrawingBelongs founded.now (O.x oracle.old) self.old }
         requires tape { Belongs (S.content shelf.old) tape.old }
 
-        ensures no_memory { result ≡ Turned.OutOfMemory → (self.new ≡ self.old) × (tape.new ≡ tape.old) × (oracle.new ≡ oracle.old) }
-        ensures again { IfSome self.old.ending (λ ending. (result ≡ Turned.Finished ending) × (self.new ≡ self.old)) }
-        ensures ended { IsSome self.old.ending → (tape.new ≡ tape.old) × (oracle.new ≡ oracle.old) }
-        ensures turned { result ≢ Turned.OutOfMemory → IsTurn founded.now (O.x oracle.old) (O.table oracle.old) (bits_of tape.old.source (S.content shelf.old)) self.old tape.old.used result self.new tape.new.used }
+        ensures no_memory { result ≡ Turned.OutOfMemory
+            → (self.new ≡ self.old) × (tape.new ≡ tape.old) × (oracle.new ≡ oracle.old) }
+        ensures again { IfSome self.old.ending
+            (λ ending. (result ≡ Turned.Finished ending) × (self.new ≡ self.old)) }
+        ensures ended { IsSome self.old.ending
+            → (tape.new ≡ tape.old) × (oracle.new ≡ oracle.old) × (shelf.new ≡ shelf.old) }
+        ensures uncounted { turns_by self.old.ending result ≡ 0
+            → (tape.new ≡ tape.old) × (oracle.new ≡ oracle.old) }
+        ensures turned { result ≢ Turned.OutOfMemory
+            → IsTurn founded.now (O.x oracle.old) (O.table oracle.old)
+            (bits_of tape.old.source (S.content shelf.old))
+            self.old tape.old.used result self.new tape.new.used }
         ensures counted { IsCounted self.old result self.new }
-        ensures done { self.old.ending ≡ None → ((result ≡ Turned.Finished Ending.Done) ↔ (self.old.kept ≡ self.old.limits.count)) }
-        ensures turn_limit { self.old.ending ≡ None → ((result ≡ Turned.Finished Ending.TurnLimit) ↔ ((self.old.kept ≢ self.old.limits.count) × (self.old.turns ≡ self.old.limits.turns))) }
+        ensures done { self.old.ending ≡ None → ((result ≡ Turned.Finished Ending.Done)
+            ↔ (self.old.kept ≡ self.old.limits.count)) }
+        ensures turn_limit { self.old.ending ≡ None → ((result ≡ Turned.Finished Ending.TurnLimit)
+            ↔ ((self.old.kept ≢ self.old.limits.count)
+            × (self.old.turns ≡ self.old.limits.turns))) }
         ensures kept { IfKept result (IsNext self.old.limits self.old.kept tape.new.used) }
         ensures undecided { self.old.ending ≡ None → TellsOpen (O.table oracle.old) result }
         ensures drawing { DrawingBelongs founded.now (O.x oracle.old) self.new }
@@ -117,16 +136,20 @@ impl Drawing {
         ensures x { O.x oracle.new ≡ O.x oracle.old }
         ensures table { O.table oracle.new ≡ O.table oracle.old }
         ensures cost { O.cost oracle.new ≡ O.cost oracle.old }
-        ensures raised { O.raised oracle.new ≡ max (O.raised oracle.old) (level_for (tape.new.used - tape.old.used)) }
-        ensures ticks { steps.new ≤ steps.old + cost_between (O.cost oracle.old) (O.raised oracle.old) (O.raised oracle.new) }
+        ensures raised { O.raised oracle.new
+            ≡ max (O.raised oracle.old) (level_for (tape.new.used - tape.old.used)) }
+        ensures ticks { steps.new ≤ steps.old
+            + cost_between (O.cost oracle.old) (O.raised oracle.old) (O.raised oracle.new) }
 
         ensures used { (tape.old.used ≤ tape.new.used) × (tape.new.used ≤ tape.old.used + 60) }
         ensures source { tape.new.source ≡ tape.old.source }
         ensures tape { Belongs (S.content shelf.new) tape.new }
         ensures content { S.content shelf.new ≡ S.content shelf.old }
         ensures faults { (other : List ℕ) → S.faults shelf.old other ≤ S.faults shelf.new other }
-        ensures cause { self.old.ending ≡ None → result ≡ Turned.Finished Ending.ReadFault → HasFault tape.old.source (S.faults shelf.old) (S.faults shelf.new) }
-        ensures seeded { (seed : ℕ) → tape.old.source ≡ TapeSource.Seeded seed → shelf.new ≡ shelf.old }
+        ensures cause { self.old.ending ≡ None → result ≡ Turned.Finished Ending.ReadFault
+            → HasFault tape.old.source (S.faults shelf.old) (S.faults shelf.new) }
+        ensures seeded { (seed : ℕ) → tape.old.source ≡ TapeSource.Seeded seed
+            → shelf.new ≡ shelf.old }
     {
         if let Some(turned) = self.idle_turn() {
             return turned;
@@ -270,7 +293,8 @@ fn place_before(used: u64, cells: &[Cell]) -> u64
 
 /// What a visit's answer leaves to do. Of a cell that straddles it tells the bounds of level 6.
 fn outcome_by<const F: u32, O: Oracle<F>>(answer: Stepped, oracle: &O) -> Outcome
-    requires raised { IfStraddles answer (λ node. (6 ≤ O.raised oracle.now) × (node.0 < length (O.spec oracle.now).nodes)) }
+    requires raised { IfStraddles answer
+        (λ node. (6 ≤ O.raised oracle.now) × (node.0 < length (O.spec oracle.now).nodes)) }
     ensures { result ≡ outcome_of (O.table oracle.now) answer }
 {
     match answer {

@@ -6,9 +6,9 @@ ghost use Rattle.bz_model.specs.Oracle as oracle;
 ghost use Rattle.bz_model.specs.Spec.{Mode, Node, Spec, node_at};
 ghost use Rattle.class_system.specs.Drafting.{IsCountedNode};
 ghost use Rattle.class_system.specs.Sound.{IsSound};
-ghost use Rattle.size_window.specs.RunByBits.{Sampling, after};
+ghost use Rattle.size_window.specs.RunByBits.{Limits, Sampling, at_start, after};
 ghost use Rattle.size_window.specs.Ideally.{DecidesIdeally, union_chooser};
-ghost use Rattle.size_window.specs.Follows.{Follows};
+ghost use Rattle.size_window.specs.Follows.{Follows, Goes};
 
 /// A drawing from an unlabelled specification follows the ideal run, after any number of turns and
 /// wherever the shelf fails.
@@ -28,4 +28,10 @@ pub fn a_sound_table_decides_ideally()
         → oracle.IsSound s x F table
         → ((e : ℕ) (node : Node) → node_at s e ≡ Some node → ¬ (IsCountedNode node))
         → DecidesIdeally (union_chooser s table) x }
+{}
+
+/// The course at the start goes as ideal runs do. So does each later one, by the contract of
+/// `Drawing::turn`.
+pub fn a_course_goes_from_its_start()
+    ensures { (s : Spec) (x : Fraction) (limits : Limits) → Goes s x limits at_start }
 {}

@@ -1,0 +1,217 @@
+-- A turn that visits a node is the turn of a drawing by bits.
+use Rattle.std.proofs.Common.{◌≡◌, ◌≢◌, ℕ, ◌+◌, ◌-◌, ◌<◌, ◌≤◌, inl, inr, Bool, true, false, cond, List, [], ◌∷◌, ◌++◌, Option, Some, None, IfSome, refl, sym, ◌∙◌, ap, subst, arith, append-nil, add-one}
+use Rattle.std.specs.Prelude.{nat_lt, option_map}
+use Rattle.std.proofs.lemmas.Bool.{ltb-true, ltb-false}
+use Rattle.bz_model.specs.declared.cell.Cell.{Cell}
+use Rattle.bz_model.specs.declared.cell.Bounds.{Bounds}
+use Rattle.bz_model.specs.Fraction.{Fraction}
+use Rattle.bz_model.specs.Spec.{Spec, Mode}
+use Rattle.object_store.specs.Tokens.{size_of}
+use Rattle.choice_draw.specs.Draw.{bit_of}
+use Rattle.shape_sampler.specs.declared.stepped.Stepped.{Stepped}
+use Rattle.shape_sampler.specs.declared.stepped.Stepped.TheVariants as stepped
+use Rattle.shape_sampler.specs.Visit.{Chooser, Attempt, visit}
+use Rattle.shape_sampler.specs.State.{SessionState, Leaves, attempt_of, stopped_by, emptied}
+use Rattle.shape_sampler.specs.Belonging.{IsIdealShape, IsIdealOver}
+use Rattle.shape_sampler.specs.Answer.{told_visit, ChoosesBy, IsVisit, IsIdealAnswer, Draws}
+use Rattle.shape_sampler.specs.Answer as told
+use Rattle.size_window.specs.declared.ending.Ending.{Ending}
+use Rattle.size_window.specs.declared.ending.Ending.TheVariants as ending
+use Rattle.size_window.specs.declared.ending.Straddle.TheVariants as straddle
+use Rattle.size_window.specs.declared.turned.Entry.{Entry}
+use Rattle.size_window.specs.declared.turned.Turned.{Turned}
+use Rattle.size_window.specs.declared.turned.Turned.TheVariants as answer
+use Rattle.size_window.specs.RunByBits as run
+use Rattle.size_window.specs.RunByBits.{Sampling, State, Course, added, no_attempt, quiet, thrown_away, kept_one, kept_or_waits, shape_made, went, visited, turn, with_attempt, bits_in}
+use Rattle.size_window.specs.Drawing.{DrawingState, DrawingBelongs, ending_of, running, state_of, counted, thrown_one, kept_shape, ended_by}
+use Rattle.size_window.specs.Turn.{entry_of, told_fault, IsTurn, Settles, outcome_of}
+use Rattle.size_window.proofs.Going.{goes-on, goes-ended, goes-over, goes-small, goes-kept}
+use Rattle.size_window.proofs.VisitCells.{extended}
+use Rattle.size_window.proofs.Turning.{in_turn, state-at, running-some, running-none, turn-visits, if-told, course-going, course-kept, course-thrown, course-fewer, course-cells, is-turn}
+
+-- an attempt that went on
+went-some : (smp : Sampling) (st : State) (es : List ℕ) (cells : List Cell) → es ≢ [] → went smp st es cells ≡ record { state = st; entry = None; cells = cells }
+went-some smp st [] cells some = absurd (some refl)
+went-some smp st (e ∷ es) cells some = refl
+
+-- a number below another is tested so
+below : (m n : ℕ) → m < n → nat_lt m n ≡ true
+below m n h = by (nat_lt m n) refl
+  where
+    by : (b : Bool) → nat_lt m n ≡ b → nat_lt m n ≡ true
+    by true is = is
+    by false is = absurd (let k = ltb-false m n is in omega arith)
+
+not-below : (m n : ℕ) → n ≤ m → nat_lt m n ≡ false
+not-below m n h = by (nat_lt m n) refl
+  where
+    by : (b : Bool) → nat_lt m n ≡ b → nat_lt m n ≡ false
+    by true is = absurd (let k = ltb-true m n is in omega arith)
+    by false is = is
+
+-- a shape that is too small, and one that isn't
+went-small : (smp : Sampling) (st : State) (es : List ℕ) (cells : List Cell) → es ≡ [] → size_of st.attempt.tokens < smp.limits.min → went smp st es cells ≡ record { state = thrown_away st; entry = None; cells = cells }
+went-small smp st es cells none small =
+    ap (λ fs. went smp st fs cells) none
+    ∙ ap (λ b. cond b (record { state = thrown_away st; entry = None; cells = cells }) (kept_or_waits smp.chooser.spec.mode st cells)) (below (size_of st.attempt.tokens) smp.limits.min small)
+
+went-large : (smp : Sampling) (st : State) (es : List ℕ) (cells : List Cell) → es ≡ [] → smp.chooser.spec.mode ≡ Mode.Unlabelled → smp.limits.min ≤ size_of st.attempt.tokens → went smp st es cells ≡ kept_or_waits Mode.Unlabelled st cells
+went-large smp st es cells none plain large =
+    ap (λ fs. went smp st fs cells) none
+    ∙ ap (λ b. cond b (record { state = thrown_away st; entry = None; cells = cells }) (kept_or_waits smp.chooser.spec.mode st cells)) (not-below (size_of st.attempt.tokens) smp.limits.min large)
+    ∙ ap (λ m. kept_or_waits m st cells) plain
+
+-- entries with the same parts
+same-entry : (a b : run.Entry) → a.number ≡ b.number → a.place ≡ b.place → a.size ≡ b.size → a.tokens ≡ b.tokens → a.labels ≡ b.labels → a.cells ≡ b.cells → a ≡ b
+same-entry a b number place size tokens labels cells =
+    ap (λ n. record a { number = n }) number
+    ∙ ap (λ p. record a { number = b.number; place = p }) place
+    ∙ ap (λ k. record a { number = b.number; place = b.place; size = k }) size
+    ∙ ap (λ ts. record a { number = b.number; place = b.place; size = b.size; tokens = ts }) tokens
+    ∙ ap (λ ls. record a { number = b.number; place = b.place; size = b.size; tokens = b.tokens; labels = ls }) labels
+    ∙ ap (λ cs. record a { number = b.number; place = b.place; size = b.size; tokens = b.tokens; labels = b.labels; cells = cs }) cells
+
+-- states with the same parts
+same-state : (a b : State) → a.attempt ≡ b.attempt → a.awaits ≡ b.awaits → a.kept ≡ b.kept → a.thrown ≡ b.thrown → a.turns ≡ b.turns → a.ending ≡ b.ending → a ≡ b
+same-state a b attempt awaits kept thrown turns ending =
+    ap (λ t. record a { attempt = t }) attempt
+    ∙ ap (λ w. record a { attempt = b.attempt; awaits = w }) awaits
+    ∙ ap (λ n. record a { attempt = b.attempt; awaits = b.awaits; kept = n }) kept
+    ∙ ap (λ n. record a { attempt = b.attempt; awaits = b.awaits; kept = b.kept; thrown = n }) thrown
+    ∙ ap (λ n. record a { attempt = b.attempt; awaits = b.awaits; kept = b.kept; thrown = b.thrown; turns = n }) turns
+    ∙ ap (λ o. record a { attempt = b.attempt; awaits = b.awaits; kept = b.kept; thrown = b.thrown; turns = b.turns; ending = o }) ending
+
+module _ (s : Spec) (x : Fraction) (plain : s.mode ≡ Mode.Unlabelled) (table : (level node : ℕ) → Bounds) (bits : Option (ℕ → Option Bool)) (before : DrawingState) (b : DrawingBelongs s x before) (start : ℕ) (going : before.ending ≡ None) (fewer : before.kept ≢ before.limits.count) (more : before.turns ≢ before.limits.turns) (some : before.session.pending ≢ []) (session : SessionState) (used : ℕ) where
+  -- the drawing with the session after the visit
+  abbrev mid : DrawingState
+  mid = record before { session = session }
+
+  -- The turn is what the visit means for the drawing.
+  abbrev Means : Stepped → run.Turned → Type 0
+  Means step turned = (c : Chooser) (tape : ℕ → Option Bool) → c.spec ≡ s → visited (record { chooser = c; limits = before.limits; tape = tape }) (in_turn before (attempt_of before.session start)) (told_visit step session used) ≡ turned
+
+  -- The visit is told exactly.
+  abbrev IsTold : Stepped → Type 0
+  IsTold step = IfSome bits (λ tape. (c : Chooser) → ChoosesBy s table c → IsVisit c tape before.session start step session used)
+
+  visit-exact : (step : Stepped) (result : Turned) (turned : run.Turned) → step ≢ stepped.OutOfMemory → option_map (λ given. start + given) (told_fault None result (used - start)) ≡ told.fault_place step used → Means step turned → IsTold step
+      → IfSome bits (λ tape. (c : Chooser) → ChoosesBy s table c → turned ≡ turn (record { chooser = c; limits = before.limits; tape = tape }) (told_fault before.ending result (used - start)) (state_of before start))
+  visit-exact step result turned ne fault means exact = if-told bits (λ tape seen c by. sym (
+      turn-visits (record { chooser = c; limits = before.limits; tape = tape }) (told_fault before.ending result (used - start)) before start refl going fewer more some
+      ∙ ap (λ f. visited (record { chooser = c; limits = before.limits; tape = tape }) (in_turn before (attempt_of before.session start)) (visit c (bit_of tape f) (attempt_of before.session start))) (ap (λ (o : Option Ending). option_map (λ given. start + given) (told_fault o result (used - start))) going ∙ fault)
+      ∙ ap (visited (record { chooser = c; limits = before.limits; tape = tape }) (in_turn before (attempt_of before.session start))) (sym ((seen c by).same ne))
+      ∙ means c tape by.same_spec)) exact
+
+  -- the cells that the visit added
+  abbrev more_cells : List Cell
+  more_cells = added before.session.cells session.cells
+
+  added-now : (c : Course) → c.state ≡ state_of before start → told.Extends before.session.cells session.cells → c.state.attempt.cells ++ more_cells ≡ session.cells
+  added-now c same e = ap (λ cs. cs ++ more_cells) (course-cells s x table bits before b start c same some) ∙ sym (extended before.session.cells e.more session.cells e.whole)
+
+  -- a state in which nothing is pending
+  no-cells : (d : DrawingState) → d.session.pending ≡ [] → (state_of d used).attempt.cells ≡ []
+  no-cells d none = ap (λ (a : Attempt). a.cells) (running-none d.session d.session.pending used none)
+
+  moved : session.pending ≢ [] → told.Extends before.session.cells session.cells → IsTold stepped.Moved → IsTurn s x table bits before start answer.Going (counted mid) used
+  moved pending extends exact = record {
+    turned = record { state = state_of (counted mid) used; entry = None; cells = more_cells };
+    state = refl;
+    entry = refl;
+    goes = λ c same k. goes-on s x before.limits c k (state_of (counted mid) used) more_cells session.cells (course-going s x table bits before b start c same going) (added-now c same extends) (ap (λ (a : Attempt). a.cells) (running-some session session.pending used pending)) (course-kept s x table bits before b start c same) (course-thrown s x table bits before b start c same);
+    exact = visit-exact stepped.Moved answer.Going (record { state = state_of (counted mid) used; entry = None; cells = more_cells }) (λ e. cc) refl (λ c tape is.
+        went-some (record { chooser = c; limits = before.limits; tape = tape }) (in_turn before (attempt_of session used)) session.pending more_cells pending
+        ∙ ap (λ st. record { state = st; entry = None; cells = more_cells }) (sym (state-at mid (attempt_of session used) used (running-some session session.pending used pending)))) exact;
+  }
+
+  -- the state after an attempt was thrown away
+  thrown-state : session.pending ≡ [] → thrown_away (in_turn before (attempt_of session used)) ≡ state_of (thrown_one (counted mid)) used
+  thrown-state none = same-state (thrown_away (in_turn before (attempt_of session used))) (state_of (thrown_one (counted mid)) used) (sym (running-none session session.pending used none)) refl refl (sym (add-one before.thrown)) (sym (add-one before.turns)) refl
+
+  one-thrown : (c : Course) → c.state ≡ state_of before start → before.thrown + 1 ≡ c.state.thrown + 1
+  one-thrown c same = ap (λ n. n + 1) (course-thrown s x table bits before b start c same)
+
+  small : session.pending ≡ [] → told.Extends before.session.cells session.cells → IsIdealShape s x before.limits.max session.tokens session.cells → size_of session.tokens < before.limits.min → IsTold stepped.Made → IsTurn s x table bits before start answer.Going (thrown_one (counted mid)) used
+  small none extends ideal little exact = record {
+    turned = record { state = state_of (thrown_one (counted mid)) used; entry = None; cells = more_cells };
+    state = refl;
+    entry = refl;
+    goes = λ c same k. goes-small s x before.limits c k (state_of (thrown_one (counted mid)) used) more_cells session.cells (course-going s x table bits before b start c same going) (added-now c same extends) (no-cells (thrown_one (counted mid)) none) (course-fewer s x table bits before b start c same fewer) session.tokens ideal little (course-kept s x table bits before b start c same) (one-thrown c same);
+    exact = visit-exact stepped.Made answer.Going (record { state = state_of (thrown_one (counted mid)) used; entry = None; cells = more_cells }) (λ e. cc) refl (λ c tape is.
+        went-small (record { chooser = c; limits = before.limits; tape = tape }) (in_turn before (attempt_of session used)) session.pending more_cells none little
+        ∙ ap (λ st. record { state = st; entry = None; cells = more_cells }) (thrown-state none)) exact;
+  }
+
+  over : session.pending ≡ [] → told.Extends before.session.cells session.cells → IsIdealOver s x before.limits.max session.cells → IsTold stepped.Overshot → IsTurn s x table bits before start answer.Going (thrown_one (counted mid)) used
+  over none extends ideal exact = record {
+    turned = record { state = state_of (thrown_one (counted mid)) used; entry = None; cells = more_cells };
+    state = refl;
+    entry = refl;
+    goes = λ c same k. goes-over s x before.limits c k (state_of (thrown_one (counted mid)) used) more_cells session.cells (course-going s x table bits before b start c same going) (added-now c same extends) (no-cells (thrown_one (counted mid)) none) (course-fewer s x table bits before b start c same fewer) ideal (course-kept s x table bits before b start c same) (one-thrown c same);
+    exact = visit-exact stepped.Overshot answer.Going (record { state = state_of (thrown_one (counted mid)) used; entry = None; cells = more_cells }) (λ e. cc) refl (λ c tape is.
+        ap (λ st. record { state = st; entry = None; cells = more_cells }) (thrown-state none)) exact;
+  }
+
+  -- a drawing that kept its shape
+  abbrev keeping : DrawingState
+  keeping = kept_shape (counted mid) (size_of session.tokens)
+
+  kept-state : session.pending ≡ [] → kept_one (in_turn before (attempt_of session used)) ≡ state_of keeping used
+  kept-state none = same-state (kept_one (in_turn before (attempt_of session used))) (state_of keeping used) (sym (running-none (emptied session) session.pending used none)) refl (sym (add-one before.kept)) refl (sym (add-one before.turns)) refl
+
+  module _ (e : Entry) (number : e.number ≡ before.kept + 1) (place : e.place ≡ used - bits_in session.cells) (shape : e.shape.items ≡ session.tokens) (cells : e.cells.items ≡ session.cells) where
+    kept-entry : run.entry_of (in_turn before (attempt_of session used)) [] [] ≡ entry_of e
+    kept-entry =
+        let no_more : session.cells ++ [] ≡ session.cells = append-nil session.cells in
+        same-entry (run.entry_of (in_turn before (attempt_of session used)) [] []) (entry_of e)
+        (sym (number ∙ add-one before.kept))
+        (ap (λ cs. used - bits_in cs) no_more ∙ sym place)
+        (ap size_of (sym shape)) (sym shape) refl (no_more ∙ sym cells)
+
+    large : session.pending ≡ [] → told.Extends before.session.cells session.cells → IsIdealShape s x before.limits.max session.tokens session.cells → before.limits.min ≤ size_of session.tokens → IsTold stepped.Made → IsTurn s x table bits before start (answer.Kept e) keeping used
+    large none extends ideal enough exact = record {
+      turned = record { state = state_of keeping used; entry = Some (entry_of e); cells = more_cells };
+      state = refl;
+      entry = refl;
+      goes = λ c same k. goes-kept s x before.limits c k (state_of keeping used) more_cells session.cells (course-going s x table bits before b start c same going) (added-now c same extends) (no-cells keeping none) (course-fewer s x table bits before b start c same fewer) plain session.tokens ideal enough (entry_of e) shape refl (ap (λ n. n + 1) (course-kept s x table bits before b start c same)) (course-thrown s x table bits before b start c same);
+      exact = visit-exact stepped.Made (answer.Kept e) (record { state = state_of keeping used; entry = Some (entry_of e); cells = more_cells }) (λ e. cc) refl (λ c tape is.
+          went-large (record { chooser = c; limits = before.limits; tape = tape }) (in_turn before (attempt_of session used)) session.pending more_cells none (ap (λ (t : Spec). t.mode) is ∙ plain) enough
+          ∙ ap (λ st. record { state = st; entry = Some (run.entry_of (in_turn before (attempt_of session used)) [] []); cells = more_cells }) (kept-state none)
+          ∙ ap (λ n. record { state = state_of keeping used; entry = Some n; cells = more_cells }) kept-entry) exact;
+    }
+
+  -- the visit stopped, at a place
+  stopped : (step : Stepped) (e : Ending) → session ≡ stopped_by before.session step → step ≢ stepped.OutOfMemory → option_map (λ given. start + given) (told_fault None (answer.Finished e) (used - start)) ≡ told.fault_place step used
+      → Means step (quiet (run.ended (in_turn before (attempt_of before.session start)) (ending_of e) used)) → IsTold step → IsTurn s x table bits before start (answer.Finished e) (ended_by (counted mid) e) used
+  stopped step e left ne fault means exact = record {
+    turned = quiet (state_of (ended_by (counted mid) e) used);
+    state = refl;
+    entry = refl;
+    goes = λ c same k. goes-ended s x before.limits c k (state_of (ended_by (counted mid) e) used) (λ none. cc) (course-kept s x table bits before b start c same) (course-thrown s x table bits before b start c same);
+    exact = visit-exact step (answer.Finished e) (quiet (state_of (ended_by (counted mid) e) used)) ne fault (λ c tape is.
+        means c tape is
+        ∙ ap quiet (same-state (run.ended (in_turn before (attempt_of before.session start)) (ending_of e) used) (state_of (ended_by (counted mid) e) used) (sym attempt) refl refl refl (sym (add-one before.turns)) refl)) exact;
+  }
+    where
+      attempt : running session session.pending used ≡ attempt_of before.session used
+      attempt = ap (λ (st : SessionState). running st st.pending used) left ∙ running-some (stopped_by before.session step) before.session.pending used some
+
+  -- a visit, from its answer and what was done after it
+  pub visit-turn : (step : Stepped) (result : Turned) (now : DrawingState) → start ≤ used → Leaves step before.session session → Draws step before.session session start used → IsIdealAnswer s x step session → IsTold step → Settles (outcome_of table step) used mid result now → result ≢ answer.OutOfMemory → IsTurn s x table bits before start result now used
+  visit-turn stepped.Moved result now le leaves draws ideal exact settles ne = is-turn s x table bits before b start answer.Going (counted mid) settles.0 settles.1 (moved leaves.1 draws exact)
+  visit-turn stepped.Made result now le leaves draws ideal exact (inl settles) ne = is-turn s x table bits before b start answer.Going (thrown_one (counted mid)) settles.1.0 settles.1.1 (small leaves.1 draws (subst (λ w. IsIdealShape s x w session.tokens session.cells) (leaves.0.whole ∙ b.whole) ideal) settles.0 exact)
+  visit-turn stepped.Made result now le leaves draws ideal exact (inr settles) ne =
+      let k = settles.1 in
+      is-turn s x table bits before b start (answer.Kept k.entry) keeping k.told k.now_is (large k.entry k.number k.place k.shape k.cells leaves.1 draws (subst (λ w. IsIdealShape s x w session.tokens session.cells) (leaves.0.whole ∙ b.whole) ideal) settles.0 exact)
+  visit-turn stepped.Overshot result now le leaves draws ideal exact settles ne = is-turn s x table bits before b start answer.Going (thrown_one (counted mid)) settles.0 settles.1 (over leaves.1 draws (subst (λ w. IsIdealOver s x w session.cells) (leaves.0.whole ∙ b.whole) ideal) exact)
+  visit-turn (stepped.Straddles node cell) result now le leaves draws ideal exact settles ne =
+      let e : Ending = ending.Undecided (straddle.Node node cell (table 6 node.0).lo (table 6 node.0).hi) in
+      is-turn s x table bits before b start (answer.Finished e) (ended_by (counted mid) e) settles.0 settles.1
+      (stopped (stepped.Straddles node cell) e leaves (λ e. cc) refl (λ c tape is. ap (λ n. quiet (run.ended (in_turn before (attempt_of before.session start)) (run.Ending.Undecided (run.Open.AtNode node.0 cell)) n)) (sym draws.all_used)) exact)
+  visit-turn stepped.Ended result now le leaves draws ideal exact settles ne =
+      is-turn s x table bits before b start (answer.Finished ending.TapeEnded) (ended_by (counted mid) ending.TapeEnded) settles.0 settles.1
+      (stopped stepped.Ended ending.TapeEnded leaves (λ e. cc) refl (λ c tape is. refl) exact)
+  visit-turn stepped.ReadFault result now le leaves draws ideal exact settles ne =
+      is-turn s x table bits before b start (answer.Finished ending.ReadFault) (ended_by (counted mid) ending.ReadFault) settles.0 settles.1
+      (stopped stepped.ReadFault ending.ReadFault leaves (λ e. cc) (ap Some (let whole : start + (used - start) ≡ used = omega arith in whole)) (λ c tape is. refl) exact)
+  visit-turn stepped.OutOfMemory result now le leaves draws ideal exact settles ne = absurd (ne settles.0)
