@@ -7,4 +7,4 @@ pub mod Ideal
 pub mod Plain
 pub mod Union
 pub mod FreeParts
-pub mod Counted
+pub mod CountVisits

@@ -1,16 +1,14 @@
 //! Tokens, cells and nodes, put where there is spare room.
-ghost use Rattle.std.specs.Prelude.{◌≡◌, ◌<◌, ◌≤◌, [], ◌∷◌, ◌++◌, map, length, replicate, ℕ, List, OnOk};
+ghost use Rattle.std.specs.Prelude.{◌≡◌, ◌<◌, ◌≤◌, [], ◌∷◌, ◌++◌, map, length, ℕ, List, OnOk};
 ghost use Rattle.class_system.specs.Views.{number};
-ghost use Rattle.shape_sampler.specs.State.{answer_for, union_answer, count_answer, stop_after, PutsPart, PutsParts, drawn_tokens, drawn_cells, count_tokens, count_cells};
+ghost use Rattle.shape_sampler.specs.State.{answer_for, union_answer, stop_after, PutsPart, drawn_tokens, drawn_cells};
 ghost use Rattle.choice_draw.specs.Answer.{OnValue};
-ghost use Rattle.count_draw.specs.Answer.{OnCount};
 
 use crate::stepped::Stepped;
 use bz_model::cell::Cell;
 use bz_model::cells::Cells;
 use choice_draw::drawn::Drawn;
 use class_system::ids::ExprId;
-use count_draw::drawn::CountDrawn;
 use object_store::pending::Pending;
 use object_store::shape::Shape;
 use object_store::token::Token;
@@ -46,19 +44,6 @@ pub(crate) fn replace_first(pending: &mut Pending, nodes: &[ExprId])
 {
     let _first = pending.pop();
     match pending.push_all(nodes) {
-        Ok(()) => {}
-        Err(_) => unreachable!(),
-    }
-}
-
-/// Puts a node, so many times, in the place of the first pending one.
-pub(crate) fn repeat_first(pending: &mut Pending, node: ExprId, times: u32)
-    requires spare { 0 < pending.old.spare }
-    ensures { (e : ℕ) (rest : List ℕ) → pending.old.items ≡ e ∷ rest
-        → pending.new.items ≡ replicate times node.0 ++ rest }
-{
-    let _counted = pending.pop();
-    match pending.push(node, times) {
         Ok(()) => {}
         Err(_) => unreachable!(),
     }
@@ -118,38 +103,6 @@ pub(crate) fn put_drawn(
     replace_first(pending, &[parts[value as usize]]);
 }
 
-/// Puts what was drawn at a sequence, set or cycle: the number of parts as a token, its cell, and the
-/// part so many times; where every number up to the room is passed over, the cell alone, and nothing
-/// stays pending.
-pub(crate) fn put_counted(
-    pending: &mut Pending,
-    shape: &mut Shape,
-    cells: &mut Cells,
-    part: ExprId,
-    drawn: CountDrawn,
-)
-    requires pending_spare { 0 < pending.old.spare }
-    requires shape_spare { 0 < shape.old.spare }
-    requires cells_spare { 0 < cells.old.spare }
-    requires few { OnCount drawn (λ i cell. i ≤ 1000000) }
-    ensures pending { PutsParts part.0 drawn pending.old.items pending.new.items }
-    ensures tokens { shape.new.items ≡ shape.old.items ++ count_tokens drawn }
-    ensures cells { cells.new.items ≡ cells.old.items ++ count_cells drawn }
-{
-    match drawn {
-        CountDrawn::Count { value, cell } => {
-            put_token(shape, Token::Count(value as u32));
-            put_cell(cells, cell);
-            repeat_first(pending, part, value as u32);
-        }
-        CountDrawn::Over { cell } => {
-            put_cell(cells, cell);
-            pending.clear();
-        }
-        CountDrawn::Straddles { .. } | CountDrawn::Ended | CountDrawn::ReadFault => {}
-    }
-}
-
 /// The answer to a draw at a union.
 pub(crate) fn answer_to(node: ExprId, drawn: Drawn) -> Stepped
     ensures { result ≡ union_answer node drawn }
@@ -159,19 +112,6 @@ pub(crate) fn answer_to(node: ExprId, drawn: Drawn) -> Stepped
         Drawn::Straddles { cell } => Stepped::Straddles { node, cell },
         Drawn::Ended => Stepped::Ended,
         Drawn::ReadFault => Stepped::ReadFault,
-    }
-}
-
-/// The answer to a draw of a number of parts, after what was drawn is put.
-pub(crate) fn answer_to_count(node: ExprId, drawn: CountDrawn, pending: &Pending) -> Stepped
-    ensures { result ≡ count_answer node drawn pending.now.items }
-{
-    match drawn {
-        CountDrawn::Count { .. } => answer(pending),
-        CountDrawn::Over { .. } => Stepped::Overshot,
-        CountDrawn::Straddles { cell } => Stepped::Straddles { node, cell },
-        CountDrawn::Ended => Stepped::Ended,
-        CountDrawn::ReadFault => Stepped::ReadFault,
     }
 }
 

@@ -1,8 +1,7 @@
 //! Sessions: attempts, made one visit at a time.
-ghost use Rattle.std.specs.Prelude.{◌≡◌, ◌≢◌, ℕ, ◌+◌, ◌-◌, ◌<◌, ◌≤◌, ◌↔◌, max, [], ◌∷◌, List, map, length, slice_get, Some, None, IfSome, IfNone, IsSome, IfOk, OnOk, OnErr, IsTrue};
+ghost use Rattle.std.specs.Prelude.{◌≡◌, ◌≢◌, ℕ, ◌+◌, ◌-◌, ◌<◌, ◌≤◌, ◌↔◌, max, [], ◌∷◌, List, map, length, slice_get, Some, None, IfSome, IsSome, IfOk, OnOk, OnErr, IsTrue};
 ghost use Rattle.bz_model.specs.Fraction.{Fraction};
 ghost use Rattle.bz_model.specs.Spec.{Spec, Node, node_at, body_of};
-ghost use Rattle.bz_model.specs.Measures.{HasZero};
 ghost use Rattle.bz_model.specs.Oracle.{cost_between};
 ghost use Rattle.class_system.specs.Views.{number};
 ghost use Rattle.bit_tape.specs.Tape.{TapeSource, Belongs, bits_of, HasFault};
@@ -12,9 +11,9 @@ ghost use Rattle.shape_sampler.specs.Visit.{Chooser, leaf_visited};
 ghost use Rattle.shape_sampler.specs.State.{SessionState, SessionBelongs, HasCountedPart, begun_state, emptied, Leaves};
 ghost use Rattle.shape_sampler.specs.Answer.{ChoosesBy, IsVisit, IsIdealAnswer, IsVisitOfAll, IsPlainAnswer, IsPlainVisit, room_atom_visited, replaced_by, Draws};
 
+use crate::counted::{answer_to_count, counted_part, put_counted, room_for};
 use crate::placing::{
-    answer, answer_to, answer_to_count, put_counted, put_drawn, put_token, replace_first,
-    reserve_drawn, stop_of,
+    answer, answer_to, put_drawn, put_token, replace_first, reserve_drawn, stop_of,
 };
 use crate::stepped::Stepped;
 use bit_tape::tape::Tape;
@@ -402,27 +401,4 @@ impl Session {
         self.stopped = stop_of(told);
         told
     }
-}
-
-/// The part of a sequence, set or cycle; None exactly where the node is none of them.
-fn counted_part(system: &System, node: ExprId) -> Option<ExprId>
-    requires in_range { node.0 < length system.now.nodes }
-    ensures part { IfSome result (λ part. HasCountedPart system.now node.0 part.0) }
-    ensures none { IfNone result (¬ IsCountedNode system.now node.0) }
-{
-    match system.node(node) {
-        Expr::Seq(part) | Expr::Set(part) | Expr::Cyc(part) => Some(*part),
-        _ => None,
-    }
-}
-
-/// The room of a number of parts: 64 where the part has an object of size 0, and else the room left.
-fn room_for(founded: &Founded, part: ExprId, left: u64) -> u64
-    requires in_range { part.0 < length founded.now.nodes }
-    requires few { left ≤ 1000000 }
-    ensures free { HasZero founded.now part.0 → result ≡ 64 }
-    ensures taking { ¬ HasZero founded.now part.0 → result ≡ left }
-    ensures few { result ≤ 1000000 }
-{
-    if founded.has_zero(part) { 64 } else { left }
 }

@@ -5,7 +5,7 @@ use Rattle.count_draw.proofs.CountedNodes.{part_inside}
 use Rattle.shape_sampler.specs.State.{SessionState}
 use Rattle.shape_sampler.specs.contracts.session.Session.{the_view}
 use Rattle.shape_sampler.proofs.Union.{if-some}
-use Rattle.shape_sampler.proofs.Counted.{IsRoomFor, count-settle, counted-draws, counted-exact, counted-session}
+use Rattle.shape_sampler.proofs.CountVisits.{IsRoomFor, count-settle, counted-draws, counted-exact, counted-session}
 use Rattle.shape_sampler.proofs.session.Session.visit_counted.Goals as goal
 
 pub room_for-room-requires-clause-in_range : goal.room_for-room-requires-clause-in_range
