@@ -1,13 +1,16 @@
 -- The least option of a counted node: the least of the table that passes, or else the high, where it is an option.
 use Rattle.std.proofs.Common.{◌≡◌, ℕ, suc, ◌+◌, ◌-◌, ◌<◌, ◌≤◌, ◌||◌, Bool, true, false, Option, Some, None, cond, refl, sym, ◌∙◌, ap, arith, ⊎_elim}
-use Rattle.std.specs.Prelude.{nat_eq}
+use Rattle.std.specs.Prelude.{nat_eq, nat_lt}
+use Rattle.std.specs.Bool.{then_some}
 use Rattle.std.proofs.lemmas.Bool.{cases_Bool, eq-eqb, eqb-true, or_from}
 use Rattle.bz_model.specs.declared.cell.Cell.{Cell}
 use Rattle.bz_model.specs.Spec.{IsWithinHigh}
-use Rattle.choice_draw.specs.Decision.{Options, Choice, is_last, ends_before, least_option, is_reached, over_of, choice_from, choice_of}
+use Rattle.choice_draw.specs.Decision.{Options, Choice, is_last, ends_before, begins_after, least_option, is_reached, over_from, over_of, choice_from, choice_of}
 use Rattle.choice_draw.proofs.LeastPassing.{least_passing-found, least_passing-none, least_passing-is, least_passing-is_none}
-use Rattle.count_draw.specs.Decision.{top_option}
-use Rattle.count_draw.specs.Table.{Filling, passes_at, least_at, options_of}
+use Rattle.count_draw.specs.declared.kind.CountChoice.TheVariants.{Take}
+use Rattle.count_draw.specs.Decision.{top_option, room_below, chosen_if}
+use Rattle.count_draw.specs.Table.{Filling, passes_at, passed_at, least_at, options_of}
+use Rattle.count_draw.proofs.PartialValues.{not_passed-later}
 
 or_right : (a b : Bool) → b ≡ true → (a || b) ≡ true
 or_right true b h = refl
@@ -59,12 +62,34 @@ pub least-high : (f : ℕ) (t : Filling) (high : Option ℕ) (h room : ℕ) (cel
 least-high f t None h room cell same top low within none = absurd (cc)
 least-high f t (Some k) h room cell same top low within none = let here : k ≡ h = cc in high_least f t k room cell top low (omega arith) none ∙ ap Some here
 
--- the choice where the least option is reached, and where it isn't
-pub choice-reached : (o : Options) (cell : Cell) (i : ℕ) → Some i ≡ least_option o cell → is_reached o cell i ≡ true → choice_of o cell ≡ Some (Choice.Take i)
+-- the choice where the least option is reached
+choice-reached : (o : Options) (cell : Cell) (i : ℕ) → Some i ≡ least_option o cell → is_reached o cell i ≡ true → choice_of o cell ≡ Some (Choice.Take i)
 choice-reached o cell i least reached = ap (choice_from o cell) (sym least) ∙ ap (λ b. cond b (Some (Choice.Take i)) (over_of o cell)) reached
 
-pub choice-not_reached : (o : Options) (cell : Cell) (i : ℕ) → Some i ≡ least_option o cell → is_reached o cell i ≡ false → choice_of o cell ≡ over_of o cell
-choice-not_reached o cell i least unreached = ap (choice_from o cell) (sym least) ∙ ap (λ b. cond b (Some (Choice.Take i)) (over_of o cell)) unreached
+right_fails : (a b : Bool) → (a || b) ≡ false → b ≡ false
+right_fails true b e = absurd (cc)
+right_fails false b e = e
 
-pub choice-missing : (o : Options) (cell : Cell) → None ≡ least_option o cell → choice_of o cell ≡ over_of o cell
-choice-missing o cell least = ap (choice_from o cell) (sym least)
+top-le : (high : Option ℕ) (room : ℕ) → top_option high room ≤ room
+top-le None room = omega arith
+top-le (Some h) room = omega arith
+
+over-fails : (o : Options) (cell : Cell) (room : ℕ) (high : Option ℕ) → begins_after o cell room ≡ false → over_from o cell (room_below high room) ≡ None
+over-fails o cell room None fails = ap (λ b. cond b (Some Choice.Over) None) fails
+over-fails o cell room (Some h) fails = elim (nat_lt room h) as (λ b. over_from o cell (cond b (Some room) None) ≡ None) [
+  | true ↦ ap (λ b. cond b (Some Choice.Over) None) fails
+  | false ↦ refl
+]
+
+-- where it isn't reached, the room doesn't end before the cell either
+choice-not_reached : (f : ℕ) (t : Filling) (high : Option ℕ) (room : ℕ) (cell : Cell) (i : ℕ) → t.room ≡ top_option high room → i ≤ t.room → Some i ≡ least_option (options_of f t high room) cell → is_reached (options_of f t high room) cell i ≡ false → choice_of (options_of f t high room) cell ≡ None
+choice-not_reached f t high room cell i top within least unreached =
+    let before : passed_at f t cell (i - 1) ≡ false = right_fails (nat_eq i t.low) (passed_at f t cell (i - 1)) unreached in
+    ap (choice_from (options_of f t high room) cell) (sym least)
+    ∙ ap (λ b. cond b (Some (Choice.Take i)) (over_of (options_of f t high room) cell)) unreached
+    ∙ over-fails (options_of f t high room) cell room high (not_passed-later f t cell (i - 1) room (omega (arith, top, top-le high room)) before)
+
+-- the choice by whether it is reached
+pub choice-by_reach : (f : ℕ) (t : Filling) (high : Option ℕ) (room : ℕ) (cell : Cell) (i : ℕ) (reached : Bool) → t.room ≡ top_option high room → i ≤ t.room → Some i ≡ least_option (options_of f t high room) cell → is_reached (options_of f t high room) cell i ≡ reached → chosen_if (then_some reached (Take i)) ≡ choice_of (options_of f t high room) cell
+choice-by_reach f t high room cell i true top within least is = sym (choice-reached (options_of f t high room) cell i least is)
+choice-by_reach f t high room cell i false top within least is = sym (choice-not_reached f t high room cell i top within least is)

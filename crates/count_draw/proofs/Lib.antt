@@ -1,4 +1,7 @@
+pub mod SmallTerms
+pub mod NextValues
 pub mod PartialValues
+pub mod Runs
 pub mod LeastOptions
 pub mod CountedNodes
 pub mod CountsSound

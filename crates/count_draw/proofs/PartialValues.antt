@@ -6,7 +6,8 @@ use Rattle.bz_model.specs.declared.cell.Cell.{Cell}
 use Rattle.series_bounds.specs.Series.{Kind, part_down}
 use Rattle.series_bounds.proofs.PartsGrow.{part_down-grows}
 use Rattle.choice_draw.proofs.LeastPassing.{least_passing-is, least_passing-is_none}
-use Rattle.count_draw.specs.Table.{Filling, lower_at, passes_at, least_at, IsBracket}
+use Rattle.count_draw.specs.Table.{Filling, lower_at, upper_at, passes_at, passed_at, least_at, IsBracket}
+use Rattle.count_draw.proofs.NextValues.{part_up-later}
 
 grows_by : (kind : Kind) (f a low i d : ℕ) → part_down kind f a low i ≤ part_down kind f a low (i + d)
 grows_by kind f a low i zero = let same : i ≡ i + 0 = omega arith in subst (λ j. part_down kind f a low i ≤ part_down kind f a low j) same (le_refl (part_down kind f a low i))
@@ -52,3 +53,13 @@ module _ (f : ℕ) (t : Filling) (cell : Cell) where
     passing = between.passing;
     none_before = λ j a b. between.before j a (omega arith);
   })
+
+passed_nat : (w l m n : ℕ) → l ≤ m → w * m ≤ n → w * l ≤ n
+passed_nat w l m n less h = let k : l * w ≤ m * w = mul-le-mul_right w less in omega arith
+
+-- an option that isn't passed is followed by options that aren't
+pub not_passed-later : (f : ℕ) (t : Filling) (cell : Cell) (i j : ℕ) → i ≤ j → passed_at f t cell i ≡ false → passed_at f t cell j ≡ false
+not_passed-later f t cell i j h failing = ⊎_elim
+    (λ yes. let earlier : passed_at f t cell i ≡ true = le-leb _ _ (passed_nat (2 ^ cell.b) (upper_at f t i) (upper_at f t j) (cell.k * t.whole.lo) (part_up-later t.kind f t.part.hi t.low i j t.whole.hi h) (leb-true _ _ yes)) in absurd (cc))
+    (λ no. no)
+    (cases_Bool (passed_at f t cell j))

@@ -41,6 +41,7 @@ choice_ranged f range node e room (Some (Node.Set part)) cell = count_choice Kin
 choice_ranged f range node e room (Some (Node.Cyc part)) cell = count_choice Kind.Cyc f range (node part) (node e) room cell
 choice_ranged f range node e room _ cell = None
 
+-- What a cell decides at a node whose range may be missing.
 abbrev pub choice_at : (f : ℕ) → (node : ℕ → Bounds) → (e room : ℕ) → Option Node → Option Range → Cell → Option Choice
 choice_at f node e room n None cell = None
 choice_at f node e room n (Some range) cell = choice_ranged f range node e room n cell
@@ -54,6 +55,7 @@ abbrev pub chosen : CountChoice → Choice
 chosen (Take value) = Choice.Take value
 chosen Over = Choice.Over
 
+-- What the code's choice says, where there is one.
 abbrev pub chosen_if : Option CountChoice → Option Choice
 chosen_if None = None
 chosen_if (Some choice) = Some (chosen choice)

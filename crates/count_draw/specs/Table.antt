@@ -1,8 +1,10 @@
 -- Tables of the partial values of one choice among numbers of parts.
-use Rattle.std.specs.Prelude.{◌≡◌, ℕ, suc, ◌-◌, ◌*◌, ◌^◌, ◌<◌, ◌≤◌, Bool, true, false, nat_le, Option}
+use Rattle.std.specs.Prelude.{◌≡◌, ℕ, suc, ◌-◌, ◌*◌, ◌^◌, ◌<◌, ◌≤◌, Bool, true, false, nat_le, List, length, slice_index, Option}
 use Rattle.bz_model.specs.declared.cell.Cell.{Cell}
 use Rattle.bz_model.specs.declared.cell.Bounds.{Bounds}
-use Rattle.series_bounds.specs.Series.{Kind, part_down, part_up}
+use Rattle.series_bounds.specs.Series.{Kind, carried, part_down, part_up}
+use Rattle.fixed_enclosure.specs.Rounded.{Side}
+use Rattle.fixed_enclosure.specs.Rounded.Side.{Down, Up}
 use Rattle.series_bounds.specs.ExactSums.{first_term}
 use Rattle.choice_draw.specs.Decision.{Options, least_passing}
 use Rattle.count_draw.specs.Decision.{counted_options}
@@ -52,3 +54,39 @@ pub record IsBracket (f : ℕ) (t : Filling) (cell : Cell) (from to : ℕ) : Typ
   pub room : to ≤ t.room
   pub before : (j : ℕ) → t.low ≤ j → j < from → passes_at f t cell j ≡ false
   pub passing : passes_at f t cell to ≡ true
+
+-- No option before the place passes.
+pub record NonePasses (f : ℕ) (t : Filling) (cell : Cell) (place : ℕ) : Type 0 where
+  pub before : (j : ℕ) → t.low ≤ j → j < place → passes_at f t cell j ≡ false
+
+-- The part's bound of a side.
+abbrev pub bound_of : Side → Filling → ℕ
+bound_of Down t = t.part.lo
+bound_of Up t = t.part.hi
+
+-- The value of a side from the low to i parts.
+abbrev pub value_at : Side → (f : ℕ) → Filling → (i : ℕ) → ℕ
+value_at Down f t i = lower_at f t i
+value_at Up f t i = upper_at f t i
+
+-- A run of the terms of a side stands at a place: the power is the number carried to it, and the sum is the value up to it.
+pub record IsRun (side : Side) (f : ℕ) (t : Filling) (place power sum : ℕ) : Type 0 where
+  pub carried_to : power ≡ carried side t.kind f (bound_of side t) place
+  pub summed : sum ≡ value_at side f t place
+
+-- These are the lower values up to the first options.
+pub record AreLower (f : ℕ) (t : Filling) (values : List ℕ) : Type 0 where
+  pub at : (i : ℕ) → i < length values → slice_index values i ≡ lower_at f t i
+
+-- These are the upper values up to the first options.
+pub record AreUpper (f : ℕ) (t : Filling) (values : List ℕ) : Type 0 where
+  pub at : (i : ℕ) → i < length values → slice_index values i ≡ upper_at f t i
+
+-- A table keeps the values up to the first 256 options, and the run of the lower terms at the last of them.
+pub record IsKept (f : ℕ) (t : Filling) (lower upper : List ℕ) (place power sum : ℕ) : Type 0 where
+  pub small : t.part.lo ≤ 2 ^ f
+  pub lower_count : length lower ≡ 256
+  pub upper_count : length upper ≡ 256
+  pub lower_kept : AreLower f t lower
+  pub upper_kept : AreUpper f t upper
+  pub run : IsRun Down f t place power sum

@@ -16,7 +16,7 @@ ghost use Rattle.count_draw.specs.Answer.{IsCountDrawn, OnCount, OnOver, HasCell
 use crate::cells::{half_of, level_at};
 use crate::drawn::CountDrawn;
 use crate::kind::{CountChoice, CountKind};
-use crate::table::CountTable;
+use crate::sums::CountSums;
 use bit_tape::tape::{BitAnswer, Tape};
 use bz_model::cell::{Bounds, Cell};
 use bz_model::oracle::Oracle;
@@ -170,8 +170,8 @@ fn decide_by_table<const F: u32, O: Oracle<F>>(
     let whole = oracle.bounds(node.0, level)?;
     let Counted { kind, range, .. } = counted;
     let top = top_of(range.high, room);
-    let table = CountTable::<F>::fill(kind, u64::from(range.low), part, whole, top);
-    choose(&table, range.high, room, cell)
+    let sums = CountSums::<F>::new(kind, u64::from(range.low), part, whole, top);
+    choose(&sums, range.high, room, cell)
 }
 
 /// The greatest number of parts that may be taken: the lesser of the high and the room.
@@ -184,42 +184,41 @@ fn top_of(high: Option<u32>, room: u64) -> u64
     }
 }
 
-/// What a cell decides among the options of a table.
+/// What a cell decides among the options of these sums. Where the least option isn't reached, the
+/// room doesn't end before the cell either.
 fn choose<const F: u32>(
-    table: &CountTable<F>,
+    sums: &CountSums<F>,
     high: Option<u32>,
     room: u64,
     cell: Cell,
 ) -> Option<CountChoice>
     requires fraction { (24 ≤ F) × (F ≤ 56) }
-    requires top { table.now.room ≡ top_option high room }
-    requires within { IsWithinHigh table.now.low high }
+    requires top { sums.now.room ≡ top_option high room }
+    requires within { IsWithinHigh sums.now.low high }
     requires cell { IsCell cell.k cell.b }
-    ensures exact { chosen_if result ≡ choice_of (options_of F table.now high room) cell }
+    ensures exact { chosen_if result ≡ choice_of (options_of F sums.now high room) cell }
 {
-    if let Some(option) = least_or_high(table, high, room, cell) {
-        if reaches(table, cell, option) {
-            return Some(CountChoice::Take(option));
-        }
+    match least_or_high(sums, high, room, cell) {
+        Some(option) => reaches(sums, cell, option).then_some(CountChoice::Take(option)),
+        None => over(sums, high, room, cell),
     }
-    over(table, high, room, cell)
 }
 
 /// The least option that passes the first test, or else the high, where it is an option.
 fn least_or_high<const F: u32>(
-    table: &CountTable<F>,
+    sums: &CountSums<F>,
     high: Option<u32>,
     room: u64,
     cell: Cell,
 ) -> Option<u64>
     requires fraction { (24 ≤ F) × (F ≤ 56) }
-    requires top { table.now.room ≡ top_option high room }
-    requires within { IsWithinHigh table.now.low high }
+    requires top { sums.now.room ≡ top_option high room }
+    requires within { IsWithinHigh sums.now.low high }
     requires cell { IsCell cell.k cell.b }
-    ensures exact { result ≡ least_option (options_of F table.now high room) cell }
-    ensures in_range { IfSome result (λ i. (table.now.low ≤ i) × (i ≤ table.now.room)) }
+    ensures exact { result ≡ least_option (options_of F sums.now high room) cell }
+    ensures in_range { IfSome result (λ i. (sums.now.low ≤ i) × (i ≤ sums.now.room)) }
 {
-    if let Some(option) = table.least(cell) {
+    if let Some(option) = sums.least(cell) {
         return Some(option);
     }
     let high = u64::from(high?);
@@ -227,30 +226,72 @@ fn least_or_high<const F: u32>(
 }
 
 /// Whether an option is the first, or no number of the cell lies before the end of the one before it.
-fn reaches<const F: u32>(table: &CountTable<F>, cell: Cell, option: u64) -> bool
+fn reaches<const F: u32>(sums: &CountSums<F>, cell: Cell, option: u64) -> bool
     requires fraction { (24 ≤ F) × (F ≤ 56) }
     requires cell { IsCell cell.k cell.b }
-    requires first { table.now.low ≤ option }
-    requires option { option ≤ table.now.room }
-    ensures exact { (high : Option ℕ) (room : ℕ) → is_reached (options_of F table.now high room) cell option ≡ result }
+    requires first { sums.now.low ≤ option }
+    requires option { option ≤ sums.now.room }
+    ensures exact { (high : Option ℕ) (room : ℕ) → is_reached (options_of F sums.now high room) cell option ≡ result }
 {
-    option == table.low() || table.is_passed(cell, option - 1)
+    option == sums.low() || sums.is_passed(cell, option - 1)
 }
 
 /// `Over` where options above the room exist, and no number of the cell lies before the room's end.
 fn over<const F: u32>(
-    table: &CountTable<F>,
+    sums: &CountSums<F>,
     high: Option<u32>,
     room: u64,
     cell: Cell,
 ) -> Option<CountChoice>
     requires fraction { (24 ≤ F) × (F ≤ 56) }
-    requires top { table.now.room ≡ top_option high room }
+    requires top { sums.now.room ≡ top_option high room }
     requires cell { IsCell cell.k cell.b }
-    ensures exact { chosen_if result ≡ over_of (options_of F table.now high room) cell }
+    ensures exact { chosen_if result ≡ over_of (options_of F sums.now high room) cell }
 {
     if high.is_some_and(|high| u64::from(high) <= room) {
         return None;
     }
-    table.is_passed(cell, room).then_some(CountChoice::Over)
+    sums.is_passed(cell, room).then_some(CountChoice::Over)
+}
+
+#[cfg(test)]
+mod tests {
+    use super::*;
+
+    const ONE: u64 = 1 << 24;
+
+    /// What a cell of two bits decides for sequences of parts of value 1/2, whose whole has this lower
+    /// bound and the upper bound 2.
+    fn chosen(lo: u64, high: Option<u32>, room: u64, k: u64) -> Option<CountChoice>
+        requires room { room ≤ 300 }
+        requires cell { k < 4 }
+    {
+        let half = Bounds {
+            lo: ONE / 2,
+            hi: ONE / 2,
+        };
+        let whole = Bounds { lo, hi: 2 * ONE };
+        let sums = CountSums::<24>::new(CountKind::Seq, 0, half, whole, top_of(high, room));
+        choose(&sums, high, room, Cell { k, b: 2 })
+    }
+
+    #[test]
+    fn a_cell_at_a_threshold_decides(rt: HostRuntime) {
+        for (below, high, room, k, want) in [
+            (0, None, 300, 1, Some(CountChoice::Take(0))),
+            (0, None, 300, 2, Some(CountChoice::Take(1))),
+            (1, None, 300, 2, None),
+            (0, None, 300, 3, None),
+            (0, None, 0, 1, Some(CountChoice::Take(0))),
+            (0, None, 0, 2, Some(CountChoice::Over)),
+            (1, None, 0, 2, None),
+            (0, Some(1), 300, 3, Some(CountChoice::Take(1))),
+            (0, Some(1), 0, 2, Some(CountChoice::Over)),
+            (0, Some(0), 0, 3, Some(CountChoice::Take(0))),
+        ] {
+            assert!(rt; k < 4 && room <= 300 && below <= 1);
+            let got = chosen(2 * ONE - below, high, room, k);
+            assert_eq!(rt; got, want, "cell {k}/2 at room {room}");
+        }
+    }
 }

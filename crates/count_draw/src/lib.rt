@@ -4,11 +4,17 @@
 //! of a table of bounds (`specs/Decision.antt`): the least number of parts whose lower value ends
 //! after the cell, where the upper value of one part less ends before it, or that every number up to
 //! a room is passed over. A number decided is the ideal option of every number of the cell, and where
-//! all are passed over, none is ideal. No clause says that a cell is ever decided.
+//! all are passed over, none is ideal.
+//!
+//! A draw sums for each cell the few terms that decide it. A [`table::CountTable`] keeps the partial
+//! values of the first 256 numbers of parts (`specs/Table.antt`), for many cells of one choice. No
+//! clause says that a cell is ever decided, nor what a tape's bits are where its shelf doesn't tell.
 #![tactic(auto)]
 
 mod cells;
 pub mod count;
 pub mod drawn;
 pub mod kind;
+mod sums;
 pub mod table;
+mod terms;

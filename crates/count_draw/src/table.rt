@@ -1,38 +1,43 @@
-//! The partial values of one choice among numbers of parts.
-ghost use Rattle.std.specs.Prelude.{◌≡◌, ◌<◌, ◌≤◌, Some, None, IfSome, IfNone};
+//! Tables of the partial values of one choice among numbers of parts.
+ghost use Rattle.std.specs.Prelude.{◌≡◌, ◌^◌, ◌≤◌, length, IfSome};
 ghost use Rattle.bz_model.specs.Cell.{IsCell};
-ghost use Rattle.series_bounds.specs.Series.{part_down, part_up};
+ghost use Rattle.fixed_enclosure.specs.Rounded.{Side};
 ghost use Rattle.series_bounds.specs.ExactSums.{first_term};
 ghost use Rattle.count_draw.specs.Kinds.{kind_of};
-ghost use Rattle.count_draw.specs.Table.{lower_at, upper_at, passes_at, passed_at, least_at, IsBracket};
+ghost use Rattle.count_draw.specs.Table.{lower_at, upper_at, least_at, AreLower, AreUpper, IsRun};
 
-use crate::cells::{begins_after, ends_before};
 use crate::kind::CountKind;
+use crate::sums::{Bracket, CountSums, Run};
 use bz_model::cell::{Bounds, Cell};
-use fixed_enclosure::{Hi, Lo};
-use series_bounds::{cyc_part_hi, cyc_part_lo, seq_part_hi, seq_part_lo, set_part_hi, set_part_lo};
+use fixed_enclosure::narrow::power_of_two;
 use std::marker::Model;
+
+/// How many options have their values kept.
+const KEPT: u64 = 256;
 
 /// The lower and upper values, in units of `2^-F`, of the objects with at most i parts, for each i up
 /// to a room.
-#[derive(Debug, Drop)]
+///
+/// Those up to 255 parts are kept where the bounds of the part are at most 1; others are summed where
+/// they are asked.
+#[derive(Drop)]
 pub struct CountTable<const F: u32> {
-    kind: CountKind,
-    low: u64,
-    part: Bounds,
-    whole: Bounds,
-    room: u64,
+    sums: CountSums<F>,
+    is_kept: bool,
+    lower: [u64; 256],
+    upper: [u64; 256],
+    last: Run,
 }
 
 impl<const F: u32> Model for CountTable<F> {
-    ghost use Rattle.count_draw.specs.Kinds.{kind_of};
-    ghost use Rattle.count_draw.specs.Table.{Filling, IsFilling};
+    ghost use Rattle.std.specs.Prelude.{IsTrue};
+    ghost use Rattle.count_draw.specs.Table.{Filling, IsKept};
 
     ghost Value = { Filling };
 
-    ghost view = { λ t. record { kind = kind_of t.kind; low = t.low; part = t.part; whole = t.whole; room = t.room } };
+    ghost view = { λ t. t.sums };
 
-    ghost invariant = { λ t. IsFilling (record { kind = kind_of t.kind; low = t.low; part = t.part; whole = t.whole; room = t.room }) };
+    ghost invariant = { λ t. IsTrue t.is_kept → IsKept F t.sums t.lower t.upper t.last.place t.last.power t.last.sum };
 }
 
 impl<const F: u32> CountTable<F> {
@@ -45,20 +50,26 @@ impl<const F: u32> CountTable<F> {
         requires room { room ≤ 1000000 }
         ensures filled { result ≡ record { kind = kind_of kind; low = low; part = part; whole = whole; room = room } }
     {
-        CountTable {
-            kind,
-            low,
-            part,
-            whole,
-            room,
+        let sums = CountSums::new(kind, low, part, whole, room);
+        let mut lower = [0; 256];
+        let mut upper = [0; 256];
+        let mut last = Run {
+            place: 0,
+            power: 0,
+            sum: 0,
+        };
+        let is_kept = u128::from(part.lo.max(part.hi)) <= power_of_two(F);
+        if is_kept {
+            last = keep_lower(&sums, &mut lower);
+            keep_upper(&sums, &mut upper);
         }
-    }
-
-    /// The least number of parts.
-    pub(crate) fn low(&self) -> u64
-        ensures { result ≡ self.now.low }
-    {
-        self.low
+        CountTable {
+            sums,
+            is_kept,
+            lower,
+            upper,
+            last,
+        }
     }
 
     /// The lower value of the objects with at most i parts: 0 below the low. Takes no memory.
@@ -67,7 +78,11 @@ impl<const F: u32> CountTable<F> {
         requires option { i ≤ self.now.room }
         ensures exact { result ≡ lower_at F self.now i }
     {
-        lower_value::<F>(self.kind, self.part.lo, self.low, i)
+        if self.is_kept && i < KEPT {
+            self.lower[i as usize]
+        } else {
+            self.sums.lower(i)
+        }
     }
 
     /// The upper value of the objects with at most i parts, at most that of the whole node: 0 below
@@ -77,122 +92,98 @@ impl<const F: u32> CountTable<F> {
         requires option { i ≤ self.now.room }
         ensures exact { result ≡ upper_at F self.now i }
     {
-        upper_value::<F>(self.kind, self.part.hi, self.low, i, self.whole.hi)
+        if self.is_kept && i < KEPT {
+            self.upper[i as usize]
+        } else {
+            self.sums.upper(i)
+        }
     }
 
     /// The least number of parts up to the room whose end lies after every number of the cell;
     /// `None` exactly where there is none. Takes no memory.
+    ///
+    /// Among the numbers up to 255 it is found by halves, beyond them by a pass over the terms.
     pub fn least(&self, cell: Cell) -> Option<u64>
         requires fraction { (24 ≤ F) × (F ≤ 56) }
         requires cell { IsCell cell.k cell.b }
         ensures exact { result ≡ least_at F self.now cell }
         ensures in_range { IfSome result (λ i. (self.now.low ≤ i) × (i ≤ self.now.room)) }
     {
-        let bracket = self.bracket(cell)?;
-        Some(self.least_between(cell, bracket))
-    }
-
-    /// Whether no number of the cell lies before the end of option i.
-    pub(crate) fn is_passed(&self, cell: Cell, i: u64) -> bool
-        requires fraction { (24 ≤ F) × (F ≤ 56) }
-        requires cell { IsCell cell.k cell.b }
-        requires option { i ≤ self.now.room }
-        ensures exact { result ≡ passed_at F self.now cell i }
-    {
-        begins_after(cell, self.upper(i), self.whole.lo)
-    }
-
-    /// Options between which the least lies, found by steps of doubling length from the low on.
-    fn bracket(&self, cell: Cell) -> Option<Bracket>
-        requires fraction { (24 ≤ F) × (F ≤ 56) }
-        requires cell { IsCell cell.k cell.b }
-        ensures found { IfSome result (λ r. IsBracket F self.now cell r.from r.to) }
-        ensures none { IfNone result (least_at F self.now cell ≡ None) }
-    {
-        if self.room < self.low {
+        let from = self.sums.low();
+        let to = self.last.place.min(self.sums.room());
+        if !self.is_kept || to < from {
+            return self.sums.least(cell);
+        }
+        if self.sums.passes(cell, to, &self.lower) {
+            return Some(
+                self.sums
+                    .least_between(cell, Bracket { from, to }, &self.lower),
+            );
+        }
+        if to < self.last.place {
             return None;
         }
-        let mut from = self.low;
-        let mut to = self.low;
-        'steps: loop {
-            if self.passes(cell, to) {
-                return Some(Bracket { from, to });
-            }
-            if to >= self.room {
-                return None;
-            }
-            from = to + 1;
-            to = (2 * from - self.low - 1).min(self.room);
+        self.sums.least_from(cell, self.last)
+    }
+}
+
+/// Writes the lower values up to the first options, and gives the run of the terms at the last.
+fn keep_lower<const F: u32>(sums: &CountSums<F>, values: &mut [u64; 256]) -> Run
+    requires fraction { (24 ≤ F) × (F ≤ 56) }
+    requires small { sums.now.part.lo ≤ 2 ^ F }
+    ensures kept { AreLower F sums.now values.new }
+    ensures run { IsRun Side.Down F sums.now result.place result.power result.sum }
+    ensures count { length values.new ≡ 256 }
+{
+    let mut run = sums.start_down();
+    values[0] = run.sum;
+    for i in 1..256 {
+        run = sums.next_down(run);
+        values[i] = run.sum;
+    }
+    run
+}
+
+/// Writes the upper values up to the first options.
+fn keep_upper<const F: u32>(sums: &CountSums<F>, values: &mut [u64; 256])
+    requires fraction { (24 ≤ F) × (F ≤ 56) }
+    requires small { sums.now.part.hi ≤ 2 ^ F }
+    ensures kept { AreUpper F sums.now values.new }
+    ensures count { length values.new ≡ 256 }
+{
+    let mut run = sums.start_up();
+    values[0] = run.sum;
+    for i in 1..256 {
+        run = sums.next_up(run);
+        values[i] = run.sum;
+    }
+}
+
+#[cfg(test)]
+mod tests {
+    use super::*;
+
+    const ONE: u64 = 1 << 24;
+
+    #[test]
+    fn a_table_of_sequences_tells_values_and_the_least_option(rt: HostRuntime) {
+        let half = Bounds {
+            lo: ONE / 2,
+            hi: ONE / 2,
+        };
+        let two = Bounds {
+            lo: 2 * ONE - 1,
+            hi: 2 * ONE,
+        };
+        let table = CountTable::<24>::fill(CountKind::Seq, 0, half, two, 300);
+        assert_eq!(rt; (table.lower(3), table.upper(3)), (31457280, 31457280));
+        assert_eq!(rt;
+            (table.lower(300), table.upper(300)),
+            (2 * ONE - 1, 2 * ONE)
+        );
+        for (k, want) in [(0, Some(0)), (1, Some(0)), (2, Some(1)), (3, None)] {
+            assert!(rt; k < 4);
+            assert_eq!(rt; table.least(Cell { k, b: 2 }), want, "cell {k}/2");
         }
     }
-
-    /// The least option that passes, found by halves.
-    fn least_between(&self, cell: Cell, bracket: Bracket) -> u64
-        requires fraction { (24 ≤ F) × (F ≤ 56) }
-        requires cell { IsCell cell.k cell.b }
-        requires bracket { IsBracket F self.now cell bracket.from bracket.to }
-        ensures exact { least_at F self.now cell ≡ Some result }
-        ensures in_range { (self.now.low ≤ result) × (result ≤ self.now.room) }
-    {
-        let mut from = bracket.from;
-        let mut to = bracket.to;
-        'halves: while from < to {
-            let middle = from + (to - from) / 2;
-            if self.passes(cell, middle) {
-                to = middle;
-            } else {
-                from = middle + 1;
-            }
-        }
-        to
-    }
-
-    /// Whether every number of the cell lies before the end of option i.
-    fn passes(&self, cell: Cell, i: u64) -> bool
-        requires fraction { (24 ≤ F) × (F ≤ 56) }
-        requires cell { IsCell cell.k cell.b }
-        requires option { i ≤ self.now.room }
-        ensures exact { result ≡ passes_at F self.now cell i }
-    {
-        ends_before(cell, self.lower(i), self.whole.hi)
-    }
-}
-
-/// The options from one on that may be the least that passes, up to one that passes.
-#[derive(Clone, Copy)]
-struct Bracket {
-    from: u64,
-    to: u64,
-}
-
-/// The lower sum of the terms from `low` to `i`.
-fn lower_value<const F: u32>(kind: CountKind, a: u64, low: u64, i: u64) -> u64
-    requires fraction { (24 ≤ F) × (F ≤ 56) }
-    requires first { first_term (kind_of kind) ≤ low }
-    requires few { low ≤ 64 }
-    requires option { i ≤ 1000000 }
-    ensures exact { result ≡ part_down (kind_of kind) F a low i }
-{
-    let sum = match kind {
-        CountKind::Seq => seq_part_lo(Lo::<F>(a), low, i),
-        CountKind::Set => set_part_lo(Lo::<F>(a), low, i),
-        CountKind::Cyc => cyc_part_lo(Lo::<F>(a), low, i),
-    };
-    sum.0
-}
-
-/// The upper sum of the terms from `low` to `i`, at most the cap.
-fn upper_value<const F: u32>(kind: CountKind, a: u64, low: u64, i: u64, cap: u64) -> u64
-    requires fraction { (24 ≤ F) × (F ≤ 56) }
-    requires first { first_term (kind_of kind) ≤ low }
-    requires few { low ≤ 64 }
-    requires option { i ≤ 1000000 }
-    ensures exact { result ≡ part_up (kind_of kind) F a low i cap }
-{
-    let sum = match kind {
-        CountKind::Seq => seq_part_hi(Hi::<F>(a), low, i, Hi(cap)),
-        CountKind::Set => set_part_hi(Hi::<F>(a), low, i, Hi(cap)),
-        CountKind::Cyc => cyc_part_hi(Hi::<F>(a), low, i, Hi(cap)),
-    };
-    sum.0
 }

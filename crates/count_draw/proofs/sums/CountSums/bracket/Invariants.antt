@@ -1,6 +1,6 @@
 use Rattle.std.proofs.Common.{◌≡◌, ◌<◌, ◌≤◌, ◌-◌, ℕ, false}
 use Rattle.count_draw.specs.Table.{passes_at}
-use Rattle.count_draw.proofs.table.CountTable.bracket.Given as goal
+use Rattle.count_draw.proofs.sums.CountSums.bracket.Given as goal
 
 -- all options before the first of the step fail
 abbrev pub invariant-steps : goal.invariant-steps

@@ -2,7 +2,7 @@
 use Rattle.std.proofs.Common.{◌≡◌, ◌+◌, ◌-◌, ◌/◌, arith, false, sym, ◌∙◌, refl}
 use Rattle.count_draw.specs.Table.{passes_at}
 use Rattle.count_draw.proofs.PartialValues.{fails-before, least-between}
-use Rattle.count_draw.proofs.table.CountTable.least_between.Goals as goal
+use Rattle.count_draw.proofs.sums.CountSums.least_between.Goals as goal
 
 pub halves-preserved : goal.halves-preserved
 halves-preserved g c =

@@ -2,7 +2,7 @@
 use Rattle.std.proofs.Common.{◌≡◌, ◌+◌, arith, false, sym, ◌∙◌, ap, refl}
 use Rattle.count_draw.specs.Table.{Filling, passes_at}
 use Rattle.count_draw.proofs.PartialValues.{least-none, fails-earlier, fails-before}
-use Rattle.count_draw.proofs.table.CountTable.bracket.Goals as goal
+use Rattle.count_draw.proofs.sums.CountSums.bracket.Goals as goal
 
 pub returns-then-to-self-clause-none : goal.returns-then-to-self-clause-none
 returns-then-to-self-clause-none g c =

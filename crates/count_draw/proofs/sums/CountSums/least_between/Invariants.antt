@@ -1,6 +1,6 @@
 use Rattle.std.proofs.Common.{◌-◌}
 use Rattle.count_draw.specs.Table.{IsBracket}
-use Rattle.count_draw.proofs.table.CountTable.least_between.Given as goal
+use Rattle.count_draw.proofs.sums.CountSums.least_between.Given as goal
 
 -- the least option lies between the two
 abbrev pub invariant-halves : goal.invariant-halves
