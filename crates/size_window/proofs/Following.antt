@@ -28,7 +28,7 @@ use Rattle.shape_sampler.proofs.Visits.{begins}
 use Rattle.size_window.specs.RunByBits
 use Rattle.size_window.specs.RunByBits.{Limits, Sampling, State, Entry, Turned, Course, Ending, added, start, quiet, ended, entry_of, thrown_away, kept_one, shape_made, kept_or_waits, went, visited, shape_turn, counted_turn, open_turn, turn_unless, turn, fault_place, followed_by, one_turn_on, at_start, after, with_attempt}
 use Rattle.size_window.specs.Ideally.{DecidesIdeally}
-use Rattle.size_window.specs.Follows.{IsEntryOf, AreEntriesOf, window_of, Follows}
+use Rattle.size_window.specs.Follows.{AreEntriesOf, window_of, Follows}
 use Rattle.size_window.proofs.Going.{entries-more}
 use Rattle.size_window.proofs.Visiting.{IsIdeally, node-ideally, at_index}
 use Rattle.size_window.proofs.VisitCells.{ExtendsCells, node-extends, PendsBelow, node-pends}
