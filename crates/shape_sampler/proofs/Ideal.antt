@@ -1,19 +1,23 @@
 -- An attempt that belongs still belongs after a visit, and what it made or overshot is ideal.
-use Rattle.std.proofs.Common.{◌≡◌, ℕ, zero, suc, ◌<◌, List, [], ◌∷◌, ◌++◌, length, subst, append-nil, Some, slice_get}
+use Rattle.std.proofs.Common.{◌≡◌, ◌⊎◌, ℕ, zero, suc, ◌<◌, ◌≤◌, List, [], ◌∷◌, ◌++◌, length, replicate, subst, append-nil, Some, slice_get}
 use Rattle.bz_model.specs.declared.cell.Cell.{Cell}
 use Rattle.bz_model.specs.Fraction.{Fraction}
 use Rattle.bz_model.specs.Spec.{Spec, Node, node_at, body_of}
 use Rattle.bz_model.specs.Cell.{IsInCell}
+use Rattle.bz_model.specs.Object.{Object, Objects}
+use Rattle.bz_model.specs.Measures.{HasZero}
 use Rattle.bz_model.specs.Ideal.{IsIdealOption}
+use Rattle.bz_model.specs.Making.{IsCounted}
 use Rattle.bz_laws.proofs.Samples.{AllByRecursion-append}
 use Rattle.class_system.specs.Sound.{IsSound}
 use Rattle.object_store.specs.declared.token.Token.{Token}
 use Rattle.object_store.specs.declared.token.Token.TheVariants as token
 use Rattle.object_store.specs.Walk.{AllBelow}
-use Rattle.object_store.proofs.InRange.{body-below, union-parts, product-parts}
-use Rattle.shape_sampler.specs.Visit.{Attempt, Visited, leaf_visited, atom_visited, with_pending, with_token, with_cell}
+use Rattle.object_store.proofs.InRange.{body-below, union-parts, product-parts, replicate-below}
+use Rattle.choice_draw.specs.IdealOfCell.{IsIdealOfCell, IsOverOfCell}
+use Rattle.shape_sampler.specs.Visit.{Attempt, Visited, leaf_visited, atom_visited, with_pending, with_token, with_cell, given_up}
 use Rattle.shape_sampler.specs.Belonging.{Belonging, GoesOn, IsIdealShape, IsIdealOver}
-use Rattle.shape_sampler.proofs.Visits.{goes-on, is-over, empty-turns, atom-turns, atom-over, class-turns, product-turns, union-turns}
+use Rattle.shape_sampler.proofs.Visits.{goes-on, is-over, empty-turns, atom-turns, atom-over, class-turns, product-turns, union-turns, counted-turns, counted-over}
 use Rattle.shape_sampler.proofs.Shapes.{ideal-shape}
 
 -- A visit that goes on leaves an attempt that belongs, and the ideal shape where nothing is pending; one that is over is ideally over.
@@ -61,3 +65,9 @@ module _ (s : Spec) (x : Fraction) (whole : ℕ) where
 
       pub ideal-union : (parts : List ℕ) (i part : ℕ) (cell : Cell) → node_at s e ≡ Some (Node.Union parts) → slice_get parts i ≡ Some part → ((u : Fraction) → IsInCell cell.k cell.b u → IsIdealOption s x u e i) → IsIdealVisit s x whole (Visited.Went (with_pending (with_token (with_cell a cell) (token.Pick i)) (part ∷ rest)))
       ideal-union parts i part cell at is_part ideal = went (with_pending (with_token (with_cell a cell) (token.Pick i)) (part ∷ rest)) (union-parts s sound e parts at i part is_part, range.1) (goes-on s x now (union-turns s x e i part a.room parts rest cell at is_part ideal))
+
+    pub ideal-counted : (i part : ℕ) (node : Node) (form : Objects → Object) (cell : Cell) → node_at s e ≡ Some node → IsCounted node part form → part < length s.nodes → (i ≤ a.room) ⊎ HasZero s part → IsIdealOfCell s x e cell i → IsIdealVisit s x whole (Visited.Went (with_pending (with_token (with_cell a cell) (token.Count i)) (replicate i part ++ rest)))
+    ideal-counted i part node form cell at is part_in small ideal = went (with_pending (with_token (with_cell a cell) (token.Count i)) (replicate i part ++ rest)) (AllByRecursion-append (λ n. n < length s.nodes) (replicate i part) rest (replicate-below (length s.nodes) i part part_in) range.1) (goes-on s x now (counted-turns s x e i part a.room node form rest cell at is small ideal))
+
+    pub ideal-over : (part : ℕ) (node : Node) (form : Objects → Object) (cell : Cell) → node_at s e ≡ Some node → IsCounted node part form → ¬ (HasZero s part) → IsOverOfCell s x e cell a.room → IsIdealVisit s x whole (Visited.Over (given_up (with_cell a cell)))
+    ideal-over part node form cell at is no_zero never = is-over s x now (counted-over s x e part a.room node form rest cell at is no_zero never)

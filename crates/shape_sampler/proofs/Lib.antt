@@ -6,3 +6,5 @@ pub mod Shapes
 pub mod Ideal
 pub mod Plain
 pub mod Union
+pub mod FreeParts
+pub mod CountVisits

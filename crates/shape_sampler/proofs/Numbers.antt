@@ -40,7 +40,7 @@ one_in (u ∷ v ∷ us) c h = elim h.1 [ ]
 pub least : Cell → Fraction
 least c = record { num = c.k; den = 2 ^ c.b; positive = pow_pos c.b }
 
-least-in : (c : Cell) → IsInCell c.k c.b (least c)
+pub least-in : (c : Cell) → IsInCell c.k c.b (least c)
 unfolding least
 least-in c = record { from = omega arith; to = let p = pow_pos c.b in omega arith }
 

@@ -54,9 +54,9 @@ class-visit s before now answer e k body first at is_body p ne = record { same =
         ∙ ap (visit_among c bit a) (sym f.whole)
 
 -- a visit by every chooser is one by a chooser that decides by a table, over the bits that are told
-pub plain-exact : (s : Spec) (table : (level e : ℕ) → Bounds) (before now : SessionState) (answer : Stepped) (start : ℕ) → (answer ≢ OutOfMemory → IsVisitOfAll s before answer now) → (told : Option (ℕ → Option Bool)) → IfSome told (λ bits. (c : Chooser) → ChoosesBy s table c → IsVisit c bits before start answer now start)
-plain-exact s table before now answer start h None = tt
-plain-exact s table before now answer start h (Some bits) = λ c by. record { same = λ ne. (h ne).same c (bit_of bits (fault_place answer start)) start by.same_spec }
+pub plain-exact : (s : Spec) (F : ℕ) (table : (level e : ℕ) → Bounds) (before now : SessionState) (answer : Stepped) (start : ℕ) → (answer ≢ OutOfMemory → IsVisitOfAll s before answer now) → (told : Option (ℕ → Option Bool)) → IfSome told (λ bits. (c : Chooser) → ChoosesBy s F table c → IsVisit c bits before start answer now start)
+plain-exact s F table before now answer start h None = tt
+plain-exact s F table before now answer start h (Some bits) = λ c by. record { same = λ ne. (h ne).same c (bit_of bits (fault_place answer start)) start by.same_spec }
 
 -- a visit that takes no number draws no cell
 pub plain-draws : (answer : Stepped) (before now : SessionState) (start used : ℕ) → IsPlainAnswer answer → now.cells ≡ before.cells → Draws answer before now start used

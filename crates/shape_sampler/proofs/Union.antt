@@ -50,7 +50,7 @@ settle node parts d seen before now answer es ts cs is root whole room pending t
 }
 
 -- Two sessions with the same parts are the same.
-same-state : (a b : SessionState) → a.root ≡ b.root → a.whole ≡ b.whole → a.pending ≡ b.pending → a.tokens ≡ b.tokens → a.cells ≡ b.cells → a.room ≡ b.room → a.stopped ≡ b.stopped → a ≡ b
+pub same-state : (a b : SessionState) → a.root ≡ b.root → a.whole ≡ b.whole → a.pending ≡ b.pending → a.tokens ≡ b.tokens → a.cells ≡ b.cells → a.room ≡ b.room → a.stopped ≡ b.stopped → a ≡ b
 same-state a b root whole pending tokens cells room stopped =
     ap (λ r. record a { root = r }) root
     ∙ ap (λ w. record a { root = b.root; whole = w }) whole
@@ -60,7 +60,7 @@ same-state a b root whole pending tokens cells room stopped =
     ∙ ap (λ r. record a { root = b.root; whole = b.whole; pending = b.pending; tokens = b.tokens; cells = b.cells; room = r }) room
     ∙ ap (λ s. record a { root = b.root; whole = b.whole; pending = b.pending; tokens = b.tokens; cells = b.cells; room = b.room; stopped = s }) stopped
 
-same-attempt : (a b : Attempt) → a.pending ≡ b.pending → a.tokens ≡ b.tokens → a.cells ≡ b.cells → a.room ≡ b.room → a.used ≡ b.used → a ≡ b
+pub same-attempt : (a b : Attempt) → a.pending ≡ b.pending → a.tokens ≡ b.tokens → a.cells ≡ b.cells → a.room ≡ b.room → a.used ≡ b.used → a ≡ b
 same-attempt a b pending tokens cells room used =
     ap (λ es. record a { pending = es }) pending
     ∙ ap (λ ts. record a { pending = b.pending; tokens = ts }) tokens
@@ -68,19 +68,19 @@ same-attempt a b pending tokens cells room used =
     ∙ ap (λ r. record a { pending = b.pending; tokens = b.tokens; cells = b.cells; room = r }) room
     ∙ ap (λ u. record a { pending = b.pending; tokens = b.tokens; cells = b.cells; room = b.room; used = u }) used
 
+-- Where nothing was drawn, all but what stopped the session stays.
+pub stays : (before now : SessionState) (answer : Stepped) → now.root ≡ before.root → now.whole ≡ before.whole → now.pending ≡ before.pending → now.tokens ≡ before.tokens ++ [] → now.cells ≡ before.cells ++ [] → now.room ≡ before.room → now.stopped ≡ Some answer → now ≡ stopped_by before answer
+stays before now answer root whole pending tokens cells room stopped = same-state now (stopped_by before answer) root whole pending (tokens ∙ append-nil before.tokens) (cells ∙ append-nil before.cells) room stopped
+
 module _ (node : ExprId) (parts : List ℕ) (before now : SessionState) (first : slice_get before.pending 0 ≡ Some node.0) where
   f : Front before.pending node.0
   f = front before.pending node.0 first
 
-  -- where nothing was drawn, all but what stopped the session stays
-  stays : (answer : Stepped) → now.root ≡ before.root → now.whole ≡ before.whole → now.pending ≡ before.pending → now.tokens ≡ before.tokens ++ [] → now.cells ≡ before.cells ++ [] → now.room ≡ before.room → now.stopped ≡ Some answer → now ≡ stopped_by before answer
-  stays answer root whole pending tokens cells room stopped = same-state now (stopped_by before answer) root whole pending (tokens ∙ append-nil before.tokens) (cells ∙ append-nil before.cells) room stopped
-
   pub union-leaves : (d : Drawn) → Settled node parts d before now → Leaves (union_answer node d) before now
   union-leaves (drawn.Value value cell) t = (record { root = t.root; whole = t.whole; stopped = t.stopped }, λ none. let put = t.pending node.0 f.rest f.whole in absurd (cc))
-  union-leaves (drawn.Straddles cell) t = stays (Straddles node cell) t.root t.whole t.pending t.tokens t.cells t.room t.stopped
-  union-leaves drawn.Ended t = stays Ended t.root t.whole t.pending t.tokens t.cells t.room t.stopped
-  union-leaves drawn.ReadFault t = stays ReadFault t.root t.whole t.pending t.tokens t.cells t.room t.stopped
+  union-leaves (drawn.Straddles cell) t = stays before now (Straddles node cell) t.root t.whole t.pending t.tokens t.cells t.room t.stopped
+  union-leaves drawn.Ended t = stays before now Ended t.root t.whole t.pending t.tokens t.cells t.room t.stopped
+  union-leaves drawn.ReadFault t = stays before now ReadFault t.root t.whole t.pending t.tokens t.cells t.room t.stopped
 
   -- what was drawn stands after the cells before, or all bits of a cell were used
   pub union-draws : (d : Drawn) (start used : ℕ) → Settled node parts d before now → UsesBits d start used → HasCell d → Draws (union_answer node d) before now start used
@@ -107,8 +107,8 @@ module _ (node : ExprId) (parts : List ℕ) (before now : SessionState) (first :
   same-fault drawn.ReadFault used = refl
 
   module _ (s : Spec) (at : node_at s node.0 ≡ Some (Node.Union parts)) where
-    pub union-exact : (table : (level e : ℕ) → Bounds) (bits : ℕ → Option Bool) (d : Drawn) (start used : ℕ) → Settled node parts d before now → UsesBits d start used → IsDrawn Choice.Take (union_decision s table node.0) bits start d used → (c : Chooser) → ChoosesBy s table c → IsVisit c bits before start (union_answer node d) now used
-    union-exact table bits d start used t uses drawn c by = record { same = λ ne. same }
+    pub union-exact : (F : ℕ) (table : (level e : ℕ) → Bounds) (bits : ℕ → Option Bool) (d : Drawn) (start used : ℕ) → Settled node parts d before now → UsesBits d start used → IsDrawn Choice.Take (union_decision s table node.0) bits start d used → (c : Chooser) → ChoosesBy s F table c → IsVisit c bits before start (union_answer node d) now used
+    union-exact F table bits d start used t uses drawn c by = record { same = λ ne. same }
       where
         a : Attempt
         a = attempt_of before start
@@ -144,8 +144,8 @@ module _ (node : ExprId) (parts : List ℕ) (before now : SessionState) (first :
   answer-draws start used bits h = subst (λ a. Draws a before now start used) (sym answered) (union-draws node parts before now first d start used settled bits h)
 
   module _ (s : Spec) (at : node_at s node.0 ≡ Some (Node.Union parts)) where
-    pub answer-exact : (table : (level e : ℕ) → Bounds) (start used : ℕ) → UsesBits d start used → (bits : ℕ → Option Bool) → IsDrawn Choice.Take (union_decision s table node.0) bits start d used → (c : Chooser) → ChoosesBy s table c → IsVisit c bits before start answer now used
-    answer-exact table start used uses bits drawn c by = subst (λ a. IsVisit c bits before start a now used) (sym answered) (union-exact node parts before now first s at table bits d start used settled uses drawn c by)
+    pub answer-exact : (F : ℕ) (table : (level e : ℕ) → Bounds) (start used : ℕ) → UsesBits d start used → (bits : ℕ → Option Bool) → IsDrawn Choice.Take (union_decision s table node.0) bits start d used → (c : Chooser) → ChoosesBy s F table c → IsVisit c bits before start answer now used
+    answer-exact F table start used uses bits drawn c by = subst (λ a. IsVisit c bits before start a now used) (sym answered) (union-exact node parts before now first s at F table bits d start used settled uses drawn c by)
 
     pub answer-session : (x : Fraction) → IsSound s → OnValue d (λ i cell. (u : Fraction) → IsInCell cell.k cell.b u → IsIdealOption s x u node.0 i) → OnValue d (λ i cell. i < length parts) → SessionBelongs s x before → SessionBelongs s x now × IsIdealAnswer s x answer now
     answer-session x sound ideal within b = subst (λ a. SessionBelongs s x now × IsIdealAnswer s x a now) (sym answered) (union-session node parts before now first s at x sound d settled ideal within b)

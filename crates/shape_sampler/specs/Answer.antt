@@ -1,12 +1,15 @@
 -- What a step's answer tells of the visit.
-use Rattle.std.specs.Prelude.{◌≡◌, ◌≢◌, ℕ, ◌+◌, Bool, List, ◌∷◌, ◌++◌, Option, Some, None, slice_get}
+use Rattle.std.specs.Prelude.{◌≡◌, ◌≢◌, ◌↔◌, ℕ, ◌+◌, Bool, IsTrue, List, ◌∷◌, ◌++◌, Option, Some, None, slice_get}
 use Rattle.bz_model.specs.declared.cell.Cell.{Cell}
 use Rattle.class_system.specs.declared.ids.ExprId.{ExprId}
 use Rattle.bz_model.specs.declared.cell.Bounds.{Bounds}
 use Rattle.bz_model.specs.Fraction.{Fraction}
 use Rattle.bz_model.specs.Spec.{Spec}
+use Rattle.bz_model.specs.Measures.{HasZero}
 use Rattle.choice_draw.specs.Decision.{IsUnion, union_decision}
 use Rattle.choice_draw.specs.Draw.{Bit, bit_of}
+use Rattle.count_draw.specs.Kinds.{IsCountedNode}
+use Rattle.count_draw.specs.Decision.{count_decision}
 use Rattle.shape_sampler.specs.declared.stepped.Stepped.{Stepped}
 use Rattle.shape_sampler.specs.declared.stepped.Stepped.TheVariants.{Moved, Made, Overshot, Straddles, Ended, ReadFault, OutOfMemory}
 use Rattle.shape_sampler.specs.Visit.{Chooser, Attempt, Visited, visit, atom_visited, with_pending}
@@ -28,10 +31,12 @@ abbrev pub fault_place : Stepped → (used : ℕ) → Option ℕ
 fault_place ReadFault used = Some used
 fault_place _ used = None
 
--- A chooser decides by a table of bounds at the unions of a specification.
-pub record ChoosesBy (s : Spec) (table : (level node : ℕ) → Bounds) (c : Chooser) : Type 0 where
+-- A chooser decides by a table of bounds, in units of 2^-f, at the unions and at the sequences, sets and cycles of a specification, and tells which nodes have an object of size 0.
+pub record ChoosesBy (s : Spec) (f : ℕ) (table : (level node : ℕ) → Bounds) (c : Chooser) : Type 0 where
   pub same_spec : c.spec ≡ s
   pub at_unions : (e room : ℕ) → IsUnion s e → c.decide e room ≡ union_decision s table e
+  pub at_counted : (e room : ℕ) → IsCountedNode s e → c.decide e room ≡ count_decision s f table e room
+  pub frees : (part : ℕ) → IsTrue (c.is_free part) ↔ HasZero s part
 
 -- An answer is that of the visit from the state before, over these bits; the shelf fails only if the answer says so, and then after the bits used. Want of memory tells nothing.
 pub record IsVisit (c : Chooser) (bits : ℕ → Option Bool) (before : SessionState) (start : ℕ) (answer : Stepped) (now : SessionState) (used : ℕ) : Type 0 where

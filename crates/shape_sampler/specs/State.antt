@@ -1,11 +1,15 @@
 -- The state of a session.
-use Rattle.std.specs.Prelude.{◌≡◌, ◌≢◌, ℕ, ◌<◌, length, slice_index, List, [], ◌∷◌, Option, Some, None}
+use Rattle.std.specs.Prelude.{◌≡◌, ◌≢◌, ℕ, ◌<◌, length, replicate, slice_index, List, [], ◌∷◌, ◌++◌, Option, Some, None}
 use Rattle.bz_model.specs.declared.cell.Cell.{Cell}
 use Rattle.bz_model.specs.Fraction.{Fraction}
-use Rattle.bz_model.specs.Spec.{Spec, body_of}
+use Rattle.bz_model.specs.Spec.{Spec, node_at, body_of}
 use Rattle.class_system.specs.declared.ids.ExprId.{ExprId}
 use Rattle.choice_draw.specs.declared.drawn.Drawn.{Drawn}
 use Rattle.choice_draw.specs.declared.drawn.Drawn.TheVariants as drawn
+use Rattle.series_bounds.specs.Series.{Kind}
+use Rattle.count_draw.specs.Kinds.{counted_node}
+use Rattle.count_draw.specs.declared.drawn.CountDrawn.{CountDrawn}
+use Rattle.count_draw.specs.declared.drawn.CountDrawn.TheVariants as counted
 use Rattle.object_store.specs.declared.token.Token.{Token}
 use Rattle.object_store.specs.declared.token.Token.TheVariants as token
 use Rattle.shape_sampler.specs.declared.stepped.Stepped.{Stepped}
@@ -74,12 +78,25 @@ IsStop (Some Ended) = Unit {0}
 IsStop (Some ReadFault) = Unit {0}
 IsStop _ = ⊥
 
+-- The node of this number is a sequence, a set or a cycle of this part.
+pub record HasCountedPart (s : Spec) (e part : ℕ) : Type 0 where
+  pub kind : Kind
+  pub here : node_at s e ≡ Some (counted_node kind part)
+
 -- The answer to a draw at a union.
 abbrev pub union_answer : ExprId → Drawn → Stepped
 union_answer node (drawn.Value value cell) = Moved
 union_answer node (drawn.Straddles cell) = Straddles node cell
 union_answer node drawn.Ended = Ended
 union_answer node drawn.ReadFault = ReadFault
+
+-- The answer to a draw of a number of parts, after which these nodes are pending.
+abbrev pub count_answer : ExprId → CountDrawn → (pending : List ℕ) → Stepped
+count_answer node (counted.Count value cell) pending = answer_for pending
+count_answer node (counted.Over cell) pending = Overshot
+count_answer node (counted.Straddles cell) pending = Straddles node cell
+count_answer node counted.Ended pending = Ended
+count_answer node counted.ReadFault pending = ReadFault
 
 -- What an answer leaves a session stopped by.
 abbrev pub stop_after : Stepped → Option Stepped
@@ -102,3 +119,20 @@ drawn_cells _ = []
 abbrev pub PutsPart : (parts : List ℕ) → Drawn → (before now : List ℕ) → Type 0
 PutsPart parts (drawn.Value value cell) before now = (e : ℕ) (rest : List ℕ) → before ≡ e ∷ rest → now ≡ slice_index parts value ∷ rest
 PutsPart parts _ before now = now ≡ before
+
+-- The tokens that an answer of a draw of a number of parts adds: the number, where there is one.
+abbrev pub count_tokens : CountDrawn → List Token
+count_tokens (counted.Count value cell) = token.Count value ∷ []
+count_tokens _ = []
+
+-- The cells that it adds: that of the number, or that of every number up to the room being passed over.
+abbrev pub count_cells : CountDrawn → List Cell
+count_cells (counted.Count value cell) = cell ∷ []
+count_cells (counted.Over cell) = cell ∷ []
+count_cells _ = []
+
+-- The part is put as often as was drawn in the place of the first pending node. Nothing is pending where every number up to the room is passed over; without an answer the same nodes are pending.
+abbrev pub PutsParts : (part : ℕ) → CountDrawn → (before now : List ℕ) → Type 0
+PutsParts part (counted.Count value cell) before now = (e : ℕ) (rest : List ℕ) → before ≡ e ∷ rest → now ≡ replicate value part ++ rest
+PutsParts part (counted.Over cell) before now = now ≡ []
+PutsParts part _ before now = now ≡ before

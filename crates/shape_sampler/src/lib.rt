@@ -6,6 +6,7 @@
 //! ever ends, or that memory suffices.
 #![tactic(auto)]
 
+mod counted;
 mod placing;
 pub mod session;
 pub mod stepped;

@@ -1,5 +1,5 @@
 //! Tokens, cells and nodes, put where there is spare room.
-ghost use Rattle.std.specs.Prelude.{◌≡◌, ◌<◌, ◌≤◌, [], ◌∷◌, ◌++◌, map, length, ℕ, List};
+ghost use Rattle.std.specs.Prelude.{◌≡◌, ◌<◌, ◌≤◌, [], ◌∷◌, ◌++◌, map, length, ℕ, List, OnOk};
 ghost use Rattle.class_system.specs.Views.{number};
 ghost use Rattle.shape_sampler.specs.State.{answer_for, union_answer, stop_after, PutsPart, drawn_tokens, drawn_cells};
 ghost use Rattle.choice_draw.specs.Answer.{OnValue};
@@ -12,6 +12,7 @@ use class_system::ids::ExprId;
 use object_store::pending::Pending;
 use object_store::shape::Shape;
 use object_store::token::Token;
+use std::alloc::AllocError;
 
 /// Appends a token.
 pub(crate) fn put_token(shape: &mut Shape, token: Token)
@@ -57,6 +58,24 @@ pub(crate) fn answer(pending: &Pending) -> Stepped
     } else {
         Stepped::Moved
     }
+}
+
+/// Takes memory for what a draw puts: one node or a run of equal ones, a token and a cell.
+pub(crate) fn reserve_drawn(
+    pending: &mut Pending,
+    shape: &mut Shape,
+    cells: &mut Cells,
+) -> Result<(), AllocError>
+    ensures pending { pending.new.items ≡ pending.old.items }
+    ensures tokens { shape.new.items ≡ shape.old.items }
+    ensures cells { cells.new.items ≡ cells.old.items }
+    ensures pending_spare { OnOk result (0 < pending.new.spare) }
+    ensures shape_spare { OnOk result (0 < shape.new.spare) }
+    ensures cells_spare { OnOk result (0 < cells.new.spare) }
+{
+    pending.reserve(1)?;
+    shape.reserve(1)?;
+    cells.reserve(1)
 }
 
 /// Puts what was drawn at a union: the option's token, its cell and its part.

@@ -6,12 +6,15 @@ ghost use Rattle.bz_model.specs.Oracle.{cost_between};
 ghost use Rattle.class_system.specs.Views.{number};
 ghost use Rattle.bit_tape.specs.Tape.{TapeSource, Belongs, bits_of, HasFault};
 ghost use Rattle.choice_draw.specs.Decision.{IsUnion, level_for};
-ghost use Rattle.shape_sampler.specs.Ready.{IsReady};
+ghost use Rattle.count_draw.specs.Kinds.{IsCountedNode};
 ghost use Rattle.shape_sampler.specs.Visit.{Chooser, leaf_visited};
-ghost use Rattle.shape_sampler.specs.State.{SessionState, SessionBelongs, begun_state, emptied, Leaves};
+ghost use Rattle.shape_sampler.specs.State.{SessionState, SessionBelongs, HasCountedPart, begun_state, emptied, Leaves};
 ghost use Rattle.shape_sampler.specs.Answer.{ChoosesBy, IsVisit, IsIdealAnswer, IsVisitOfAll, IsPlainAnswer, IsPlainVisit, room_atom_visited, replaced_by, Draws};
 
-use crate::placing::{answer, answer_to, put_drawn, put_token, replace_first, stop_of};
+use crate::counted::{answer_to_count, counted_part, put_counted, room_for};
+use crate::placing::{
+    answer, answer_to, put_drawn, put_token, replace_first, reserve_drawn, stop_of,
+};
 use crate::stepped::Stepped;
 use bit_tape::tape::Tape;
 use bz_model::cell::Cell;
@@ -24,6 +27,7 @@ use choice_draw::union::draw_union;
 use class_system::expr::Expr;
 use class_system::ids::{ClassId, ExprId};
 use class_system::system::System;
+use count_draw::count::draw_count;
 use object_store::pending::Pending;
 use object_store::shape::Shape;
 use object_store::token::Token;
@@ -47,13 +51,14 @@ pub struct Session {
 }
 
 impl Model for Session {
+    ghost use Rattle.std.specs.Prelude.{◌≤◌};
     ghost use Rattle.shape_sampler.specs.State.{SessionState, IsStop};
 
     ghost Value = { SessionState };
 
     ghost view = { λ s. record { root = s.root.0; whole = s.whole; pending = s.pending.items; tokens = s.shape.items; cells = s.cells.items; room = s.room; stopped = s.stopped } };
 
-    ghost invariant = { λ s. IsStop s.stopped };
+    ghost invariant = { λ s. IsStop s.stopped × (s.whole ≤ 1000000) × (s.room ≤ 1000000) };
 }
 
 impl Session {
@@ -135,9 +140,11 @@ impl Session {
     ///
     /// A neutral leaf adds `Unit`; an atom adds `Dot` and lowers the room, and is `Overshot` at room
     /// 0; a class puts its body in its place and a product its parts; a union draws its option,
-    /// adds `Pick` and puts that part in its place. The memory of a visit is taken before its first
-    /// bit. After `Straddles`, `Ended` or `ReadFault` the session answers the same until `begin`,
-    /// and touches nothing.
+    /// adds `Pick` and puts that part in its place. A sequence, set or cycle draws its number of
+    /// parts, up to the room left, or to 64 where its part has an object of size 0, adds `Count` and
+    /// puts its part in its place so often; it is `Overshot` where every number up to the room is
+    /// passed over. The memory of a visit is taken before its first bit. After `Straddles`, `Ended`
+    /// or `ReadFault` the session answers the same until `begin`, and touches nothing.
     pub fn step<const F: u32, O: Oracle<F>, S: Shelf, L: Ledger>(
         &mut self,
         founded: &Founded,
@@ -147,7 +154,6 @@ impl Session {
         steps: &mut Steps<L>,
     ) -> Stepped
         requires fraction { (24 ≤ F) × (F ≤ 56) }
-        requires ready { IsReady founded.now }
         requires spec { O.spec oracle.old ≡ founded.now }
         requires session { SessionBelongs founded.now (O.x oracle.old) self.old }
         requires pending { self.old.pending ≢ [] }
@@ -158,7 +164,7 @@ impl Session {
         ensures no_memory { result ≡ Stepped.OutOfMemory → (self.new ≡ self.old) × (tape.new ≡ tape.old) × (oracle.new ≡ oracle.old) }
         ensures leaves { self.old.stopped ≡ None → Leaves result self.old self.new }
         ensures draws { self.old.stopped ≡ None → Draws result self.old self.new tape.old.used tape.new.used }
-        ensures exact { self.old.stopped ≡ None → IfSome (bits_of tape.old.source (S.content shelf.old)) (λ bits. (c : Chooser) → ChoosesBy founded.now (O.table oracle.old) c → IsVisit c bits self.old tape.old.used result self.new tape.new.used) }
+        ensures exact { self.old.stopped ≡ None → IfSome (bits_of tape.old.source (S.content shelf.old)) (λ bits. (c : Chooser) → ChoosesBy founded.now F (O.table oracle.old) c → IsVisit c bits self.old tape.old.used result self.new tape.new.used) }
         ensures ideal { IsIdealAnswer founded.now (O.x oracle.old) result self.new }
         ensures session { SessionBelongs founded.now (O.x oracle.old) self.new }
 
@@ -185,6 +191,9 @@ impl Session {
         let Some(e) = self.pending.first() else {
             unreachable!()
         };
+        if let Some(part) = counted_part(system, e) {
+            return self.visit_counted(founded, e, part, oracle, tape, shelf, steps);
+        }
         if let Expr::Union(parts) = system.node(e) {
             return self.visit_union(system, e, parts.items(), oracle, tape, shelf, steps);
         }
@@ -193,9 +202,9 @@ impl Session {
 
     /// Visits a node that takes no number.
     fn visit_plain(&mut self, system: &System, node: ExprId) -> Stepped
-        requires ready { IsReady system.now }
         requires in_range { node.0 < length system.now.nodes }
-        requires plain { ¬ IsUnion system.now node.0 }
+        requires no_union { ¬ IsUnion system.now node.0 }
+        requires uncounted { ¬ IsCountedNode system.now node.0 }
         requires running { self.old.stopped ≡ None }
         requires first { slice_get self.old.pending 0 ≡ Some node.0 }
         ensures plain { IsPlainAnswer result }
@@ -297,7 +306,7 @@ impl Session {
         ensures no_memory { result ≡ Stepped.OutOfMemory → (self.new ≡ self.old) × (tape.new ≡ tape.old) × (oracle.new ≡ oracle.old) }
         ensures leaves { Leaves result self.old self.new }
         ensures draws { Draws result self.old self.new tape.old.used tape.new.used }
-        ensures exact { IfSome (bits_of tape.old.source (S.content shelf.old)) (λ bits. (c : Chooser) → ChoosesBy system.now (O.table oracle.old) c → IsVisit c bits self.old tape.old.used result self.new tape.new.used) }
+        ensures exact { IfSome (bits_of tape.old.source (S.content shelf.old)) (λ bits. (c : Chooser) → ChoosesBy system.now F (O.table oracle.old) c → IsVisit c bits self.old tape.old.used result self.new tape.new.used) }
         ensures session { SessionBelongs system.now (O.x oracle.old) self.old
             → SessionBelongs system.now (O.x oracle.old) self.new × IsIdealAnswer system.now (O.x oracle.old) result self.new }
 
@@ -316,10 +325,7 @@ impl Session {
         ensures cause { result ≡ Stepped.ReadFault → HasFault tape.old.source (S.faults shelf.old) (S.faults shelf.new) }
         ensures seeded { (seed : ℕ) → tape.old.source ≡ TapeSource.Seeded seed → shelf.new ≡ shelf.old }
     {
-        if self.pending.reserve(1).is_err()
-            || self.shape.reserve(1).is_err()
-            || self.cells.reserve(1).is_err()
-        {
+        if reserve_drawn(&mut self.pending, &mut self.shape, &mut self.cells).is_err() {
             return Stepped::OutOfMemory;
         }
         system.known();
@@ -334,5 +340,65 @@ impl Session {
         let answer = answer_to(node, drawn);
         self.stopped = stop_of(answer);
         answer
+    }
+
+    /// A sequence, set or cycle draws its number of parts and puts its part in its place so often.
+    fn visit_counted<const F: u32, O: Oracle<F>, S: Shelf, L: Ledger>(
+        &mut self,
+        founded: &Founded,
+        node: ExprId,
+        part: ExprId,
+        oracle: &mut O,
+        tape: &mut Tape,
+        shelf: &mut S,
+        steps: &mut Steps<L>,
+    ) -> Stepped
+        requires fraction { (24 ≤ F) × (F ≤ 56) }
+        requires spec { O.spec oracle.old ≡ founded.now }
+        requires counted { HasCountedPart founded.now node.0 part.0 }
+        requires running { self.old.stopped ≡ None }
+        requires first { slice_get self.old.pending 0 ≡ Some node.0 }
+        requires tape { Belongs (S.content shelf.old) tape.old }
+
+        ensures no_memory { result ≡ Stepped.OutOfMemory → (self.new ≡ self.old) × (tape.new ≡ tape.old) × (oracle.new ≡ oracle.old) }
+        ensures leaves { Leaves result self.old self.new }
+        ensures draws { Draws result self.old self.new tape.old.used tape.new.used }
+        ensures exact { IfSome (bits_of tape.old.source (S.content shelf.old)) (λ bits. (c : Chooser) → ChoosesBy founded.now F (O.table oracle.old) c → IsVisit c bits self.old tape.old.used result self.new tape.new.used) }
+        ensures session { SessionBelongs founded.now (O.x oracle.old) self.old
+            → SessionBelongs founded.now (O.x oracle.old) self.new × IsIdealAnswer founded.now (O.x oracle.old) result self.new }
+
+        ensures spec { O.spec oracle.new ≡ O.spec oracle.old }
+        ensures x { O.x oracle.new ≡ O.x oracle.old }
+        ensures table { O.table oracle.new ≡ O.table oracle.old }
+        ensures cost { O.cost oracle.new ≡ O.cost oracle.old }
+        ensures raised { O.raised oracle.new ≡ max (O.raised oracle.old) (level_for (tape.new.used - tape.old.used)) }
+        ensures ticks { steps.new ≤ steps.old + cost_between (O.cost oracle.old) (O.raised oracle.old) (O.raised oracle.new) }
+
+        ensures used { (tape.old.used ≤ tape.new.used) × (tape.new.used ≤ tape.old.used + 60) }
+        ensures source { tape.new.source ≡ tape.old.source }
+        ensures tape { Belongs (S.content shelf.new) tape.new }
+        ensures content { S.content shelf.new ≡ S.content shelf.old }
+        ensures counts { (other : List ℕ) → S.faults shelf.old other ≤ S.faults shelf.new other }
+        ensures cause { result ≡ Stepped.ReadFault → HasFault tape.old.source (S.faults shelf.old) (S.faults shelf.new) }
+        ensures seeded { (seed : ℕ) → tape.old.source ≡ TapeSource.Seeded seed → shelf.new ≡ shelf.old }
+    {
+        founded.known();
+        if reserve_drawn(&mut self.pending, &mut self.shape, &mut self.cells).is_err() {
+            return Stepped::OutOfMemory;
+        }
+        let system = founded.system();
+        system.known();
+        let room = room_for(founded, part, self.room);
+        let drawn = draw_count(system, node, room, oracle, tape, shelf, steps);
+        put_counted(
+            &mut self.pending,
+            &mut self.shape,
+            &mut self.cells,
+            part,
+            drawn,
+        );
+        let told = answer_to_count(node, drawn, &self.pending);
+        self.stopped = stop_of(told);
+        told
     }
 }

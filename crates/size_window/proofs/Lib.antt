@@ -8,3 +8,5 @@ pub mod Belonging
 pub mod Turns
 pub mod Following
 pub mod UnionsIdeally
+pub mod CountsIdeally
+pub mod TablesIdeally

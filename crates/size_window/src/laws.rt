@@ -1,13 +1,15 @@
 //! Laws of drawings. Each function's contract is the law; none does anything.
-ghost use Rattle.std.specs.Prelude.{◌≡◌, ℕ, Option, Some};
+ghost use Rattle.std.specs.Prelude.{◌≡◌, ◌↔◌, ℕ, Bool, IsTrue, Option};
 ghost use Rattle.bz_model.specs.Fraction.{Fraction};
 ghost use Rattle.bz_model.specs.declared.cell.Bounds.{Bounds};
+ghost use Rattle.bz_model.specs.Measures.{HasZero};
 ghost use Rattle.bz_model.specs.Oracle as oracle;
-ghost use Rattle.bz_model.specs.Spec.{Mode, Node, Spec, node_at};
-ghost use Rattle.class_system.specs.Drafting.{IsCountedNode};
+ghost use Rattle.bz_model.specs.Spec.{Mode, Spec};
 ghost use Rattle.class_system.specs.Sound.{IsSound};
+ghost use Rattle.well_founded.specs.EmptyObjects.{has_empty};
+ghost use Rattle.shape_sampler.specs.Answer.{ChoosesBy};
 ghost use Rattle.size_window.specs.RunByBits.{Limits, Sampling, at_start, after};
-ghost use Rattle.size_window.specs.Ideally.{DecidesIdeally, union_chooser};
+ghost use Rattle.size_window.specs.Ideally.{DecidesIdeally, chooser_of};
 ghost use Rattle.size_window.specs.Follows.{Follows, Goes};
 
 /// A drawing from an unlabelled specification follows the ideal run, after any number of turns and
@@ -22,12 +24,23 @@ pub fn an_unlabelled_drawing_follows_the_ideal_run()
         → Follows s.chooser.spec x s.limits (after s faults n) }
 {}
 
-/// Without sequences, sets and cycles, the chooser by a sound table of bounds decides ideally.
+/// The chooser by a sound table of bounds decides ideally, where it is told which nodes have an
+/// object of size 0.
 pub fn a_sound_table_decides_ideally()
-    ensures { (s : Spec) (x : Fraction) (F : ℕ) (table : (level node : ℕ) → Bounds) → IsSound s
-        → oracle.IsSound s x F table
-        → ((e : ℕ) (node : Node) → node_at s e ≡ Some node → ¬ (IsCountedNode node))
-        → DecidesIdeally (union_chooser s table) x }
+    ensures { (s : Spec) (x : Fraction) (F : ℕ) (table : (level node : ℕ) → Bounds)
+        (is_free : ℕ → Bool) → IsSound s → oracle.IsSound s x F table
+        → ((part : ℕ) → IsTrue (is_free part) ↔ HasZero s part)
+        → DecidesIdeally (chooser_of s F table is_free) x }
+{}
+
+/// It chooses by its table; and which nodes have an object of size 0 can be computed, so that there
+/// is one for every sound specification.
+pub fn a_table_has_its_chooser()
+    ensures chooses { (s : Spec) (F : ℕ) (table : (level node : ℕ) → Bounds) (is_free : ℕ → Bool)
+        → ((part : ℕ) → IsTrue (is_free part) ↔ HasZero s part)
+        → ChoosesBy s F table (chooser_of s F table is_free) }
+    ensures computed { (s : Spec) (part : ℕ) → IsSound s
+        → IsTrue (has_empty s part) ↔ HasZero s part }
 {}
 
 /// The course at the start goes as ideal runs do. So does each later one, by the contract of

@@ -12,11 +12,11 @@ visit_union-requires-clause-few g c =
     let few = few-parts c.system-system.result.now c.known.ensures.limits c.in-Some-first.e.0 c.in-Union.parts (c.node.ensures.node ∙ ap (λ n. Some (spec_node n)) c.in-Union.is) in
     subst (λ ps. length ps ≤ 64) (sym c.items.ensures.items) few
 
-pub visit_plain-requires-clause-plain : goal.visit_plain-requires-clause-plain
-visit_plain-requires-clause-plain g c = no-union c.system-system.result.now c.in-Some-first.e.0 c.node.result.now c.node.ensures.node c.in_default-node.not-Union
+pub visit_plain-requires-clause-no_union : goal.visit_plain-requires-clause-no_union
+visit_plain-requires-clause-no_union g c = no-union c.system-system.result.now c.in-Some-first.e.0 c.node.result.now c.node.ensures.node c.in_default-node.not-Union
 
 pub returns-clause-exact : goal.returns-clause-exact
-returns-clause-exact g c = λ running. plain-exact c.args.founded.now (g.O.Oracle.table c.args.oracle.now) c.args.self.now c.visit_plain.new.self c.visit_plain.result c.args.tape.now.used (λ ne. subst (λ (s : Spec). IsVisitOfAll s c.args.self.now c.visit_plain.result c.visit_plain.new.self) c.system-system.ensures.system (c.visit_plain.ensures.exact ne)) _
+returns-clause-exact g c = λ running. plain-exact c.args.founded.now g.row.F (g.O.Oracle.table c.args.oracle.now) c.args.self.now c.visit_plain.new.self c.visit_plain.result c.args.tape.now.used (λ ne. subst (λ (s : Spec). IsVisitOfAll s c.args.self.now c.visit_plain.result c.visit_plain.new.self) c.system-system.ensures.system (c.visit_plain.ensures.exact ne)) _
 
 pub returns-clause-ideal : goal.returns-clause-ideal
 returns-clause-ideal g c =

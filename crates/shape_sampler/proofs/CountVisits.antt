@@ -1,0 +1,195 @@
+-- The visit of a sequence, set or cycle, from what was drawn and what was put.
+use Rattle.std.proofs.Common.{◌≡◌, ◌⊎◌, inl, inr, ℕ, ◌+◌, ◌≤◌, List, [], ◌∷◌, ◌++◌, replicate, refl, sym, ◌∙◌, ap, subst, cond, append-nil, zero-add, Bool, Option, Some, None, slice_get}
+use Rattle.std.specs.Prelude.{IsTrue, ◌↔◌}
+use Rattle.std.proofs.lemmas.Bool.{cases_Bool}
+use Rattle.bz_model.specs.declared.cell.Cell.{Cell}
+use Rattle.bz_model.specs.declared.cell.Bounds.{Bounds}
+use Rattle.bz_model.specs.Fraction.{Fraction}
+use Rattle.bz_model.specs.Spec.{Spec, node_at, range_at, IsInRange}
+use Rattle.bz_model.specs.Measures.{HasZero}
+use Rattle.bz_model.specs.WellFounded.{IsWellFounded}
+use Rattle.class_system.specs.Sound.{IsSound}
+use Rattle.class_system.specs.declared.ids.ExprId.{ExprId}
+use Rattle.choice_draw.specs.Decision.{Choice}
+use Rattle.choice_draw.specs.Draw.{Bit, bit_of, draw}
+use Rattle.choice_draw.specs.IdealOfCell.{IsIdealOfCell, IsOverOfCell}
+use Rattle.series_bounds.specs.Series.{Kind}
+use Rattle.count_draw.specs.declared.drawn.CountDrawn.{CountDrawn}
+use Rattle.count_draw.specs.declared.drawn.CountDrawn.TheVariants as counted
+use Rattle.count_draw.specs.Kinds.{counted_node}
+use Rattle.count_draw.specs.Decision.{count_decision}
+use Rattle.count_draw.specs.Answer.{IsCountDrawn, OnCount, OnOver, HasCell, UsesBits, told_count}
+use Rattle.count_draw.specs.Answer as counting
+use Rattle.count_draw.proofs.CountedNodes.{form_of, is_counted, part_inside}
+use Rattle.object_store.specs.declared.token.Token.{Token}
+use Rattle.object_store.specs.declared.token.Token.TheVariants as token
+use Rattle.shape_sampler.specs.declared.stepped.Stepped.{Stepped}
+use Rattle.shape_sampler.specs.declared.stepped.Stepped.TheVariants.{Overshot, Straddles, Ended, ReadFault}
+use Rattle.shape_sampler.specs.Visit.{Chooser, Attempt, Visited, after_draw, counted_answered, counted_visited, room_for, node_visited, visit_among, visit, with_pending, with_token, with_cell, given_up}
+use Rattle.shape_sampler.specs.State.{SessionState, SessionBelongs, HasCountedPart, Runs, Leaves, attempt_of, answer_for, count_answer, stop_after, count_tokens, count_cells, PutsParts}
+use Rattle.shape_sampler.specs.Answer.{told_visit, fault_place, ChoosesBy, IsVisit, IsIdealAnswer, Extends, Draws}
+use Rattle.shape_sampler.proofs.Ideal.{IsIdealVisit, ideal-counted, ideal-over}
+use Rattle.shape_sampler.proofs.Sessions.{still-belongs}
+use Rattle.shape_sampler.proofs.Plain.{Front, front}
+use Rattle.shape_sampler.proofs.Union.{same-attempt, stays}
+use Rattle.shape_sampler.proofs.FreeParts.{free-not_over}
+
+-- What the visit of a sequence, set or cycle makes of a session: the answer's token, cell and parts are put, and all else stays but what stopped it.
+pub record CountSettled (node : ExprId) (part : ℕ) (d : CountDrawn) (before now : SessionState) : Type 0 where
+  pub root : now.root ≡ before.root
+  pub whole : now.whole ≡ before.whole
+  pub pending : PutsParts part d before.pending now.pending
+  pub tokens : now.tokens ≡ before.tokens ++ count_tokens d
+  pub cells : now.cells ≡ before.cells ++ count_cells d
+  pub room : now.room ≡ before.room
+  pub stopped : now.stopped ≡ stop_after (count_answer node d now.pending)
+
+-- It is settled so, from what each call did to the session's parts, which were as they stand in `seen`.
+pub count-settle : (node : ExprId) (part : ℕ) (d : CountDrawn) (seen before now : SessionState) (answer : Stepped) (es : List ℕ) (ts : List Token) (cs : List Cell) → seen ≡ before → now.root ≡ seen.root → now.whole ≡ seen.whole → now.room ≡ seen.room → es ≡ seen.pending → ts ≡ seen.tokens → cs ≡ seen.cells → PutsParts part d es now.pending → now.tokens ≡ ts ++ count_tokens d → now.cells ≡ cs ++ count_cells d → now.stopped ≡ stop_after answer → answer ≡ count_answer node d now.pending → CountSettled node part d before now
+count-settle node part d seen before now answer es ts cs is root whole room pending tokens cells puts put_tokens put_cells stopped answered = record {
+  root = root ∙ ap (λ (st : SessionState). st.root) is;
+  whole = whole ∙ ap (λ (st : SessionState). st.whole) is;
+  pending = subst (λ fs. PutsParts part d fs now.pending) (pending ∙ ap (λ (st : SessionState). st.pending) is) puts;
+  tokens = put_tokens ∙ ap (λ us. us ++ count_tokens d) (tokens ∙ ap (λ (st : SessionState). st.tokens) is);
+  cells = put_cells ∙ ap (λ ds. ds ++ count_cells d) (cells ∙ ap (λ (st : SessionState). st.cells) is);
+  room = room ∙ ap (λ (st : SessionState). st.room) is;
+  stopped = stopped ∙ ap stop_after answered;
+}
+
+-- The room of a count that the code takes: 64 where the part has an object of size 0, and else the room left.
+pub record IsRoomFor (s : Spec) (part left room : ℕ) : Type 0 where
+  pub free : HasZero s part → room ≡ 64
+  pub taking : ¬ (HasZero s part) → room ≡ left
+
+-- It is that of every chooser that tells rightly which nodes have such an object.
+room-is : (s : Spec) (c : Chooser) (part left room : ℕ) → (IsTrue (c.is_free part) ↔ HasZero s part) → IsRoomFor s part left room → room_for c part left ≡ room
+room-is s c part left room told at = elim (cases_Bool (c.is_free part)) [
+  | inl free ↦ ap (λ b. cond b 64 left) free ∙ sym (at.free (told.0 free))
+  | inr taking ↦ ap (λ b. cond b 64 left) taking ∙ sym (at.taking (λ zero. let free = told.1 zero in cc))
+]
+
+-- The answer where nodes are pending or none is tells the attempt as it is, stops nothing and has no fault.
+told-for : (pending : List ℕ) (now : SessionState) (used : ℕ) → told_visit (answer_for pending) now used ≡ Visited.Went (attempt_of now used)
+told-for [] now used = refl
+told-for (e ∷ es) now used = refl
+
+stop-for : (pending : List ℕ) → stop_after (answer_for pending) ≡ None
+stop-for [] = refl
+stop-for (e ∷ es) = refl
+
+fault-for : (pending : List ℕ) (used : ℕ) → None ≡ fault_place (answer_for pending) used
+fault-for [] used = refl
+fault-for (e ∷ es) used = refl
+
+leaves-for : (pending : List ℕ) (before now : SessionState) → now.pending ≡ pending → Runs before now → Leaves (answer_for pending) before now
+leaves-for [] before now same r = (r, same)
+leaves-for (e ∷ es) before now same r = (r, λ none. let other = same in absurd (cc))
+
+draws-for : (pending : List ℕ) (before now : SessionState) (start used : ℕ) → Extends before.cells now.cells → Draws (answer_for pending) before now start used
+draws-for [] before now start used more = more
+draws-for (e ∷ es) before now start used more = more
+
+-- a sequence, set or cycle is visited by a draw
+visited-is : (kind : Kind) (c : Chooser) (bit : ℕ → Bit) (a : Attempt) (e part : ℕ) (rest : List ℕ) → counted_visited c bit a e part rest ≡ node_visited c bit a e rest (Some (counted_node kind part))
+visited-is Kind.Seq c bit a e part rest = refl
+visited-is Kind.Set c bit a e part rest = refl
+visited-is Kind.Cyc c bit a e part rest = refl
+
+module _ (node : ExprId) (part : ℕ) (before now : SessionState) (first : slice_get before.pending 0 ≡ Some node.0) where
+  f : Front before.pending node.0
+  f = front before.pending node.0 first
+
+  pub count-leaves : (d : CountDrawn) → CountSettled node part d before now → Leaves (count_answer node d now.pending) before now
+  count-leaves (counted.Count value cell) t = leaves-for now.pending before now refl (record { root = t.root; whole = t.whole; stopped = t.stopped ∙ stop-for now.pending })
+  count-leaves (counted.Over cell) t = (record { root = t.root; whole = t.whole; stopped = t.stopped }, t.pending)
+  count-leaves (counted.Straddles cell) t = stays before now (Straddles node cell) t.root t.whole t.pending t.tokens t.cells t.room t.stopped
+  count-leaves counted.Ended t = stays before now Ended t.root t.whole t.pending t.tokens t.cells t.room t.stopped
+  count-leaves counted.ReadFault t = stays before now ReadFault t.root t.whole t.pending t.tokens t.cells t.room t.stopped
+
+  -- what was drawn stands after the cells before, or all bits of a cell were used
+  pub count-draws : (d : CountDrawn) (start used : ℕ) → CountSettled node part d before now → UsesBits d start used → HasCell d → Draws (count_answer node d now.pending) before now start used
+  count-draws (counted.Count value cell) start used t bits h = draws-for now.pending before now start used (record { more = cell ∷ []; whole = t.cells })
+  count-draws (counted.Over cell) start used t bits h = record { more = cell ∷ []; whole = t.cells }
+  count-draws (counted.Straddles cell) start used t bits h = record { first = first; bits = h.1; all_used = bits }
+  count-draws counted.Ended start used t bits h = tt
+  count-draws counted.ReadFault start used t bits h = tt
+
+  -- the session's attempt after a number of parts was drawn
+  repeats : (value : ℕ) (cell : Cell) (start used : ℕ) → CountSettled node part (counted.Count value cell) before now → used ≡ start + cell.b → attempt_of now used ≡ with_pending (with_token (with_cell (attempt_of before start) cell) (token.Count value)) (replicate value part ++ f.rest)
+  repeats value cell start used t bits = same-attempt (attempt_of now used) (with_pending (with_token (with_cell (attempt_of before start) cell) (token.Count value)) (replicate value part ++ f.rest)) (t.pending node.0 f.rest f.whole) t.tokens t.cells t.room bits
+
+  -- and after every number up to the room was passed over
+  gives-up : (cell : Cell) (start used : ℕ) → CountSettled node part (counted.Over cell) before now → used ≡ start + cell.b → attempt_of now used ≡ given_up (with_cell (attempt_of before start) cell)
+  gives-up cell start used t bits = same-attempt (attempt_of now used) (given_up (with_cell (attempt_of before start) cell)) t.pending (t.tokens ∙ append-nil before.tokens) t.cells t.room bits
+
+  -- what is told is what the draw's end means
+  told : (d : CountDrawn) (start used : ℕ) → CountSettled node part d before now → UsesBits d start used → told_visit (count_answer node d now.pending) now used ≡ after_draw node.0 (counted_answered (attempt_of before start) part f.rest) (told_count d used)
+  told (counted.Count value cell) start used t bits = told-for now.pending now used ∙ ap Visited.Went (repeats value cell start used t bits)
+  told (counted.Over cell) start used t bits = ap Visited.Over (gives-up cell start used t bits)
+  told (counted.Straddles cell) start used t bits = refl
+  told counted.Ended start used t bits = refl
+  told counted.ReadFault start used t bits = refl
+
+  same-fault : (d : CountDrawn) (used : ℕ) → counting.fault_place d used ≡ fault_place (count_answer node d now.pending) used
+  same-fault (counted.Count value cell) used = fault-for now.pending used
+  same-fault (counted.Over cell) used = refl
+  same-fault (counted.Straddles cell) used = refl
+  same-fault counted.Ended used = refl
+  same-fault counted.ReadFault used = refl
+
+  module _ (s : Spec) (at : HasCountedPart s node.0 part) (room : ℕ) (room_at : IsRoomFor s part before.room room) where
+    pub count-exact : (F : ℕ) (table : (level e : ℕ) → Bounds) (bits : ℕ → Option Bool) (d : CountDrawn) (start used : ℕ) → CountSettled node part d before now → UsesBits d start used → IsCountDrawn (count_decision s F table node.0 room) bits start d used → (c : Chooser) → ChoosesBy s F table c → IsVisit c bits before start (count_answer node d now.pending) now used
+    count-exact F table bits d start used t uses drawn c by = record { same = λ ne. same }
+      where
+        a : Attempt
+        a = attempt_of before start
+
+        same : told_visit (count_answer node d now.pending) now used ≡ visit c (bit_of bits (fault_place (count_answer node d now.pending) used)) (attempt_of before start)
+        same =
+            let bit = bit_of bits (fault_place (count_answer node d now.pending) used) in
+            let here : node_at c.spec node.0 ≡ Some (counted_node at.kind part) = ap (λ (z : Spec). node_at z node.0) by.same_spec ∙ at.here in
+            let decide : c.decide node.0 (room_for c part before.room) ≡ count_decision s F table node.0 room = ap (c.decide node.0) (room-is s c part before.room room (by.frees part) room_at) ∙ by.at_counted node.0 room (record { kind = at.kind; part = part; here = at.here }) in
+            let drew : told_count d used ≡ draw (c.decide node.0 (room_for c part before.room)) bit start = drawn.same ∙ ap (λ p. draw (count_decision s F table node.0 room) (bit_of bits p) start) (same-fault d used) ∙ ap (λ (choose : Cell → Option Choice). draw choose bit start) (sym decide) in
+            told d start used t uses
+            ∙ ap (after_draw node.0 (counted_answered a part f.rest)) drew
+            ∙ visited-is at.kind c bit a node.0 part f.rest
+            ∙ ap (node_visited c bit a node.0 f.rest) (sym here)
+            ∙ ap (visit_among c bit a) (sym f.whole)
+
+    module _ (x : Fraction) (sound : IsSound s) (founded : IsWellFounded s) (decided : HasZero s part ⊎ (¬ (HasZero s part))) (b : SessionBelongs s x before) where
+      small : (value : ℕ) → value ≤ room → (value ≤ before.room) ⊎ HasZero s part
+      small value le = elim decided [ inl zero ↦ inr zero | inr none ↦ inl (subst (λ r. value ≤ r) (room_at.taking none) le) ]
+
+      -- where every number up to the room is passed over, the part has no object of size 0
+      no_zero : (cell : Cell) → IsOverOfCell s x node.0 cell room → ¬ (HasZero s part)
+      no_zero cell over zero = free-not_over s sound founded x node.0 part at.kind cell at.here zero (subst (IsOverOfCell s x node.0 cell) (room_at.free zero) over)
+
+      pub count-session : (d : CountDrawn) → CountSettled node part d before now → OnCount d (λ i cell. IsIdealOfCell s x node.0 cell i) → OnOver d (λ cell. IsOverOfCell s x node.0 cell room) → OnCount d (λ i cell. IsInRange i (range_at s node.0) × (i ≤ room)) → SessionBelongs s x now × IsIdealAnswer s x (count_answer node d now.pending) now
+      count-session (counted.Count value cell) t ideal over within =
+          let part_in = part_inside s node.0 part at.kind sound at.here in
+          let visit = ideal-counted s x before.whole (attempt_of before 0) b.attempt node.0 f.rest f.whole value part (counted_node at.kind part) (form_of at.kind) cell at.here (is_counted at.kind part) part_in (small value within.1) ideal in
+          let attempt = told-for now.pending now cell.b ∙ ap Visited.Went (repeats value cell 0 cell.b t (sym (zero-add cell.b))) in
+          still-belongs s x before now (count_answer node (counted.Count value cell) now.pending) cell.b b (count-leaves (counted.Count value cell) t) (λ ne. subst (IsIdealVisit s x before.whole) (sym attempt) visit)
+      count-session (counted.Over cell) t ideal over within =
+          let none = no_zero cell over in
+          let visit = ideal-over s x before.whole (attempt_of before 0) b.attempt node.0 f.rest f.whole part (counted_node at.kind part) (form_of at.kind) cell at.here (is_counted at.kind part) none (subst (IsOverOfCell s x node.0 cell) (room_at.taking none) over) in
+          let attempt = ap Visited.Over (gives-up cell 0 cell.b t (sym (zero-add cell.b))) in
+          still-belongs s x before now Overshot cell.b b (count-leaves (counted.Over cell) t) (λ ne. subst (IsIdealVisit s x before.whole) (sym attempt) visit)
+      count-session (counted.Straddles cell) t ideal over within = still-belongs s x before now (Straddles node cell) 0 b (count-leaves (counted.Straddles cell) t) (λ ne. tt)
+      count-session counted.Ended t ideal over within = still-belongs s x before now Ended 0 b (count-leaves counted.Ended t) (λ ne. tt)
+      count-session counted.ReadFault t ideal over within = still-belongs s x before now ReadFault 0 b (count-leaves counted.ReadFault t) (λ ne. tt)
+
+-- The same for an answer that is the draw's.
+module _ (node : ExprId) (part : ℕ) (before now : SessionState) (first : slice_get before.pending 0 ≡ Some node.0) (d : CountDrawn) (answer : Stepped) (answered : answer ≡ count_answer node d now.pending) (settled : CountSettled node part d before now) where
+  pub counted-leaves : Leaves answer before now
+  counted-leaves = subst (λ a. Leaves a before now) (sym answered) (count-leaves node part before now first d settled)
+
+  pub counted-draws : (start used : ℕ) → UsesBits d start used → HasCell d → Draws answer before now start used
+  counted-draws start used bits h = subst (λ a. Draws a before now start used) (sym answered) (count-draws node part before now first d start used settled bits h)
+
+  module _ (s : Spec) (at : HasCountedPart s node.0 part) (room : ℕ) (room_at : IsRoomFor s part before.room room) where
+    pub counted-exact : (F : ℕ) (table : (level e : ℕ) → Bounds) (start used : ℕ) → UsesBits d start used → (bits : ℕ → Option Bool) → IsCountDrawn (count_decision s F table node.0 room) bits start d used → (c : Chooser) → ChoosesBy s F table c → IsVisit c bits before start answer now used
+    counted-exact F table start used uses bits drawn c by = subst (λ a. IsVisit c bits before start a now used) (sym answered) (count-exact node part before now first s at room room_at F table bits d start used settled uses drawn c by)
+
+    pub counted-session : (x : Fraction) → IsSound s → IsWellFounded s → HasZero s part ⊎ (¬ (HasZero s part)) → OnCount d (λ i cell. IsIdealOfCell s x node.0 cell i) → OnOver d (λ cell. IsOverOfCell s x node.0 cell room) → OnCount d (λ i cell. IsInRange i (range_at s node.0) × (i ≤ room)) → SessionBelongs s x before → SessionBelongs s x now × IsIdealAnswer s x answer now
+    counted-session x sound founded decided ideal over within b = subst (λ a. SessionBelongs s x now × IsIdealAnswer s x a now) (sym answered) (count-session node part before now first s at room room_at x sound founded decided b d settled ideal over within)
