@@ -81,7 +81,7 @@ same-state a b attempt awaits kept thrown turns ending =
     ∙ ap (λ n. record a { attempt = b.attempt; awaits = b.awaits; kept = b.kept; thrown = b.thrown; turns = n }) turns
     ∙ ap (λ o. record a { attempt = b.attempt; awaits = b.awaits; kept = b.kept; thrown = b.thrown; turns = b.turns; ending = o }) ending
 
-module _ (s : Spec) (x : Fraction) (plain : s.mode ≡ Mode.Unlabelled) (table : (level node : ℕ) → Bounds) (bits : Option (ℕ → Option Bool)) (before : DrawingState) (b : DrawingBelongs s x before) (start : ℕ) (going : before.ending ≡ None) (fewer : before.kept ≢ before.limits.count) (more : before.turns ≢ before.limits.turns) (some : before.session.pending ≢ []) (session : SessionState) (used : ℕ) where
+module _ (s : Spec) (x : Fraction) (plain : s.mode ≡ Mode.Unlabelled) (F : ℕ) (table : (level node : ℕ) → Bounds) (bits : Option (ℕ → Option Bool)) (before : DrawingState) (b : DrawingBelongs s x before) (start : ℕ) (going : before.ending ≡ None) (fewer : before.kept ≢ before.limits.count) (more : before.turns ≢ before.limits.turns) (some : before.session.pending ≢ []) (session : SessionState) (used : ℕ) where
   -- the drawing with the session after the visit
   abbrev mid : DrawingState
   mid = record before { session = session }
@@ -92,10 +92,10 @@ module _ (s : Spec) (x : Fraction) (plain : s.mode ≡ Mode.Unlabelled) (table :
 
   -- The visit is told exactly.
   abbrev IsTold : Stepped → Type 0
-  IsTold step = IfSome bits (λ tape. (c : Chooser) → ChoosesBy s table c → IsVisit c tape before.session start step session used)
+  IsTold step = IfSome bits (λ tape. (c : Chooser) → ChoosesBy s F table c → IsVisit c tape before.session start step session used)
 
   visit-exact : (step : Stepped) (result : Turned) (turned : run.Turned) → step ≢ stepped.OutOfMemory → option_map (λ given. start + given) (told_fault None result (used - start)) ≡ told.fault_place step used → Means step turned → IsTold step
-      → IfSome bits (λ tape. (c : Chooser) → ChoosesBy s table c → turned ≡ turn (record { chooser = c; limits = before.limits; tape = tape }) (told_fault before.ending result (used - start)) (state_of before start))
+      → IfSome bits (λ tape. (c : Chooser) → ChoosesBy s F table c → turned ≡ turn (record { chooser = c; limits = before.limits; tape = tape }) (told_fault before.ending result (used - start)) (state_of before start))
   visit-exact step result turned ne fault means exact = if-told bits (λ tape seen c by. sym (
       turn-visits (record { chooser = c; limits = before.limits; tape = tape }) (told_fault before.ending result (used - start)) before start refl going fewer more some
       ∙ ap (λ f. visited (record { chooser = c; limits = before.limits; tape = tape }) (in_turn before (attempt_of before.session start)) (visit c (bit_of tape f) (attempt_of before.session start))) (ap (λ (o : Option Ending). option_map (λ given. start + given) (told_fault o result (used - start))) going ∙ fault)
@@ -107,18 +107,18 @@ module _ (s : Spec) (x : Fraction) (plain : s.mode ≡ Mode.Unlabelled) (table :
   more_cells = added before.session.cells session.cells
 
   added-now : (c : Course) → c.state ≡ state_of before start → told.Extends before.session.cells session.cells → c.state.attempt.cells ++ more_cells ≡ session.cells
-  added-now c same e = ap (λ cs. cs ++ more_cells) (course-cells s x table bits before b start c same some) ∙ sym (extended before.session.cells e.more session.cells e.whole)
+  added-now c same e = ap (λ cs. cs ++ more_cells) (course-cells s x F table bits before b start c same some) ∙ sym (extended before.session.cells e.more session.cells e.whole)
 
   -- a state in which nothing is pending
   no-cells : (d : DrawingState) → d.session.pending ≡ [] → (state_of d used).attempt.cells ≡ []
   no-cells d none = ap (λ (a : Attempt). a.cells) (running-none d.session d.session.pending used none)
 
-  moved : session.pending ≢ [] → told.Extends before.session.cells session.cells → IsTold stepped.Moved → IsTurn s x table bits before start answer.Going (counted mid) used
+  moved : session.pending ≢ [] → told.Extends before.session.cells session.cells → IsTold stepped.Moved → IsTurn s x F table bits before start answer.Going (counted mid) used
   moved pending extends exact = record {
     turned = record { state = state_of (counted mid) used; entry = None; cells = more_cells };
     state = refl;
     entry = refl;
-    goes = λ c same k. goes-on s x before.limits c k (state_of (counted mid) used) more_cells session.cells (course-going s x table bits before b start c same going) (added-now c same extends) (ap (λ (a : Attempt). a.cells) (running-some session session.pending used pending)) (course-kept s x table bits before b start c same) (course-thrown s x table bits before b start c same);
+    goes = λ c same k. goes-on s x before.limits c k (state_of (counted mid) used) more_cells session.cells (course-going s x F table bits before b start c same going) (added-now c same extends) (ap (λ (a : Attempt). a.cells) (running-some session session.pending used pending)) (course-kept s x F table bits before b start c same) (course-thrown s x F table bits before b start c same);
     exact = visit-exact stepped.Moved answer.Going (record { state = state_of (counted mid) used; entry = None; cells = more_cells }) (λ e. cc) refl (λ c tape is.
         went-some (record { chooser = c; limits = before.limits; tape = tape }) (in_turn before (attempt_of session used)) session.pending more_cells pending
         ∙ ap (λ st. record { state = st; entry = None; cells = more_cells }) (sym (state-at mid (attempt_of session used) used (running-some session session.pending used pending)))) exact;
@@ -129,25 +129,25 @@ module _ (s : Spec) (x : Fraction) (plain : s.mode ≡ Mode.Unlabelled) (table :
   thrown-state none = same-state (thrown_away (in_turn before (attempt_of session used))) (state_of (thrown_one (counted mid)) used) (sym (running-none session session.pending used none)) refl refl (sym (add-one before.thrown)) (sym (add-one before.turns)) refl
 
   one-thrown : (c : Course) → c.state ≡ state_of before start → before.thrown + 1 ≡ c.state.thrown + 1
-  one-thrown c same = ap (λ n. n + 1) (course-thrown s x table bits before b start c same)
+  one-thrown c same = ap (λ n. n + 1) (course-thrown s x F table bits before b start c same)
 
-  small : session.pending ≡ [] → told.Extends before.session.cells session.cells → IsIdealShape s x before.limits.max session.tokens session.cells → size_of session.tokens < before.limits.min → IsTold stepped.Made → IsTurn s x table bits before start answer.Going (thrown_one (counted mid)) used
+  small : session.pending ≡ [] → told.Extends before.session.cells session.cells → IsIdealShape s x before.limits.max session.tokens session.cells → size_of session.tokens < before.limits.min → IsTold stepped.Made → IsTurn s x F table bits before start answer.Going (thrown_one (counted mid)) used
   small none extends ideal little exact = record {
     turned = record { state = state_of (thrown_one (counted mid)) used; entry = None; cells = more_cells };
     state = refl;
     entry = refl;
-    goes = λ c same k. goes-small s x before.limits c k (state_of (thrown_one (counted mid)) used) more_cells session.cells (course-going s x table bits before b start c same going) (added-now c same extends) (no-cells (thrown_one (counted mid)) none) (course-fewer s x table bits before b start c same fewer) session.tokens ideal little (course-kept s x table bits before b start c same) (one-thrown c same);
+    goes = λ c same k. goes-small s x before.limits c k (state_of (thrown_one (counted mid)) used) more_cells session.cells (course-going s x F table bits before b start c same going) (added-now c same extends) (no-cells (thrown_one (counted mid)) none) (course-fewer s x F table bits before b start c same fewer) session.tokens ideal little (course-kept s x F table bits before b start c same) (one-thrown c same);
     exact = visit-exact stepped.Made answer.Going (record { state = state_of (thrown_one (counted mid)) used; entry = None; cells = more_cells }) (λ e. cc) refl (λ c tape is.
         went-small (record { chooser = c; limits = before.limits; tape = tape }) (in_turn before (attempt_of session used)) session.pending more_cells none little
         ∙ ap (λ st. record { state = st; entry = None; cells = more_cells }) (thrown-state none)) exact;
   }
 
-  over : session.pending ≡ [] → told.Extends before.session.cells session.cells → IsIdealOver s x before.limits.max session.cells → IsTold stepped.Overshot → IsTurn s x table bits before start answer.Going (thrown_one (counted mid)) used
+  over : session.pending ≡ [] → told.Extends before.session.cells session.cells → IsIdealOver s x before.limits.max session.cells → IsTold stepped.Overshot → IsTurn s x F table bits before start answer.Going (thrown_one (counted mid)) used
   over none extends ideal exact = record {
     turned = record { state = state_of (thrown_one (counted mid)) used; entry = None; cells = more_cells };
     state = refl;
     entry = refl;
-    goes = λ c same k. goes-over s x before.limits c k (state_of (thrown_one (counted mid)) used) more_cells session.cells (course-going s x table bits before b start c same going) (added-now c same extends) (no-cells (thrown_one (counted mid)) none) (course-fewer s x table bits before b start c same fewer) ideal (course-kept s x table bits before b start c same) (one-thrown c same);
+    goes = λ c same k. goes-over s x before.limits c k (state_of (thrown_one (counted mid)) used) more_cells session.cells (course-going s x F table bits before b start c same going) (added-now c same extends) (no-cells (thrown_one (counted mid)) none) (course-fewer s x F table bits before b start c same fewer) ideal (course-kept s x F table bits before b start c same) (one-thrown c same);
     exact = visit-exact stepped.Overshot answer.Going (record { state = state_of (thrown_one (counted mid)) used; entry = None; cells = more_cells }) (λ e. cc) refl (λ c tape is.
         ap (λ st. record { state = st; entry = None; cells = more_cells }) (thrown-state none)) exact;
   }
@@ -168,12 +168,12 @@ module _ (s : Spec) (x : Fraction) (plain : s.mode ≡ Mode.Unlabelled) (table :
         (ap (λ cs. used - bits_in cs) no_more ∙ sym place)
         (ap size_of (sym shape)) (sym shape) refl (no_more ∙ sym cells)
 
-    large : session.pending ≡ [] → told.Extends before.session.cells session.cells → IsIdealShape s x before.limits.max session.tokens session.cells → before.limits.min ≤ size_of session.tokens → IsTold stepped.Made → IsTurn s x table bits before start (answer.Kept e) keeping used
+    large : session.pending ≡ [] → told.Extends before.session.cells session.cells → IsIdealShape s x before.limits.max session.tokens session.cells → before.limits.min ≤ size_of session.tokens → IsTold stepped.Made → IsTurn s x F table bits before start (answer.Kept e) keeping used
     large none extends ideal enough exact = record {
       turned = record { state = state_of keeping used; entry = Some (entry_of e); cells = more_cells };
       state = refl;
       entry = refl;
-      goes = λ c same k. goes-kept s x before.limits c k (state_of keeping used) more_cells session.cells (course-going s x table bits before b start c same going) (added-now c same extends) (no-cells keeping none) (course-fewer s x table bits before b start c same fewer) plain session.tokens ideal enough (entry_of e) shape refl (ap (λ n. n + 1) (course-kept s x table bits before b start c same)) (course-thrown s x table bits before b start c same);
+      goes = λ c same k. goes-kept s x before.limits c k (state_of keeping used) more_cells session.cells (course-going s x F table bits before b start c same going) (added-now c same extends) (no-cells keeping none) (course-fewer s x F table bits before b start c same fewer) plain session.tokens ideal enough (entry_of e) shape refl (ap (λ n. n + 1) (course-kept s x F table bits before b start c same)) (course-thrown s x F table bits before b start c same);
       exact = visit-exact stepped.Made (answer.Kept e) (record { state = state_of keeping used; entry = Some (entry_of e); cells = more_cells }) (λ e. cc) refl (λ c tape is.
           went-large (record { chooser = c; limits = before.limits; tape = tape }) (in_turn before (attempt_of session used)) session.pending more_cells none (ap (λ (t : Spec). t.mode) is ∙ plain) enough
           ∙ ap (λ st. record { state = st; entry = Some (run.entry_of (in_turn before (attempt_of session used)) [] []); cells = more_cells }) (kept-state none)
@@ -182,12 +182,12 @@ module _ (s : Spec) (x : Fraction) (plain : s.mode ≡ Mode.Unlabelled) (table :
 
   -- the visit stopped, at a place
   stopped : (step : Stepped) (e : Ending) → session ≡ stopped_by before.session step → step ≢ stepped.OutOfMemory → option_map (λ given. start + given) (told_fault None (answer.Finished e) (used - start)) ≡ told.fault_place step used
-      → Means step (quiet (run.ended (in_turn before (attempt_of before.session start)) (ending_of e) used)) → IsTold step → IsTurn s x table bits before start (answer.Finished e) (ended_by (counted mid) e) used
+      → Means step (quiet (run.ended (in_turn before (attempt_of before.session start)) (ending_of e) used)) → IsTold step → IsTurn s x F table bits before start (answer.Finished e) (ended_by (counted mid) e) used
   stopped step e left ne fault means exact = record {
     turned = quiet (state_of (ended_by (counted mid) e) used);
     state = refl;
     entry = refl;
-    goes = λ c same k. goes-ended s x before.limits c k (state_of (ended_by (counted mid) e) used) (λ none. cc) (course-kept s x table bits before b start c same) (course-thrown s x table bits before b start c same);
+    goes = λ c same k. goes-ended s x before.limits c k (state_of (ended_by (counted mid) e) used) (λ none. cc) (course-kept s x F table bits before b start c same) (course-thrown s x F table bits before b start c same);
     exact = visit-exact step (answer.Finished e) (quiet (state_of (ended_by (counted mid) e) used)) ne fault (λ c tape is.
         means c tape is
         ∙ ap quiet (same-state (run.ended (in_turn before (attempt_of before.session start)) (ending_of e) used) (state_of (ended_by (counted mid) e) used) (sym attempt) refl refl refl (sym (add-one before.turns)) refl)) exact;
@@ -197,21 +197,21 @@ module _ (s : Spec) (x : Fraction) (plain : s.mode ≡ Mode.Unlabelled) (table :
       attempt = ap (λ (st : SessionState). running st st.pending used) left ∙ running-some (stopped_by before.session step) before.session.pending used some
 
   -- a visit, from its answer and what was done after it
-  pub visit-turn : (step : Stepped) (result : Turned) (now : DrawingState) → start ≤ used → Leaves step before.session session → Draws step before.session session start used → IsIdealAnswer s x step session → IsTold step → Settles (outcome_of table step) used mid result now → result ≢ answer.OutOfMemory → IsTurn s x table bits before start result now used
-  visit-turn stepped.Moved result now le leaves draws ideal exact settles ne = is-turn s x table bits before b start answer.Going (counted mid) settles.0 settles.1 (moved leaves.1 draws exact)
-  visit-turn stepped.Made result now le leaves draws ideal exact (inl settles) ne = is-turn s x table bits before b start answer.Going (thrown_one (counted mid)) settles.1.0 settles.1.1 (small leaves.1 draws (subst (λ w. IsIdealShape s x w session.tokens session.cells) (leaves.0.whole ∙ b.whole) ideal) settles.0 exact)
+  pub visit-turn : (step : Stepped) (result : Turned) (now : DrawingState) → start ≤ used → Leaves step before.session session → Draws step before.session session start used → IsIdealAnswer s x step session → IsTold step → Settles (outcome_of table step) used mid result now → result ≢ answer.OutOfMemory → IsTurn s x F table bits before start result now used
+  visit-turn stepped.Moved result now le leaves draws ideal exact settles ne = is-turn s x F table bits before b start answer.Going (counted mid) settles.0 settles.1 (moved leaves.1 draws exact)
+  visit-turn stepped.Made result now le leaves draws ideal exact (inl settles) ne = is-turn s x F table bits before b start answer.Going (thrown_one (counted mid)) settles.1.0 settles.1.1 (small leaves.1 draws (subst (λ w. IsIdealShape s x w session.tokens session.cells) (leaves.0.whole ∙ b.whole) ideal) settles.0 exact)
   visit-turn stepped.Made result now le leaves draws ideal exact (inr settles) ne =
       let k = settles.1 in
-      is-turn s x table bits before b start (answer.Kept k.entry) keeping k.told k.now_is (large k.entry k.number k.place k.shape k.cells leaves.1 draws (subst (λ w. IsIdealShape s x w session.tokens session.cells) (leaves.0.whole ∙ b.whole) ideal) settles.0 exact)
-  visit-turn stepped.Overshot result now le leaves draws ideal exact settles ne = is-turn s x table bits before b start answer.Going (thrown_one (counted mid)) settles.0 settles.1 (over leaves.1 draws (subst (λ w. IsIdealOver s x w session.cells) (leaves.0.whole ∙ b.whole) ideal) exact)
+      is-turn s x F table bits before b start (answer.Kept k.entry) keeping k.told k.now_is (large k.entry k.number k.place k.shape k.cells leaves.1 draws (subst (λ w. IsIdealShape s x w session.tokens session.cells) (leaves.0.whole ∙ b.whole) ideal) settles.0 exact)
+  visit-turn stepped.Overshot result now le leaves draws ideal exact settles ne = is-turn s x F table bits before b start answer.Going (thrown_one (counted mid)) settles.0 settles.1 (over leaves.1 draws (subst (λ w. IsIdealOver s x w session.cells) (leaves.0.whole ∙ b.whole) ideal) exact)
   visit-turn (stepped.Straddles node cell) result now le leaves draws ideal exact settles ne =
       let e : Ending = ending.Undecided (straddle.Node node cell (table 6 node.0).lo (table 6 node.0).hi) in
-      is-turn s x table bits before b start (answer.Finished e) (ended_by (counted mid) e) settles.0 settles.1
+      is-turn s x F table bits before b start (answer.Finished e) (ended_by (counted mid) e) settles.0 settles.1
       (stopped (stepped.Straddles node cell) e leaves (λ e. cc) refl (λ c tape is. ap (λ n. quiet (run.ended (in_turn before (attempt_of before.session start)) (run.Ending.Undecided (run.Open.AtNode node.0 cell)) n)) (sym draws.all_used)) exact)
   visit-turn stepped.Ended result now le leaves draws ideal exact settles ne =
-      is-turn s x table bits before b start (answer.Finished ending.TapeEnded) (ended_by (counted mid) ending.TapeEnded) settles.0 settles.1
+      is-turn s x F table bits before b start (answer.Finished ending.TapeEnded) (ended_by (counted mid) ending.TapeEnded) settles.0 settles.1
       (stopped stepped.Ended ending.TapeEnded leaves (λ e. cc) refl (λ c tape is. refl) exact)
   visit-turn stepped.ReadFault result now le leaves draws ideal exact settles ne =
-      is-turn s x table bits before b start (answer.Finished ending.ReadFault) (ended_by (counted mid) ending.ReadFault) settles.0 settles.1
+      is-turn s x F table bits before b start (answer.Finished ending.ReadFault) (ended_by (counted mid) ending.ReadFault) settles.0 settles.1
       (stopped stepped.ReadFault ending.ReadFault leaves (λ e. cc) (ap Some (let whole : start + (used - start) ≡ used = omega arith in whole)) (λ c tape is. refl) exact)
   visit-turn stepped.OutOfMemory result now le leaves draws ideal exact settles ne = absurd (ne settles.0)

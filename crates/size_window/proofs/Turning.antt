@@ -115,7 +115,7 @@ state-at d a used is =
 pub ending-none : (d : DrawingState) → d.ending ≡ None → option_map ending_of d.ending ≡ None
 ending-none d going = ap (λ (o : Option Ending). option_map ending_of o) going
 
-module _ (s : Spec) (x : Fraction) (table : (level node : ℕ) → Bounds) (bits : Option (ℕ → Option Bool)) (before : DrawingState) (b : DrawingBelongs s x before) (start : ℕ) where
+module _ (s : Spec) (x : Fraction) (F : ℕ) (table : (level node : ℕ) → Bounds) (bits : Option (ℕ → Option Bool)) (before : DrawingState) (b : DrawingBelongs s x before) (start : ℕ) where
   -- what the course was in
   module _ (c : Course) (same : c.state ≡ state_of before start) where
     pub course-going : before.ending ≡ None → c.state.ending ≡ None
@@ -136,7 +136,7 @@ module _ (s : Spec) (x : Fraction) (table : (level node : ℕ) → Bounds) (bits
     course-idle : before.session.pending ≡ [] → c.state.attempt.cells ≡ []
     course-idle none = ap (λ (st : State). st.attempt.cells) same ∙ ap (λ (a : Attempt). a.cells) (running-none before.session before.session.pending start none)
 
-  again-turn : (e : Ending) → before.ending ≡ Some e → IsTurn s x table bits before start (answer.Finished e) before start
+  again-turn : (e : Ending) → before.ending ≡ Some e → IsTurn s x F table bits before start (answer.Finished e) before start
   again-turn e is = record {
     turned = quiet (state_of before start);
     state = refl;
@@ -145,7 +145,7 @@ module _ (s : Spec) (x : Fraction) (table : (level node : ℕ) → Bounds) (bits
     exact = if-any bits (λ tape c by. sym (turn-again (record { chooser = c; limits = before.limits; tape = tape }) (told_fault before.ending (answer.Finished e) (start - start)) before start refl e is));
   }
 
-  done-turn : before.ending ≡ None → before.kept ≡ before.limits.count → IsTurn s x table bits before start (answer.Finished ending.Done) (ended_by before ending.Done) start
+  done-turn : before.ending ≡ None → before.kept ≡ before.limits.count → IsTurn s x F table bits before start (answer.Finished ending.Done) (ended_by before ending.Done) start
   done-turn going full = record {
     turned = quiet (state_of (ended_by before ending.Done) start);
     state = refl;
@@ -154,7 +154,7 @@ module _ (s : Spec) (x : Fraction) (table : (level node : ℕ) → Bounds) (bits
     exact = if-any bits (λ tape c by. sym (turn-done (record { chooser = c; limits = before.limits; tape = tape }) (told_fault before.ending (answer.Finished ending.Done) (start - start)) before start refl going full));
   }
 
-  spent-turn : before.ending ≡ None → before.kept ≢ before.limits.count → before.turns ≡ before.limits.turns → IsTurn s x table bits before start (answer.Finished ending.TurnLimit) (ended_by before ending.TurnLimit) start
+  spent-turn : before.ending ≡ None → before.kept ≢ before.limits.count → before.turns ≡ before.limits.turns → IsTurn s x F table bits before start (answer.Finished ending.TurnLimit) (ended_by before ending.TurnLimit) start
   spent-turn going fewer spent = record {
     turned = quiet (state_of (ended_by before ending.TurnLimit) start);
     state = refl;
@@ -171,7 +171,7 @@ module _ (s : Spec) (x : Fraction) (table : (level node : ℕ) → Bounds) (bits
       ap (λ e. record { pending = e ∷ []; tokens = []; cells = []; room = before.session.whole; used = start }) (sym index)
       ∙ ap (λ w. record { pending = slice_index c.spec.bodies 0 ∷ []; tokens = []; cells = []; room = w; used = start }) b.whole
 
-  begun-turn : before.ending ≡ None → before.kept ≢ before.limits.count → before.turns ≢ before.limits.turns → before.session.pending ≡ [] → IsTurn s x table bits before start answer.Going (begun_one before) start
+  begun-turn : before.ending ≡ None → before.kept ≢ before.limits.count → before.turns ≢ before.limits.turns → before.session.pending ≡ [] → IsTurn s x F table bits before start answer.Going (begun_one before) start
   begun-turn going fewer more none = record {
     turned = quiet (state_of (begun_one before) start);
     state = refl;
@@ -183,11 +183,11 @@ module _ (s : Spec) (x : Fraction) (table : (level node : ℕ) → Bounds) (bits
   }
 
   -- the same for an answer and a drawing that are these
-  pub is-turn : {result : Turned} {now : DrawingState} {used : ℕ} (told_result : Turned) (told_now : DrawingState) → result ≡ told_result → now ≡ told_now → IsTurn s x table bits before start told_result told_now used → IsTurn s x table bits before start result now used
-  is-turn {result} {now} {used} told_result told_now same_result same_now h = subst (λ r. IsTurn s x table bits before start r now used) (sym same_result) (subst (λ d. IsTurn s x table bits before start told_result d used) (sym same_now) h)
+  pub is-turn : {result : Turned} {now : DrawingState} {used : ℕ} (told_result : Turned) (told_now : DrawingState) → result ≡ told_result → now ≡ told_now → IsTurn s x F table bits before start told_result told_now used → IsTurn s x F table bits before start result now used
+  is-turn {result} {now} {used} told_result told_now same_result same_now h = subst (λ r. IsTurn s x F table bits before start r now used) (sym same_result) (subst (λ d. IsTurn s x F table bits before start told_result d used) (sym same_now) h)
 
   -- a turn that visits nothing
-  pub idle-turn : (result : Turned) (now : DrawingState) → IsIdleTurn before (Some result) now → result ≢ answer.OutOfMemory → IsTurn s x table bits before start result now start
+  pub idle-turn : (result : Turned) (now : DrawingState) → IsIdleTurn before (Some result) now → result ≢ answer.OutOfMemory → IsTurn s x F table bits before start result now start
   idle-turn result now (turning.again e is told same) ne = is-turn (answer.Finished e) before (cc) same (again-turn e is)
   idle-turn result now (turning.done going full told same) ne = is-turn (answer.Finished ending.Done) (ended_by before ending.Done) (cc) same (done-turn going full)
   idle-turn result now (turning.turn_limit going fewer spent told same) ne = is-turn (answer.Finished ending.TurnLimit) (ended_by before ending.TurnLimit) (cc) same (spent-turn going fewer spent)

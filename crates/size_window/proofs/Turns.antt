@@ -38,7 +38,7 @@ module _ (s : Spec) (x : Fraction) (before seen : DrawingState) (same : seen ≡
     pub kept-then : IfKept result (IsNext before.limits before.kept used)
     kept-then = subst (λ (d : DrawingState). IfKept result (IsNext d.limits d.kept used)) same (visit-kept s x seen belongs-seen visits-seen session belongs table step used result now (left runs-seen) ideal settles)
 
-    pub turn-then : s.mode ≡ Mode.Unlabelled → (bits : Option (ℕ → Option Bool)) (start : ℕ) → start ≤ used → (seen.session.stopped ≡ None → Draws step seen.session session start used) → (seen.session.stopped ≡ None → IfSome bits (λ tape. (c : Chooser) → ChoosesBy s table c → IsVisit c tape seen.session start step session used)) → result ≢ answer.OutOfMemory → IsTurn s x table bits before start result now used
-    turn-then plain bits start le draws exact ne =
-        subst (λ d. IsTurn s x table bits d start result now used) same
-        (visit-turn s x plain table bits seen belongs-seen start visits-seen.going visits-seen.fewer visits-seen.more visits-seen.some session used step result now le (left runs-seen) (draws runs-seen) ideal (exact runs-seen) settles ne)
+    pub turn-then : (F : ℕ) → s.mode ≡ Mode.Unlabelled → (bits : Option (ℕ → Option Bool)) (start : ℕ) → start ≤ used → (seen.session.stopped ≡ None → Draws step seen.session session start used) → (seen.session.stopped ≡ None → IfSome bits (λ tape. (c : Chooser) → ChoosesBy s F table c → IsVisit c tape seen.session start step session used)) → result ≢ answer.OutOfMemory → IsTurn s x F table bits before start result now used
+    turn-then F plain bits start le draws exact ne =
+        subst (λ d. IsTurn s x F table bits d start result now used) same
+        (visit-turn s x plain F table bits seen belongs-seen start visits-seen.going visits-seen.fewer visits-seen.more visits-seen.some session used step result now le (left runs-seen) (draws runs-seen) ideal (exact runs-seen) settles ne)

@@ -38,12 +38,12 @@ told_fault None (Finished ReadFault) given = Some given
 told_fault _ _ given = None
 
 -- A drawing's turn: there are a state, an entry and finished cells such that the state is that of the drawing now, and the entry is the one told. A course that goes as ideal runs do still does with this turn more. Over bits that are told it is the turn that they fix.
-pub record IsTurn (s : Spec) (x : Fraction) (table : (level node : ℕ) → Bounds) (bits : Option (ℕ → Option Bool)) (before : DrawingState) (start : ℕ) (answer : Turned) (now : DrawingState) (used : ℕ) : Type 0 where
+pub record IsTurn (s : Spec) (x : Fraction) (F : ℕ) (table : (level node : ℕ) → Bounds) (bits : Option (ℕ → Option Bool)) (before : DrawingState) (start : ℕ) (answer : Turned) (now : DrawingState) (used : ℕ) : Type 0 where
   pub turned : run.Turned
   pub state : turned.state ≡ state_of now used
   pub entry : turned.entry ≡ told_entry answer
   pub goes : (c : Course) → c.state ≡ state_of before start → Goes s x before.limits c → Goes s x before.limits (followed_by c turned)
-  pub exact : IfSome bits (λ tape. (c : Chooser) → ChoosesBy s table c → turned ≡ turn (record { chooser = c; limits = before.limits; tape = tape }) (told_fault before.ending answer (used - start)) (state_of before start))
+  pub exact : IfSome bits (λ tape. (c : Chooser) → ChoosesBy s F table c → turned ≡ turn (record { chooser = c; limits = before.limits; tape = tape }) (told_fault before.ending answer (used - start)) (state_of before start))
 
 -- How many objects an answer keeps, and their atoms.
 abbrev pub kept_by : Turned → ℕ

@@ -6,7 +6,6 @@ ghost use Rattle.bz_model.specs.Oracle.{cost_between};
 ghost use Rattle.bit_tape.specs.Tape.{TapeSource, Belongs, bits_of, HasFault};
 ghost use Rattle.choice_draw.specs.Decision.{level_for};
 ghost use Rattle.object_store.specs.Tokens.{size_of};
-ghost use Rattle.shape_sampler.specs.Ready.{IsReady};
 ghost use Rattle.size_window.specs.RunByBits.{start, bits_in};
 ghost use Rattle.size_window.specs.Drawing.{limits_of, state_of, AreLimits, DrawingBelongs, counted, thrown_one, kept_shape, ended_by, begun_one};
 ghost use Rattle.size_window.specs.Turn.{IsTurn, turns_by, IsCounted, IfKept, IsNext, TellsOpen, outcome_of, IsIdleTurn, IfStraddles, Settles, MaySettle};
@@ -104,7 +103,6 @@ impl Drawing {
         steps: &mut Steps<L>,
     ) -> Turned
         requires fraction { (24 ≤ F) × (F ≤ 56) }
-        requires ready { IsReady founded.now }
         requires unlabelled { founded.now.mode ≡ Mode.Unlabelled }
         requires spec { O.spec oracle.old ≡ founded.now }
         requires drawing { DrawingBelongs founded.now (O.x oracle.old) self.old }
@@ -119,7 +117,7 @@ impl Drawing {
         ensures uncounted { turns_by self.old.ending result ≡ 0
             → (tape.new ≡ tape.old) × (oracle.new ≡ oracle.old) }
         ensures turned { result ≢ Turned.OutOfMemory
-            → IsTurn founded.now (O.x oracle.old) (O.table oracle.old)
+            → IsTurn founded.now (O.x oracle.old) F (O.table oracle.old)
             (bits_of tape.old.source (S.content shelf.old))
             self.old tape.old.used result self.new tape.new.used }
         ensures counted { IsCounted self.old result self.new }

@@ -11,7 +11,7 @@ use Rattle.size_window.proofs.Turns.{may-settle-seen, belongs-then, kept-then, t
 use Rattle.size_window.proofs.drawing.Drawing.turn.Goals as goal
 
 pub returns-in-Some-clause-turned : goal.returns-in-Some-clause-turned
-returns-in-Some-clause-turned g c = idle-turn c.args.founded.now (g.O.Oracle.x c.args.oracle.now) (g.O.Oracle.table c.args.oracle.now) (bits_of c.args.tape.now.source (g.S.Shelf.content c.args.shelf.now)) c.args.self.now c.requires.drawing c.args.tape.now.used c.in-Some.turned c.idle_turn.new.self c.in-Some.ensures
+returns-in-Some-clause-turned g c = idle-turn c.args.founded.now (g.O.Oracle.x c.args.oracle.now) g.row.F (g.O.Oracle.table c.args.oracle.now) (bits_of c.args.tape.now.source (g.S.Shelf.content c.args.shelf.now)) c.args.self.now c.requires.drawing c.args.tape.now.used c.in-Some.turned c.idle_turn.new.self c.in-Some.ensures
 
 pub returns-in-Some-clause-drawing : goal.returns-in-Some-clause-drawing
 returns-in-Some-clause-drawing g c = idle-belongs c.args.founded.now (g.O.Oracle.x c.args.oracle.now) c.args.self.now c.requires.drawing c.in-Some.turned c.idle_turn.new.self c.in-Some.ensures
@@ -52,7 +52,7 @@ returns-clause-turned g c =
     let settled = subst (λ n. Settles c.outcome_by-outcome.result n (record (the_view c.self.inside) { session = c.step-answer.new.self }) c.settle.result c.settle.new.self) c.used.ensures c.settle.ensures in
     let outcome = c.outcome_by-outcome.ensures ∙ ap (λ t. outcome_of t c.step-answer.result) c.step-answer.ensures.table in
     turn-then c.args.founded.now (g.O.Oracle.x c.args.oracle.now) c.args.self.now (the_view c.self.inside) (c.self.view_is ∙ w.1) c.requires.drawing w.0 c.step-answer.new.self c.step-answer.ensures.session c.step-answer.result c.step-answer.ensures.leaves c.step-answer.ensures.ideal (g.O.Oracle.table c.args.oracle.now) c.outcome_by-outcome.result outcome c.step-answer.new.tape.used c.settle.result c.settle.new.self settled
-    c.requires.unlabelled (bits_of c.args.tape.now.source (g.S.Shelf.content c.args.shelf.now)) c.args.tape.now.used c.step-answer.ensures.used.0 c.step-answer.ensures.draws c.step-answer.ensures.exact
+    g.row.F c.requires.unlabelled (bits_of c.args.tape.now.source (g.S.Shelf.content c.args.shelf.now)) c.args.tape.now.used c.step-answer.ensures.used.0 c.step-answer.ensures.draws c.step-answer.ensures.exact
 
 pub returns-clause-uncounted : goal.returns-clause-uncounted
 returns-clause-uncounted g c = λ none.
