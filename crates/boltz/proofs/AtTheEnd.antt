@@ -4,12 +4,9 @@ use Rattle.std.specs.Prelude.{Option, Some, None, IfSome, option_map}
 use Rattle.std.proofs.lemmas.List.{append_assoc}
 use Rattle.bz_model.specs.declared.cell.Bounds.{Bounds}
 use Rattle.bz_model.specs.Fraction.{Fraction, ratio}
-use Rattle.bz_model.specs.Spec.{Spec, Node, node_at}
+use Rattle.bz_model.specs.Spec.{Spec}
 use Rattle.bit_tape.specs.Tape.{TapeSource, TapeState, Belongs, bits_of}
-use Rattle.class_system.specs.Drafting.{IsCountedNode}
-use Rattle.plain_table.specs.FirstForm.{is_first_form, is_first_node}
-use Rattle.plain_table.proofs.FirstNodes.{first-node, last_of_first}
-use Rattle.shape_sampler.specs.Ready.{IsReady}
+use Rattle.class_system.specs.Sound.{IsSound}
 use Rattle.shape_sampler.specs.State.{SessionState}
 use Rattle.size_window.specs.declared.ending.Ending.{Ending as Told}
 use Rattle.size_window.specs.declared.ending.Ending.TheVariants as told
@@ -22,27 +19,14 @@ use Rattle.boltz.specs.Drawn as drawn
 use Rattle.boltz.specs.UnderWay.{met, IsSoFar, CanTurn, IsAtEnd, told_open}
 use Rattle.boltz.specs.Lines.{header_lines, end_line}
 
--- a specification of the first form has no counted node
-not-counted : (s : Spec) (last e : ℕ) (n : Node) → is_first_node s last e n ≡ true → ¬ (IsCountedNode n)
-not-counted s last e (Node.Empty word) first counted = counted
-not-counted s last e (Node.Atom word) first counted = counted
-not-counted s last e (Node.Class c) first counted = counted
-not-counted s last e (Node.Union parts) first counted = counted
-not-counted s last e (Node.Product parts) first counted = counted
-not-counted s last e (Node.Seq part) first counted = absurd (cc)
-not-counted s last e (Node.Set part) first counted = absurd (cc)
-not-counted s last e (Node.Cyc part) first counted = absurd (cc)
-
-pub first-ready : (s : Spec) → is_first_form s ≡ true → IsReady s
-first-ready s form = record { none_counted = λ e n at. not-counted s (last_of_first s) e n (first-node s form e n at) }
-
 -- a drawing that starts hasn't ended
 not-ended : (o : Option Told) → option_map ending_of o ≡ None → o ≡ None
 not-ended None e = refl
 not-ended (Some ending) e = absurd (cc)
 
-pub starts : (s : Spec) (x : Fraction) (contents : List ℕ → Option (List ℕ)) (d : DrawingState) (tape : TapeState) → tape.used ≡ 0 → state_of d 0 ≡ start → d.limits ≡ usual → DrawingBelongs s x d → Belongs contents tape → CanTurn s x contents d tape
-starts s x contents d tape used at limits belongs ahead = record {
+pub starts : (s : Spec) (x : Fraction) → IsSound s → (contents : List ℕ → Option (List ℕ)) (d : DrawingState) (tape : TapeState) → tape.used ≡ 0 → state_of d 0 ≡ start → d.limits ≡ usual → DrawingBelongs s x d → Belongs contents tape → CanTurn s x contents d tape
+starts s x sound contents d tape used at limits belongs ahead = record {
+  sound = sound;
   belongs = belongs;
   limits = limits;
   goes_on = not-ended d.ending (ap (λ (st : State). st.ending) at);
@@ -50,8 +34,8 @@ starts s x contents d tape used at limits belongs ahead = record {
   so_far = record { course = at_start; state = sym at ∙ ap (state_of d) (sym used); goes = goes-start s x usual };
 }
 
-pub starts-so-far : (s : Spec) (x : Fraction) (table : (level node : ℕ) → Bounds) (source : TapeSource) (contents : List ℕ → Option (List ℕ)) (before now : List ℕ → ℕ) (d : DrawingState) (used : ℕ) (lines : List ℕ) → used ≡ 0 → state_of d 0 ≡ start → lines ≡ [] → IsSoFar s x table (met source contents before now) d used lines
-starts-so-far s x table source contents before now d used lines none at empty = record {
+pub starts-so-far : (s : Spec) (x : Fraction) (F : ℕ) (table : (level node : ℕ) → Bounds) (source : TapeSource) (contents : List ℕ → Option (List ℕ)) (before now : List ℕ → ℕ) (d : DrawingState) (used : ℕ) (lines : List ℕ) → used ≡ 0 → state_of d 0 ≡ start → lines ≡ [] → IsSoFar s x F table (met source contents before now) d used lines
+starts-so-far s x F table source contents before now d used lines none at empty = record {
   course = at_start;
   state = sym at ∙ ap (state_of d) (sym none);
   goes = goes-start s x usual;
@@ -59,7 +43,7 @@ starts-so-far s x table source contents before now d used lines none at empty = 
   lists = drawn.none empty;
 }
   where
-    over : (bits : Option (ℕ → Option Bool)) → IfSome bits (IsCourseOver s table (met source contents before now) at_start)
+    over : (bits : Option (ℕ → Option Bool)) → IfSome bits (IsCourseOver s F table (met source contents before now) at_start)
     over None = tt
     over (Some bits) = record { turns = 0; faults = λ n. None; caused = λ n given e. absurd (cc); same = refl }
 
@@ -90,8 +74,8 @@ fault-told (told.Undecided straddle) is = absurd (cc)
 fault-told told.TurnLimit is = absurd (cc)
 fault-told told.ReadFault is = refl
 
-pub reported-of : (s : Spec) (num den : ℕ) (table : (level node : ℕ) → Bounds) (t : TapeMet) (d : DrawingState) (used : ℕ) (lines : List ℕ) (e : Told) → IsAtEnd s (ratio num den) table t d used lines e → (text : List ℕ) → text ≡ header_lines num den ++ (lines ++ (told_open e ++ end_line (ending_word (ending_of e)) d.kept d.thrown used d.turns)) → IsReported s num den table t (ending_status (ending_of e)) text
-reported-of s num den table t d used lines e h text is =
+pub reported-of : (s : Spec) (num den F : ℕ) (table : (level node : ℕ) → Bounds) (t : TapeMet) (d : DrawingState) (used : ℕ) (lines : List ℕ) (e : Told) → IsAtEnd s (ratio num den) F table t d used lines e → (text : List ℕ) → text ≡ header_lines num den ++ (lines ++ (told_open e ++ end_line (ending_word (ending_of e)) d.kept d.thrown used d.turns)) → IsReported s num den F table t (ending_status (ending_of e)) text
+reported-of s num den F table t d used lines e h text is =
     let at = h.so_far.state in
     let c = h.so_far.course in
     let kept : c.state.kept ≡ d.kept = ap (λ (st : State). st.kept) at in
@@ -129,13 +113,13 @@ pub closing-is : (o word : List ℕ) (k l m n u v r q : ℕ) → k ≡ l → m �
 closing-is o word k l m n u v r q a b c d = cc
 
 -- a course so far comes to its end
-abbrev ComesToEnd : (s : Spec) (before old new : List ℕ → ℕ) (d now : DrawingState) (start_used used : ℕ) (lines more : List ℕ) (e : Told) → Fraction → ((level node : ℕ) → Bounds) → TapeSource → (List ℕ → Option (List ℕ)) → Type 0
-ComesToEnd s before old new d now start_used used lines more e x table source contents = IsSoFar s x table (met source contents before old) d start_used lines → IsAtEnd s x table (met source contents before new) now used more e
+abbrev ComesToEnd : (s : Spec) (F : ℕ) (before old new : List ℕ → ℕ) (d now : DrawingState) (start_used used : ℕ) (lines more : List ℕ) (e : Told) → Fraction → ((level node : ℕ) → Bounds) → TapeSource → (List ℕ → Option (List ℕ)) → Type 0
+ComesToEnd s F before old new d now start_used used lines more e x table source contents = IsSoFar s x F table (met source contents before old) d start_used lines → IsAtEnd s x F table (met source contents before new) now used more e
 
 -- what holds of a drawing over equal tables, tapes and contents holds of it
-pub at-end-over : (s : Spec) (x y : Fraction) (t u : (level node : ℕ) → Bounds) (source other : TapeSource) (contents others : List ℕ → Option (List ℕ)) (before old new : List ℕ → ℕ) (d now : DrawingState) (start_used used : ℕ) (lines more : List ℕ) (e : Told) → y ≡ x → u ≡ t → other ≡ source → others ≡ contents → (IsSoFar s y u (met other others before old) d start_used lines → IsAtEnd s y u (met other others before new) now used more e) → IsSoFar s x t (met source contents before old) d start_used lines → IsAtEnd s x t (met source contents before new) now used more e
-at-end-over s x y t u source other contents others before old new d now start_used used lines more e at_x at_table at_source at_contents h =
-    subst (λ a. ComesToEnd s before old new d now start_used used lines more e a t source contents) at_x
-    (subst (λ b. ComesToEnd s before old new d now start_used used lines more e y b source contents) at_table
-    (subst (λ o. ComesToEnd s before old new d now start_used used lines more e y u o contents) at_source
-    (subst (λ k. ComesToEnd s before old new d now start_used used lines more e y u other k) at_contents h)))
+pub at-end-over : (s : Spec) (F : ℕ) (x y : Fraction) (t u : (level node : ℕ) → Bounds) (source other : TapeSource) (contents others : List ℕ → Option (List ℕ)) (before old new : List ℕ → ℕ) (d now : DrawingState) (start_used used : ℕ) (lines more : List ℕ) (e : Told) → y ≡ x → u ≡ t → other ≡ source → others ≡ contents → (IsSoFar s y F u (met other others before old) d start_used lines → IsAtEnd s y F u (met other others before new) now used more e) → IsSoFar s x F t (met source contents before old) d start_used lines → IsAtEnd s x F t (met source contents before new) now used more e
+at-end-over s F x y t u source other contents others before old new d now start_used used lines more e at_x at_table at_source at_contents h =
+    subst (λ a. ComesToEnd s F before old new d now start_used used lines more e a t source contents) at_x
+    (subst (λ b. ComesToEnd s F before old new d now start_used used lines more e y b source contents) at_table
+    (subst (λ o. ComesToEnd s F before old new d now start_used used lines more e y u o contents) at_source
+    (subst (λ k. ComesToEnd s F before old new d now start_used used lines more e y u other k) at_contents h)))

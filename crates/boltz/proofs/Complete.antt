@@ -113,11 +113,11 @@ ending-of : (c d : Course) (e f : Ending) → c ≡ d → c.state.ending ≡ Som
 ending-of c d e f same at_c at_d = cc
 
 -- the course over the tape's bits is the undisturbed one
-same-course : (s : Spec) (num den turns : ℕ) (bytes : List ℕ) (t : TapeMet) (c : Course) (d e : Ending) → ¬ (HasFailed t) → IsCourseOver s (plain_bounds s num den) t c (file_bit bytes) → c.state.ending ≡ Some d → (undisturbed s num den bytes turns).state.ending ≡ Some e → c ≡ undisturbed s num den bytes turns
+same-course : (s : Spec) (num den turns : ℕ) (bytes : List ℕ) (t : TapeMet) (c : Course) (d e : Ending) → ¬ (HasFailed t) → IsCourseOver s 48 (plain_bounds s num den) t c (file_bit bytes) → c.state.ending ≡ Some d → (undisturbed s num den bytes turns).state.ending ≡ Some e → c ≡ undisturbed s num den bytes turns
 same-course s num den turns bytes t c d e no_fault over at_c at_turns =
-    let quiet = unfailing (sampling s (plain_bounds s num den) (file_bit bytes)) over.faults over.turns (λ k. none-fails (over.faults k) (λ given is. no_fault (over.caused k given is))) in
+    let quiet = unfailing (sampling s 48 (plain_bounds s num den) (file_bit bytes)) over.faults over.turns (λ k. none-fails (over.faults k) (λ given is. no_fault (over.caused k given is))) in
     let same : c ≡ undisturbed s num den bytes over.turns = over.same ∙ quiet in
-    same ∙ one_end (sampling s (plain_bounds s num den) (file_bit bytes)) (λ k. None) over.turns turns d e (subst (λ k. k.state.ending ≡ Some d) same at_c) at_turns
+    same ∙ one_end (sampling s 48 (plain_bounds s num den) (file_bit bytes)) (λ k. None) over.turns turns d e (subst (λ k. k.state.ending ≡ Some d) same at_c) at_turns
 
 told-bits : (content : Option (List ℕ)) (bytes : List ℕ) (P : (ℕ → Option Bool) → Type 0) → content ≡ Some bytes → IfSome (option_map file_bit content) P → P (file_bit bytes)
 told-bits content bytes P e h = subst (λ o. IfSome (option_map file_bit o) P) e h
@@ -125,7 +125,7 @@ told-bits content bytes P e h = subst (λ o. IfSome (option_map file_bit o) P) e
 drawn-only : (s : Spec) (num den turns : ℕ) (tape bytes : List ℕ) (w : World) (ending : Ending) (status : Status) (text : List ℕ) → is_first_form s ≡ true → num ≤ den → ¬ (HasFailed (tape_of w tape)) → w.content tape ≡ Some bytes → (undisturbed s num den bytes turns).state.ending ≡ Some ending → Sampled s num den (tape_of w tape) status text → (status ≡ ending_status ending) × IsDrawnText s num den (plain_bounds s num den) (undisturbed s num den bytes turns) ending text
 drawn-only s num den turns tape bytes w ending status text first small no_fault is_told ends (answers.not_yet not_yet e f) = absurd (no-wait s num den first small not_yet)
 drawn-only s num den turns tape bytes w ending status text first small no_fault is_told ends (answers.drawn _ _ r) =
-    let over = told-bits (w.content tape) bytes (IsCourseOver s (plain_bounds s num den) (tape_of w tape) r.course) is_told r.drawn.by_bits in
+    let over = told-bits (w.content tape) bytes (IsCourseOver s 48 (plain_bounds s num den) (tape_of w tape) r.course) is_told r.drawn.by_bits in
     let same = same-course s num den turns bytes (tape_of w tape) r.course r.ending ending no_fault over r.drawn.ended ends in
     let end : r.ending ≡ ending = ending-of r.course (undisturbed s num den bytes turns) r.ending ending same r.drawn.ended ends in
     (r.answer ∙ ap ending_status end, subst (λ e. IsDrawnText s num den (plain_bounds s num den) (undisturbed s num den bytes turns) e text) end (subst (λ k. IsDrawnText s num den (plain_bounds s num den) k r.ending text) same r.told))

@@ -53,12 +53,12 @@ pub failed-since : (source : TapeSource) (earlier before now : List ℕ → ℕ)
 failed-since (TapeSource.Named name) earlier before now h rose = rose-earlier (earlier name) (before name) (now name) (h name) rose
 failed-since (TapeSource.Seeded seed) earlier before now h never = never
 
-over-since : (s : Spec) (table : (level node : ℕ) → Bounds) (t : TapeMet) (earlier : List ℕ → ℕ) (c : Course) → ((name : List ℕ) → earlier name ≤ t.before name) → (bits : Option (ℕ → Option Bool)) → IfSome bits (IsCourseOver s table t c) → IfSome bits (IsCourseOver s table (since t earlier) c)
-over-since s table t earlier c h None over = tt
-over-since s table t earlier c h (Some bits) over = record { turns = over.turns; faults = over.faults; caused = λ n given is. failed-since t.source earlier t.before t.now h (over.caused n given is); same = over.same }
+over-since : (s : Spec) (F : ℕ) (table : (level node : ℕ) → Bounds) (t : TapeMet) (earlier : List ℕ → ℕ) (c : Course) → ((name : List ℕ) → earlier name ≤ t.before name) → (bits : Option (ℕ → Option Bool)) → IfSome bits (IsCourseOver s F table t c) → IfSome bits (IsCourseOver s F table (since t earlier) c)
+over-since s F table t earlier c h None over = tt
+over-since s F table t earlier c h (Some bits) over = record { turns = over.turns; faults = over.faults; caused = λ n given is. failed-since t.source earlier t.before t.now h (over.caused n given is); same = over.same }
 
-reported-since : (s : Spec) (num den : ℕ) (table : (level node : ℕ) → Bounds) (t : TapeMet) (earlier : List ℕ → ℕ) (status : Status) (text : List ℕ) → ((name : List ℕ) → earlier name ≤ t.before name) → IsReported s num den table t status text → IsReported s num den table (since t earlier) status text
-reported-since s num den table t earlier status text h r = record {
+reported-since : (s : Spec) (num den F : ℕ) (table : (level node : ℕ) → Bounds) (t : TapeMet) (earlier : List ℕ → ℕ) (status : Status) (text : List ℕ) → ((name : List ℕ) → earlier name ≤ t.before name) → IsReported s num den F table t status text → IsReported s num den F table (since t earlier) status text
+reported-since s num den F table t earlier status text h r = record {
   course = r.course;
   ending = r.ending;
   told = r.told;
@@ -68,14 +68,14 @@ reported-since s num den table t earlier status text h r = record {
     follows = r.drawn.follows;
     kept = r.drawn.kept;
     out_of_turns = r.drawn.out_of_turns;
-    by_bits = over-since s table t earlier r.course h (bits_of t.source t.contents) r.drawn.by_bits;
+    by_bits = over-since s F table t earlier r.course h (bits_of t.source t.contents) r.drawn.by_bits;
     failed = λ e. failed-since t.source earlier t.before t.now h (r.drawn.failed e);
   };
 }
 
 sampled-since : (s : Spec) (num den : ℕ) (t : TapeMet) (earlier : List ℕ → ℕ) (status : Status) (text : List ℕ) → ((name : List ℕ) → earlier name ≤ t.before name) → Sampled s num den t status text → Sampled s num den (since t earlier) status text
 sampled-since s num den t earlier status text h (answers.not_yet not_yet e f) = answers.not_yet not_yet e f
-sampled-since s num den t earlier status text h (answers.drawn first small r) = answers.drawn first small (reported-since s num den (plain_bounds s num den) t earlier status text h r)
+sampled-since s num den t earlier status text h (answers.drawn first small r) = answers.drawn first small (reported-since s num den 48 (plain_bounds s num den) t earlier status text h r)
 
 pub told_sampled : (w : World) (content : List ℕ → Option (List ℕ)) (before after : List ℕ → ℕ) (file tape read : List ℕ) (num den : ℕ) (s : Spec) (status : Status) (text : List ℕ) → IsMet w content before after → IsAsked w (Command.Sample file num den tape) read → IsAccepted read s → IsWellFounded s → Sampled s num den (met (TapeSource.Named tape) content before after) status text → Answers w status text
 told_sampled w content before after file tape read num den s status text m asked accepted founded done =

@@ -56,7 +56,7 @@ tape_of w name = record { source = TapeSource.Named name; contents = w.content; 
 -- What becomes of a command that draws from a well-founded specification within the limits: it is left for later, or it reports a drawing over the tape.
 pub data Sampled (s : Spec) (num den : ℕ) (t : TapeMet) (status : Status) (text : List ℕ) : Type 0 where
   not_yet : IsNotYet s num den → status ≡ Status.SpecRefused → text ≡ not_yet_line → Sampled s num den t status text
-  drawn : is_first_form s ≡ true → num ≤ den → IsReported s num den (plain_bounds s num den) t status text → Sampled s num den t status text
+  drawn : is_first_form s ≡ true → num ≤ den → IsReported s num den 48 (plain_bounds s num den) t status text → Sampled s num den t status text
 
 -- An answer with the text that it writes, and where it comes.
 pub data Answers (w : World) : Status → List ℕ → Type 0 where

@@ -48,7 +48,7 @@ pub record IsBeyond (w : World) : Type 0 where
 
 -- The course of so many turns over the bits of these bytes, where no read fails.
 abbrev pub undisturbed : Spec → (num den : ℕ) → (bytes : List ℕ) → (turns : ℕ) → Course
-undisturbed s num den bytes turns = after (sampling s (plain_bounds s num den) (file_bit bytes)) (λ n. None) turns
+undisturbed s num den bytes turns = after (sampling s 48 (plain_bounds s num den) (file_bit bytes)) (λ n. None) turns
 
 -- The words ask to draw from a specification of the first form at a fraction of at most 1, the tape is told to have these bytes, no read of it failed in the call, and over its bits the course of so many turns comes to this end.
 pub record IsDrawable (w : World) (s : Spec) (num den : ℕ) (bytes : List ℕ) (turns : ℕ) (ending : Ending) : Type 0 where

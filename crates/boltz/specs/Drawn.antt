@@ -7,7 +7,8 @@ use Rattle.bz_model.specs.declared.cell.Bounds.{Bounds}
 use Rattle.bit_tape.specs.Tape.{TapeSource, bits_of, HasFault}
 use Rattle.object_store.specs.Tokens.{IsOf}
 use Rattle.size_window.specs.RunByBits.{Limits, Sampling, Entry, Course, Ending, Open, after}
-use Rattle.size_window.specs.Ideally.{union_chooser}
+use Rattle.size_window.specs.Ideally.{chooser_of}
+use Rattle.well_founded.specs.EmptyObjects.{has_empty}
 use Rattle.size_window.specs.Follows.{Follows}
 use Rattle.boltz.specs.Lines.{header_lines, entry_lines, open_line, end_line}
 use Rattle.boltz.specs.declared.status.Status.{Status}
@@ -16,9 +17,9 @@ use Rattle.boltz.specs.declared.status.Status.{Status}
 abbrev pub usual : Limits
 usual = record { min = 0; max = 1000; count = 1; turns = 1000000 }
 
--- A drawing is a function of the specification, a table of bounds of its nodes, and the bits of the tape.
-abbrev pub sampling : Spec → (table : (level node : ℕ) → Bounds) → (bits : ℕ → Option Bool) → Sampling
-sampling s table bits = record { chooser = union_chooser s table; limits = usual; tape = bits }
+-- A drawing is a function of the specification, a table of bounds of its nodes in units of 2^-F, and the bits of the tape.
+abbrev pub sampling : Spec → (F : ℕ) → (table : (level node : ℕ) → Bounds) → (bits : ℕ → Option Bool) → Sampling
+sampling s F table bits = record { chooser = chooser_of s F table (has_empty s); limits = usual; tape = bits }
 
 -- A tape as a call meets it: where its bits come from, the contents of the files where they are told, and the counts of failed reads of each name when the call began and now.
 pub record TapeMet : Type 0 where
@@ -32,17 +33,17 @@ abbrev pub HasFailed : TapeMet → Type 0
 HasFailed t = HasFault t.source t.before t.now
 
 -- A course is that of so many turns over these bits. The shelf failed in a turn only if a read of the tape failed in the call.
-pub record IsCourseOver (s : Spec) (table : (level node : ℕ) → Bounds) (t : TapeMet) (c : Course) (bits : ℕ → Option Bool) : Type 0 where
+pub record IsCourseOver (s : Spec) (F : ℕ) (table : (level node : ℕ) → Bounds) (t : TapeMet) (c : Course) (bits : ℕ → Option Bool) : Type 0 where
   pub turns : ℕ
   pub faults : ℕ → Option ℕ
   pub caused : (n given : ℕ) → faults n ≡ Some given → HasFailed t
-  pub same : c ≡ after (sampling s table bits) faults turns
+  pub same : c ≡ after (sampling s F table bits) faults turns
 
 -- A course has come to its end. It follows the ideal run: for all numbers in its cells that run keeps the objects of its entries. Where the tape's bits are told, it is the course over them. Done comes only where the object is kept, the limit of turns only where a million were made, and a failed read only if a read of the tape failed in the call.
-pub record IsDrawn (s : Spec) (x : Fraction) (table : (level node : ℕ) → Bounds) (t : TapeMet) (c : Course) (ending : Ending) : Type 0 where
+pub record IsDrawn (s : Spec) (x : Fraction) (F : ℕ) (table : (level node : ℕ) → Bounds) (t : TapeMet) (c : Course) (ending : Ending) : Type 0 where
   pub ended : c.state.ending ≡ Some ending
   pub follows : Follows s x usual c
-  pub by_bits : IfSome (bits_of t.source t.contents) (IsCourseOver s table t c)
+  pub by_bits : IfSome (bits_of t.source t.contents) (IsCourseOver s F table t c)
   pub kept : ending ≡ Ending.Done → c.state.kept ≡ 1
   pub out_of_turns : ending ≡ Ending.TurnLimit → c.state.turns ≡ 1000000
   pub failed : ending ≡ Ending.ReadFault → HasFailed t
@@ -85,9 +86,9 @@ pub record IsDrawnText (s : Spec) (num den : ℕ) (table : (level node : ℕ) �
   pub same : text ≡ header_lines num den ++ (entries ++ (open_lines table ending ++ end_line (ending_word ending) c.state.kept c.state.thrown c.state.attempt.used c.state.turns))
 
 -- What a drawing reports: a course that has come to its end, its text, and the answer for that end.
-pub record IsReported (s : Spec) (num den : ℕ) (table : (level node : ℕ) → Bounds) (t : TapeMet) (status : Status) (text : List ℕ) : Type 0 where
+pub record IsReported (s : Spec) (num den F : ℕ) (table : (level node : ℕ) → Bounds) (t : TapeMet) (status : Status) (text : List ℕ) : Type 0 where
   pub course : Course
   pub ending : Ending
-  pub drawn : IsDrawn s (ratio num den) table t course ending
+  pub drawn : IsDrawn s (ratio num den) F table t course ending
   pub told : IsDrawnText s num den table course ending text
   pub answer : status ≡ ending_status ending

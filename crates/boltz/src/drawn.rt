@@ -5,7 +5,6 @@ ghost use Rattle.bz_model.specs.Spec.{Mode};
 ghost use Rattle.object_store.specs.Tokens.{IsOf};
 ghost use Rattle.plain_table.specs.FirstForm.{is_first_form};
 ghost use Rattle.plain_table.specs.PlainTable.{plain_bounds};
-ghost use Rattle.shape_sampler.specs.Ready.{IsReady};
 ghost use Rattle.size_window.specs.Drawing.{ending_of};
 ghost use Rattle.size_window.specs.Turn.{entry_of};
 ghost use Rattle.boltz.specs.Drawn.{ending_word, ending_status, AreLinesOf, IsReported};
@@ -54,11 +53,12 @@ pub fn drawn<S: Shelf, L: Ledger>(
 ) -> Result<Report, AllocError>
     requires first { is_first_form founded.now ≡ true }
     requires at_most_one { x.num ≤ x.den }
-    ensures reported { IfOk result (λ r. IsReported founded.now x.num x.den (plain_bounds founded.now x.num x.den) (met (TapeSource.Named tape.now) (S.content shelf.old) (S.faults shelf.old) (S.faults shelf.new)) r.status r.text.items) }
+    ensures reported { IfOk result (λ r. IsReported founded.now x.num x.den 48 (plain_bounds founded.now x.num x.den) (met (TapeSource.Named tape.now) (S.content shelf.old) (S.faults shelf.old) (S.faults shelf.new)) r.status r.text.items) }
     ensures content { S.content shelf.new ≡ S.content shelf.old }
     ensures counts { (name : List ℕ) → S.faults shelf.old name ≤ S.faults shelf.new name }
     ensures ticks { steps.new ≤ steps.old + 6 }
 {
+    founded.system().known();
     let mut table = PlainTable::make(alloc, founded, x, steps)?;
     let mut tape = Tape::over(Word::from_bytes(alloc, tape.bytes())?);
     let mut drawing = Drawing::new(alloc, founded, LIMITS)?;
@@ -96,15 +96,14 @@ fn turn_to_the_end<const F: u32, O: Oracle<F>, S: Shelf, L: Ledger>(
     lines: &mut Vec<u8>,
 ) -> Result<Ending, AllocError>
     requires fraction { (24 ≤ F) × (F ≤ 56) }
-    requires ready { IsReady founded.now }
     requires unlabelled { founded.now.mode ≡ Mode.Unlabelled }
     requires spec { O.spec oracle.old ≡ founded.now }
     requires costs { AreCosts (O.cost oracle.old) }
     requires levels { O.raised oracle.old ≤ 6 }
     requires can_turn { CanTurn founded.now (O.x oracle.old) (S.content shelf.old) drawing.old tape.old }
     ensures ended { IfOk result (λ ending. (before : List ℕ → ℕ) → ((name : List ℕ) → before name ≤ S.faults shelf.old name)
-        → IsSoFar founded.now (O.x oracle.old) (O.table oracle.old) (met tape.old.source (S.content shelf.old) before (S.faults shelf.old)) drawing.old tape.old.used lines.old.items
-        → IsAtEnd founded.now (O.x oracle.old) (O.table oracle.old) (met tape.old.source (S.content shelf.old) before (S.faults shelf.new)) drawing.new tape.new.used lines.new.items ending) }
+        → IsSoFar founded.now (O.x oracle.old) F (O.table oracle.old) (met tape.old.source (S.content shelf.old) before (S.faults shelf.old)) drawing.old tape.old.used lines.old.items
+        → IsAtEnd founded.now (O.x oracle.old) F (O.table oracle.old) (met tape.old.source (S.content shelf.old) before (S.faults shelf.new)) drawing.new tape.new.used lines.new.items ending) }
     ensures spec { O.spec oracle.new ≡ O.spec oracle.old }
     ensures x { O.x oracle.new ≡ O.x oracle.old }
     ensures table { O.table oracle.new ≡ O.table oracle.old }
@@ -136,13 +135,12 @@ fn turn_once<const F: u32, O: Oracle<F>, S: Shelf, L: Ledger>(
     lines: &mut Vec<u8>,
 ) -> Result<Option<Ending>, AllocError>
     requires fraction { (24 ≤ F) × (F ≤ 56) }
-    requires ready { IsReady founded.now }
     requires unlabelled { founded.now.mode ≡ Mode.Unlabelled }
     requires spec { O.spec oracle.old ≡ founded.now }
     requires can_turn { CanTurn founded.now (O.x oracle.old) (S.content shelf.old) drawing.old tape.old }
     ensures turned { IfOk result (λ ending. (before : List ℕ → ℕ) → ((name : List ℕ) → before name ≤ S.faults shelf.old name)
-        → IsSoFar founded.now (O.x oracle.old) (O.table oracle.old) (met tape.old.source (S.content shelf.old) before (S.faults shelf.old)) drawing.old tape.old.used lines.old.items
-        → AfterTurn founded.now (O.x oracle.old) (O.table oracle.old) (met tape.old.source (S.content shelf.old) before (S.faults shelf.new)) drawing.new tape.new lines.new.items ending) }
+        → IsSoFar founded.now (O.x oracle.old) F (O.table oracle.old) (met tape.old.source (S.content shelf.old) before (S.faults shelf.old)) drawing.old tape.old.used lines.old.items
+        → AfterTurn founded.now (O.x oracle.old) F (O.table oracle.old) (met tape.old.source (S.content shelf.old) before (S.faults shelf.new)) drawing.new tape.new lines.new.items ending) }
     ensures goes_on { IfOk result (λ ending. GoesOn founded.now (O.x oracle.old) (S.content shelf.old) drawing.old drawing.new tape.new ending) }
     ensures spec { O.spec oracle.new ≡ O.spec oracle.old }
     ensures x { O.x oracle.new ≡ O.x oracle.old }

@@ -18,8 +18,8 @@ invariant-loop-ending g l =
     × (g.S.Shelf.content l.shelf ≡ g.S.Shelf.content l.initial.shelf)
     × ((name : List ℕ) → g.S.Shelf.faults l.initial.shelf name ≤ g.S.Shelf.faults l.shelf name)
     × ((before : List ℕ → ℕ) → ((name : List ℕ) → before name ≤ g.S.Shelf.faults l.initial.shelf name)
-    → IsSoFar l.founded (g.O.Oracle.x l.initial.oracle) (g.O.Oracle.table l.initial.oracle) (met l.initial.tape.source (g.S.Shelf.content l.initial.shelf) before (g.S.Shelf.faults l.initial.shelf)) l.initial.drawing l.initial.tape.used l.initial.lines.items
-    → IsSoFar l.founded (g.O.Oracle.x l.initial.oracle) (g.O.Oracle.table l.initial.oracle) (met l.initial.tape.source (g.S.Shelf.content l.initial.shelf) before (g.S.Shelf.faults l.shelf)) l.drawing l.tape.used l.lines.items)
+    → IsSoFar l.founded (g.O.Oracle.x l.initial.oracle) g.row.F (g.O.Oracle.table l.initial.oracle) (met l.initial.tape.source (g.S.Shelf.content l.initial.shelf) before (g.S.Shelf.faults l.initial.shelf)) l.initial.drawing l.initial.tape.used l.initial.lines.items
+    → IsSoFar l.founded (g.O.Oracle.x l.initial.oracle) g.row.F (g.O.Oracle.table l.initial.oracle) (met l.initial.tape.source (g.S.Shelf.content l.initial.shelf) before (g.S.Shelf.faults l.shelf)) l.drawing l.tape.used l.lines.items)
 
 -- as many turns as may still be made, and one that ends
 abbrev pub decreases-loop-ending : goal.decreases-loop-ending
