@@ -1,20 +1,24 @@
 -- What a drawing that has come to its end reports.
 use Rattle.std.proofs.Common.{◌≡◌, ℕ, ◌≤◌, Bool, true, false, List, [], ◌∷◌, ◌++◌, refl, sym, ◌∙◌, ap, subst}
-use Rattle.std.specs.Prelude.{Option, Some, None, IfSome, option_map}
+use Rattle.std.specs.Prelude.{Option, Some, None, IfSome, option_map, ◌&&◌, nat_le, length, slice_index}
+use Rattle.std.proofs.lemmas.Bool.{and_parts}
 use Rattle.std.proofs.lemmas.List.{append_assoc}
 use Rattle.bz_model.specs.declared.cell.Bounds.{Bounds}
 use Rattle.bz_model.specs.Fraction.{Fraction, ratio}
-use Rattle.bz_model.specs.Spec.{Spec}
+use Rattle.bz_model.specs.Spec.{Spec, Mode}
 use Rattle.bit_tape.specs.Tape.{TapeSource, TapeState, Belongs, bits_of}
 use Rattle.class_system.specs.Sound.{IsSound}
 use Rattle.shape_sampler.specs.State.{SessionState}
+use Rattle.plain_table.specs.FirstForm.{is_first_form, are_first_nodes, is_unlabelled}
+use Rattle.boltz.specs.Spelling.{Spells}
+use Rattle.boltz.proofs.SpelledTurns.{spells_bits}
 use Rattle.size_window.specs.declared.ending.Ending.{Ending as Told}
 use Rattle.size_window.specs.declared.ending.Ending.TheVariants as told
 use Rattle.size_window.specs.RunByBits.{State, Course, Ending, start, at_start}
 use Rattle.size_window.specs.Drawing.{DrawingState, DrawingBelongs, state_of, running, ending_of}
 use Rattle.size_window.specs.Follows.{Goes}
 use Rattle.size_window.proofs.Going.{goes-start}
-use Rattle.boltz.specs.Drawn.{TapeMet, usual, IsCourseOver, IsReported, IsDrawn, IsDrawnText, open_lines, ending_word, ending_status}
+use Rattle.boltz.specs.Drawn.{TapeMet, usual, sampling, IsCourseOver, IsReported, IsDrawn, IsDrawnText, open_lines, ending_word, ending_status}
 use Rattle.boltz.specs.Drawn as drawn
 use Rattle.boltz.specs.UnderWay.{met, IsSoFar, CanTurn, IsAtEnd, told_open}
 use Rattle.boltz.specs.Lines.{header_lines, end_line}
@@ -74,8 +78,21 @@ fault-told (told.Undecided straddle) is = absurd (cc)
 fault-told told.TurnLimit is = absurd (cc)
 fault-told told.ReadFault is = refl
 
-pub reported-of : (s : Spec) (num den F : ℕ) (table : (level node : ℕ) → Bounds) (t : TapeMet) (d : DrawingState) (used : ℕ) (lines : List ℕ) (e : Told) → IsAtEnd s (ratio num den) F table t d used lines e → (text : List ℕ) → text ≡ header_lines num den ++ (lines ++ (told_open e ++ end_line (ending_word (ending_of e)) d.kept d.thrown used d.turns)) → IsReported s num den F table t (ending_status (ending_of e)) text
-reported-of s num den F table t d used lines e h text is =
+-- a specification of the first form is unlabelled
+plain-mode : (m : Mode) → is_unlabelled m ≡ true → m ≡ Mode.Unlabelled
+plain-mode Mode.Unlabelled e = refl
+plain-mode Mode.Labelled e = absurd (cc)
+
+pub first-unlabelled : (s : Spec) → is_first_form s ≡ true → s.mode ≡ Mode.Unlabelled
+first-unlabelled s form = plain-mode s.mode (and_parts (is_unlabelled s.mode) (nat_le (length s.names) 2) (and_parts (is_unlabelled s.mode && nat_le (length s.names) 2) (are_first_nodes s (slice_index s.bodies 0) 0 s.nodes) form).0).0
+
+-- the cells of a course over told bits spell them
+spells-over : (s : Spec) (F : ℕ) (table : (level node : ℕ) → Bounds) (t : TapeMet) (c : Course) → s.mode ≡ Mode.Unlabelled → (bits : Option (ℕ → Option Bool)) → IfSome bits (IsCourseOver s F table t c) → IfSome bits (Spells c)
+spells-over s F table t c unlabelled None over = tt
+spells-over s F table t c unlabelled (Some bits) over = subst (λ d. Spells d bits) (sym over.same) (spells_bits (sampling s F table bits) unlabelled over.faults over.turns)
+
+pub reported-of : (s : Spec) → s.mode ≡ Mode.Unlabelled → (num den F : ℕ) (table : (level node : ℕ) → Bounds) (t : TapeMet) (d : DrawingState) (used : ℕ) (lines : List ℕ) (e : Told) → IsAtEnd s (ratio num den) F table t d used lines e → (text : List ℕ) → text ≡ header_lines num den ++ (lines ++ (told_open e ++ end_line (ending_word (ending_of e)) d.kept d.thrown used d.turns)) → IsReported s num den F table t (ending_status (ending_of e)) text
+reported-of s unlabelled num den F table t d used lines e h text is =
     let at = h.so_far.state in
     let c = h.so_far.course in
     let kept : c.state.kept ≡ d.kept = ap (λ (st : State). st.kept) at in
@@ -89,6 +106,7 @@ reported-of s num den F table t d used lines e h text is =
         ended = ap (λ (st : State). st.ending) at ∙ ap (option_map ending_of) h.ended;
         follows = h.so_far.goes.follows;
         by_bits = h.so_far.by_bits;
+        spells = spells-over s F table t c unlabelled (bits_of t.source t.contents) h.so_far.by_bits;
         kept = λ is. kept ∙ h.kept (done-told e is);
         out_of_turns = λ is. turns ∙ h.out_of_turns (limit-told e is);
         failed = λ is. h.failed (fault-told e is);

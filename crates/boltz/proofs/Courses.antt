@@ -9,7 +9,7 @@ abbrev made : State → List Entry → List Cell → Course
 made st entries cells = record { state = st; entries = entries; cells = cells }
 
 -- a quiet turn changes no course
-quiet-on : (c : Course) → followed_by c (quiet c.state) ≡ c
+pub quiet-on : (c : Course) → followed_by c (quiet c.state) ≡ c
 quiet-on c = ap (λ entries. made c.state entries (c.cells ++ [])) (append-nil c.entries) ∙ ap (λ cells. made c.state c.entries cells) (append-nil c.cells)
 
 -- a turn after the end changes no course

@@ -5,4 +5,6 @@ pub mod Courses
 pub mod Complete
 pub mod KeptObjects
 pub mod OneTurn
+pub mod Spelling
+pub mod SpelledTurns
 pub mod AtTheEnd

@@ -69,6 +69,7 @@ reported-since s num den F table t earlier status text h r = record {
     kept = r.drawn.kept;
     out_of_turns = r.drawn.out_of_turns;
     by_bits = over-since s F table t earlier r.course h (bits_of t.source t.contents) r.drawn.by_bits;
+    spells = r.drawn.spells;
     failed = λ e. failed-since t.source earlier t.before t.now h (r.drawn.failed e);
   };
 }

@@ -10,6 +10,7 @@ use Rattle.size_window.specs.RunByBits.{Limits, Sampling, Entry, Course, Ending,
 use Rattle.size_window.specs.Ideally.{chooser_of}
 use Rattle.well_founded.specs.EmptyObjects.{has_empty}
 use Rattle.size_window.specs.Follows.{Follows}
+use Rattle.boltz.specs.Spelling.{Spells}
 use Rattle.boltz.specs.Lines.{header_lines, entry_lines, open_line, end_line}
 use Rattle.boltz.specs.declared.status.Status.{Status}
 
@@ -39,11 +40,12 @@ pub record IsCourseOver (s : Spec) (F : ℕ) (table : (level node : ℕ) → Bou
   pub caused : (n given : ℕ) → faults n ≡ Some given → HasFailed t
   pub same : c ≡ after (sampling s F table bits) faults turns
 
--- A course has come to its end. It follows the ideal run: for all numbers in its cells that run keeps the objects of its entries. Where the tape's bits are told, it is the course over them. Done comes only where the object is kept, the limit of turns only where a million were made, and a failed read only if a read of the tape failed in the call.
+-- A course has come to its end. It follows the ideal run: for all numbers in its cells that run keeps the objects of its entries. Where the tape's bits are told, it is the course over them, and its cells spell the first of them, as many as were used, but for those of a number that was still open. Done comes only where the object is kept, the limit of turns only where a million were made, and a failed read only if a read of the tape failed in the call.
 pub record IsDrawn (s : Spec) (x : Fraction) (F : ℕ) (table : (level node : ℕ) → Bounds) (t : TapeMet) (c : Course) (ending : Ending) : Type 0 where
   pub ended : c.state.ending ≡ Some ending
   pub follows : Follows s x usual c
   pub by_bits : IfSome (bits_of t.source t.contents) (IsCourseOver s F table t c)
+  pub spells : IfSome (bits_of t.source t.contents) (Spells c)
   pub kept : ending ≡ Ending.Done → c.state.kept ≡ 1
   pub out_of_turns : ending ≡ Ending.TurnLimit → c.state.turns ≡ 1000000
   pub failed : ending ≡ Ending.ReadFault → HasFailed t

@@ -1,6 +1,7 @@
 pub mod Words
 pub mod Lines
 pub mod Refusals
+pub mod Spelling
 pub mod Drawn
 pub mod UnderWay
 pub mod Answers

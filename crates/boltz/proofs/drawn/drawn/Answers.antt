@@ -8,7 +8,7 @@ use Rattle.size_window.specs.Drawing.{ending_of}
 use Rattle.boltz.specs.Drawn.{IsReported, ending_word}
 use Rattle.boltz.specs.Lines.{header_lines}
 use Rattle.boltz.specs.UnderWay.{met, IsAtEnd, told_open}
-use Rattle.boltz.proofs.AtTheEnd.{starts, starts-so-far, reported-of, text-is, closing-is}
+use Rattle.boltz.proofs.AtTheEnd.{starts, starts-so-far, first-unlabelled, reported-of, text-is, closing-is}
 use Rattle.boltz.proofs.drawn.drawn.Goals as goal
 
 -- no bit is used, and no object is kept
@@ -34,4 +34,4 @@ returns-clause-reported g c =
     let closing = c.in_ok-closing.ensures ∙ closing-is (told_open c.in_ok-ending.ending) (ending_word (ending_of c.in_ok-ending.ending)) c.counts.result.kept c.turn_to_the_end.new.drawing.kept c.counts.result.thrown c.turn_to_the_end.new.drawing.thrown c.used.result c.turn_to_the_end.new.tape.used c.counts.result.turns c.turn_to_the_end.new.drawing.turns c.counts.ensures.kept c.counts.ensures.thrown c.used.ensures c.counts.ensures.turns in
     let text = whole ∙ ap (λ z. header_lines c.args.x.num c.args.x.den ++ (lines ++ z)) closing in
     subst (λ status. IsReported c.args.founded.now c.args.x.num c.args.x.den 48 (plain_bounds c.args.founded.now c.args.x.num c.args.x.den) (met (TapeSource.Named c.args.tape.now) (g.S.Shelf.content c.args.shelf.now) (g.S.Shelf.faults c.args.shelf.now) (g.S.Shelf.faults c.turn_to_the_end.new.shelf)) status c.extend_from_slice-2.new.self.items) (sym c.status_of.ensures)
-    (reported-of c.args.founded.now c.args.x.num c.args.x.den 48 (plain_bounds c.args.founded.now c.args.x.num c.args.x.den) (met (TapeSource.Named c.args.tape.now) (g.S.Shelf.content c.args.shelf.now) (g.S.Shelf.faults c.args.shelf.now) (g.S.Shelf.faults c.turn_to_the_end.new.shelf)) c.turn_to_the_end.new.drawing c.turn_to_the_end.new.tape.used c.turn_to_the_end.new.lines.items c.in_ok-ending.ending pointed c.extend_from_slice-2.new.self.items text)
+    (reported-of c.args.founded.now (first-unlabelled c.args.founded.now c.requires.first) c.args.x.num c.args.x.den 48 (plain_bounds c.args.founded.now c.args.x.num c.args.x.den) (met (TapeSource.Named c.args.tape.now) (g.S.Shelf.content c.args.shelf.now) (g.S.Shelf.faults c.args.shelf.now) (g.S.Shelf.faults c.turn_to_the_end.new.shelf)) c.turn_to_the_end.new.drawing c.turn_to_the_end.new.tape.used c.turn_to_the_end.new.lines.items c.in_ok-ending.ending pointed c.extend_from_slice-2.new.self.items text)
