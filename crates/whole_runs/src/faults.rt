@@ -26,7 +26,7 @@ fn with_failed_read<R: AllocGlobal + Abort>(
     let mut shelf = shelf_of(alloc, PAIRS.as_bytes(), b"\x40", 1)?;
     shelf.fail_at(call)?;
     let mut sink = MemorySink::new(alloc, 4096, 4096)?;
-    let got = status_of(alloc, DRAWING, &mut shelf, &mut sink)?;
+    let got = status_of(rt, DRAWING, &mut shelf, &mut sink)?;
     assert_eq!(rt; str::from_utf8(sink.written()), Ok(want), "call {call}");
     assert_eq!(rt; got, status, "call {call}");
     Ok(())
@@ -55,7 +55,7 @@ fn with_failed_write<R: AllocGlobal + Abort>(
     let mut shelf = shelf_of(alloc, PAIRS.as_bytes(), b"\x40", 4096)?;
     let mut sink = MemorySink::new(alloc, 7, 4096)?;
     sink.fail_at(call)?;
-    let got = status_of(alloc, DRAWING, &mut shelf, &mut sink)?;
+    let got = status_of(rt, DRAWING, &mut shelf, &mut sink)?;
     assert_eq!(rt; sink.written(), want, "call {call}");
     assert_eq!(rt; got, status, "call {call}");
     Ok(())

@@ -42,14 +42,21 @@ pub fn shelf_of(
 }
 
 /// The status of a run with these words, which stand between single blanks.
-pub fn status_of(
-    alloc: Global,
+///
+/// Where memory is wanting in the run, nothing is to be written, and `Err` comes.
+pub fn status_of<R: AllocGlobal + Abort>(
+    rt: &R,
     words: &str,
     shelf: &mut MemoryShelf,
     sink: &mut MemorySink,
 ) -> Result<u8, AllocError> {
-    let words = words_of(alloc, words)?;
-    Ok(counted::<Brand>(alloc, &words, shelf, sink, Blank::new(1)))
+    let words = words_of(rt.alloc(), words)?;
+    let status = counted::<Brand>(rt.alloc(), &words, shelf, sink, Blank::new(1));
+    if status == NO_MEMORY {
+        assert_eq!(rt; sink.written(), b"".as_slice(), "no memory, and a text");
+        return Err(AllocError);
+    }
+    Ok(status)
 }
 
 /// The words of a text, which has none where it is empty.
@@ -81,8 +88,6 @@ fn counted<L: Ledger>(
 }
 
 /// Compares what a run over a specification and a tape answers and writes with what is wanted.
-///
-/// Where memory is wanting in the run, nothing is to be written.
 pub fn compare<R: AllocGlobal + Abort>(
     rt: &R,
     words: &str,
@@ -91,15 +96,10 @@ pub fn compare<R: AllocGlobal + Abort>(
     status: u8,
     want: &str,
 ) -> Result<(), AllocError> {
-    let alloc = rt.alloc();
-    let mut shelf = shelf_of(alloc, spec.as_bytes(), tape, 4096)?;
-    let mut sink = MemorySink::new(alloc, 4096, ROOM)?;
-    let got = status_of(alloc, words, &mut shelf, &mut sink)?;
-    if got == NO_MEMORY {
-        assert_eq!(rt; sink.written(), b"".as_slice(), "no memory, and a text");
-        return Err(AllocError);
-    }
-    assert_eq!(rt; str::from_utf8(sink.written()), Ok(want), "{spec}");
-    assert_eq!(rt; got, status, "{spec}");
+    let mut shelf = shelf_of(rt.alloc(), spec.as_bytes(), tape, 4096)?;
+    let mut sink = MemorySink::new(rt.alloc(), 4096, ROOM)?;
+    let got = status_of(rt, words, &mut shelf, &mut sink)?;
+    assert_eq!(rt; str::from_utf8(sink.written()), Ok(want), "{words}: {spec}");
+    assert_eq!(rt; got, status, "{words}: {spec}");
     Ok(())
 }
