@@ -21,7 +21,7 @@ fn push_times(text: &mut String, piece: &str, times: u32) -> Result<(), AllocErr
 }
 
 #[test]
-fn texts_outside_the_grammar(rt: HostRuntime) -> Result<(), Fail> {
+fn texts_that_are_refused(rt: HostRuntime) -> Result<(), Fail> {
     for (text, want) in [
         ("", "syntax line 1 column 1"),
         ("labelled", "syntax line 1 column 9"),
@@ -37,16 +37,6 @@ fn texts_outside_the_grammar(rt: HostRuntime) -> Result<(), Fail> {
         ("unlabelled\nC = Z*D\n", "undefined line 2 column 7"),
         ("unlabelled\nC = Z\nC = E\n", "twice line 3"),
         ("unlabelled\nC = Set(Z)\n", "needs labels line 2 column 5"),
-    ] {
-        let want = format!(in rt.alloc(); "refused spec {want}\n")?;
-        compare(&rt, "spec s", text, b"", 3, &want)?;
-    }
-    Ok(())
-}
-
-#[test]
-fn specifications_that_are_not_well_founded(rt: HostRuntime) -> Result<(), Fail> {
-    for (text, want) in [
         ("unlabelled\nC = C\n", "no object C"),
         ("unlabelled\nC = Z + C\n", "zero loop C"),
         ("unlabelled\nC = Z + Seq=1(C)\n", "zero loop C"),
