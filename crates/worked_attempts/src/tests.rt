@@ -2,13 +2,15 @@
 
 use crate::attempt::make_attempt;
 use bz_model::fraction::Fraction;
+use spec_reader::fault::SpecFault;
 use spec_reader::reading::read_spec;
 use std::alloc::AllocError;
 use std::marker::Brand;
 use std::process::Abort;
 use std::sync::ledger::Blank;
 use std::test::Fail;
-use well_founded::examination::examine;
+use well_founded::cause::UnfoundedCause;
+use well_founded::examination::{Founded, examine};
 
 /// Compares attempts at a specification's text at x, each with its tape, its room and the text wanted.
 fn compare<R: AllocGlobal + Abort>(
@@ -20,18 +22,29 @@ fn compare<R: AllocGlobal + Abort>(
     let Ok(x) = Fraction::read(x) else {
         panic!(rt; "not a fraction");
     };
-    let Ok(system) = read_spec(rt.alloc(), text) else {
-        panic!(rt; "not a specification");
-    };
-    let Ok(founded) = examine(rt.alloc(), system) else {
-        panic!(rt; "not well founded");
-    };
+    let founded = specification(rt, text)?;
     for &(tape, room, want) in attempts {
         assert!(rt; room <= 1_000_000);
         let got = make_attempt::<R, Brand>(rt, &founded, x, tape, room, Blank::new(1))?;
         assert_eq!(rt; got.as_str(), want);
     }
     Ok(())
+}
+
+/// The specification of a text.
+fn specification<R: AllocGlobal + Abort>(rt: &R, text: &[u8]) -> Result<Founded, AllocError> {
+    let system = match read_spec(rt.alloc(), text) {
+        Ok(system) => system,
+        Err(SpecFault::OutOfMemory) => return Err(AllocError),
+        Err(_) => panic!(rt; "not a specification"),
+    };
+    match examine(rt.alloc(), system) {
+        Ok(founded) => Ok(founded),
+        Err(refusal) => {
+            assert_eq!(rt; refusal.cause, UnfoundedCause::OutOfMemory);
+            Err(AllocError)
+        }
+    }
 }
 
 #[test]
