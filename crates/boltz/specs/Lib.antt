@@ -2,6 +2,7 @@ pub mod Words
 pub mod Lines
 pub mod Refusals
 pub mod Drawn
+pub mod Bounded
 pub mod UnderWay
 pub mod Answers
 pub mod Reads
