@@ -1,8 +1,7 @@
 -- A specification that is accepted and well founded is printed, or drawn from, and no other one is.
-use Rattle.std.proofs.Common.{arith, ◌⊎◌, inl, inr, ◌≡◌, ◌≢◌, ℕ, zero, suc, ◌≤◌, List, [], ◌∷◌, refl, sym, subst, ap, ◌∙◌}
-use Rattle.std.specs.Prelude.{◌<◌, Bool, true, false, length, take, Option, Some, None, IfSome, option_map}
+use Rattle.std.proofs.Common.{arith, ◌⊎◌, inl, inr, ◌≡◌, ℕ, zero, suc, ◌≤◌, List, [], ◌∷◌, refl, sym, subst, ap, ◌∙◌}
+use Rattle.std.specs.Prelude.{Bool, true, length, take, Option, Some, None, IfSome, option_map}
 use Rattle.bz_model.specs.Spec.{Spec}
-use Rattle.bz_model.specs.WellFounded.{IsWellFounded}
 use Rattle.bz_outside.specs.Outside.{Rose, Appends}
 use Rattle.bit_tape.specs.Bits.{file_bit}
 use Rattle.spec_reader.specs.Reading.{Grammar, Refuses}
@@ -15,12 +14,17 @@ use Rattle.well_founded.specs.Examination.{TellsCause}
 use Rattle.well_founded.proofs.Judged.{tells-unfounded}
 use Rattle.plain_table.specs.FirstForm.{is_first_form}
 use Rattle.plain_table.specs.PlainTable.{plain_bounds}
-use Rattle.size_window.specs.RunByBits.{Course, Ending, after}
+use Rattle.size_window.specs.RunByBits.{Course, Ending}
 use Rattle.boltz.specs.Answers.{Output, Ends, World, file_of, IsAsked, IsAccepted, IsNotYet, Answers, Sampled, tape_of, spec_text}
 use Rattle.boltz.specs.Answers as answers
-use Rattle.boltz.specs.Complete.{IsGiven, IsFit, IsPrintable, IsUnfit, IsBeyond, undisturbed, IsDrawable}
+use Rattle.boltz.specs.Bounded.{Bounded, bounded_text}
+use Rattle.boltz.specs.Bounded as bounds
+use Rattle.newton_upper.specs.BaseRule.{base_of, HasNoUpper}
+use Rattle.newton_upper.specs.declared.trials.Trial.{Trial}
+use Rattle.rounded_map.specs.RoundedMap.{Setting, setting}
+use Rattle.boltz.specs.Complete.{IsGiven, IsFit, IsPrintable, IsUnfit, IsBeyond, undisturbed, IsDrawable, IsBoundable, IsBaseless}
 use Rattle.boltz.specs.Drawn.{TapeMet, HasFailed, sampling, IsCourseOver, IsDrawnText, ending_status}
-use Rattle.boltz.specs.Refusals.{not_yet_line}
+use Rattle.boltz.specs.Refusals.{not_yet_line, no_upper_text}
 use Rattle.boltz.specs.Words.{Command, Names}
 use Rattle.boltz.specs.declared.status.Status.{Status}
 use Rattle.boltz.specs.declared.status.Status.TheVariants as variants
@@ -56,6 +60,7 @@ module _ (w : World) (c : Command) (bytes : List ℕ) (given : IsGiven w c bytes
 -- What becomes of a command whose specification is accepted and well founded.
 abbrev Outcome : World → Spec → Status → List ℕ → Command → Type 0
 Outcome w s status text (Command.Spec file) = (status ≡ Status.Done) × (text ≡ spec_text s)
+Outcome w s status text (Command.Oracle file num den) = Bounded (setting s num den 48) status text
 Outcome w s status text (Command.Sample file num den tape) = Sampled s num den (tape_of w tape) status text
 
 module _ (w : World) (c : Command) (s : Spec) (fit : IsFit w c s) where
@@ -76,6 +81,10 @@ module _ (w : World) (c : Command) (s : Spec) (fit : IsFit w c s) where
       absurd (tells-unfounded s cause (sound fit.bytes s fit.accepted.stands) (subst (λ u. TellsCause u cause) (same-tables d read t asked accepts) tells) memory fit.founded)
   outcome status text (answers.printed file read t asked accepts founded e) =
       subst (Outcome w s status text) (alone w c fit.bytes fit.given (Command.Spec file) asked.named) (refl, e ∙ ap spec_text (same-tables (Command.Spec file) read t asked accepts))
+  outcome status text (answers.bounded file read num den t asked accepts founded done) =
+      let same = same-tables (Command.Oracle file num den) read t asked accepts in
+      subst (Outcome w s status text) (alone w c fit.bytes fit.given (Command.Oracle file num den) asked.named)
+      (subst (λ u. Bounded (setting u num den 48) status text) same done)
   outcome status text (answers.sampled file tape read num den t asked accepts founded done) =
       let same = same-tables (Command.Sample file num den tape) read t asked accepts in
       subst (Outcome w s status text) (alone w c fit.bytes fit.given (Command.Sample file num den tape) asked.named)
@@ -90,7 +99,23 @@ refused w status text p (answers.not_read d named rose e) = absurd (no-rise w p.
 refused w status text p (answers.text_refused d read fault asked memory refuses e) = refl
 refused w status text p (answers.unfounded d read t cause asked accepts memory tells e) = refl
 refused w status text p (answers.printed file read t asked accepts founded e) = absurd (p.unfit t (subst (λ r. IsAccepted r t) (is-read w p.command p.bytes p.given (Command.Spec file) read asked) accepts) founded)
+refused w status text p (answers.bounded file read num den t asked accepts founded done) = absurd (p.unfit t (subst (λ r. IsAccepted r t) (is-read w p.command p.bytes p.given (Command.Oracle file num den) read asked) accepts) founded)
 refused w status text p (answers.sampled file tape read num den t asked accepts founded done) = absurd (p.unfit t (subst (λ r. IsAccepted r t) (is-read w p.command p.bytes p.given (Command.Sample file num den tape) read asked) accepts) founded)
+
+-- there is one base, or none
+based-only : (t : Setting) (base : List ℕ) (status : Status) (text : List ℕ) → base_of t ≡ Some base → Bounded t status text → (status ≡ Status.Done) × (text ≡ bounded_text t base)
+based-only t base status text has (bounds.based b is e f) = let same : b ≡ base = cc in (e, f ∙ ap (bounded_text t) same)
+based-only t base status text has (bounds.no_base trials lacks e f) = let none = lacks.no_base in absurd (cc)
+
+baseless-only : (t : Setting) (status : Status) (text : List ℕ) → base_of t ≡ None → Bounded t status text → (status ≡ Status.NoUpper) × ((trials : List Trial) × HasNoUpper t trials × (text ≡ no_upper_text t.spec t.bits trials))
+baseless-only t status text has (bounds.based b is e f) = absurd (cc)
+baseless-only t status text has (bounds.no_base trials lacks e f) = (e, (trials, lacks, f))
+
+pub bounded : (w : World) (s : Spec) (num den : ℕ) (base : List ℕ) (status : Status) (text : List ℕ) → IsBoundable w s num den base → Answers w status text → (status ≡ Status.Done) × (text ≡ bounded_text (setting s num den 48) base)
+bounded w s num den base status text p h = based-only (setting s num den 48) base status text p.has_base (outcome w (Command.Oracle p.file num den) s p.fit status text h)
+
+pub baseless : (w : World) (s : Spec) (num den : ℕ) (status : Status) (text : List ℕ) → IsBaseless w s num den → Answers w status text → (status ≡ Status.NoUpper) × ((trials : List Trial) × HasNoUpper (setting s num den 48) trials × (text ≡ no_upper_text s 48 trials))
+baseless w s num den status text p h = baseless-only (setting s num den 48) status text p.no_base (outcome w (Command.Oracle p.file num den) s p.fit status text h)
 
 -- a specification of the first form at a fraction of at most 1 is drawn from
 no-wait : (s : Spec) (num den : ℕ) → is_first_form s ≡ true → num ≤ den → ¬ (IsNotYet s num den)
@@ -150,12 +175,17 @@ sampled-told : (s : Spec) (num den : ℕ) (t : TapeMet) (status : Status) (text 
 sampled-told s num den t status text (answers.not_yet not_yet e f) = subst IsTold (sym e) tt
 sampled-told s num den t status text (answers.drawn first small r) = subst IsTold (sym r.answer) (ending-told r.ending)
 
+bounded-told : (t : Setting) (status : Status) (text : List ℕ) → Bounded t status text → IsTold status
+bounded-told t status text (bounds.based b is e f) = subst IsTold (sym e) tt
+bounded-told t status text (bounds.no_base trials lacks e f) = subst IsTold (sym e) tt
+
 is-told : (w : World) (status : Status) (text : List ℕ) → Answers w status text → IsTold status
 is-told w status text (answers.words_refused none e) = tt
 is-told w status text (answers.not_read d named rose e) = tt
 is-told w status text (answers.text_refused d read fault asked memory refuses e) = tt
 is-told w status text (answers.unfounded d read t cause asked accepts memory tells e) = tt
 is-told w status text (answers.printed file read t asked accepts founded e) = tt
+is-told w status text (answers.bounded file read num den t asked accepts founded done) = bounded-told (setting t num den 48) status text done
 is-told w status text (answers.sampled file tape read num den t asked accepts founded done) = sampled-told t num den (tape_of w tape) status text done
 
 -- an answer whose text is written is how a call ends
@@ -163,6 +193,7 @@ pub written : (w : World) (o : Output) (status : Status) (text : List ℕ) → A
 written w o variants.Done text h a = record { text = text; answers = h; appends = a }
 written w o variants.WordsRefused text h a = record { text = text; answers = h; appends = a }
 written w o variants.SpecRefused text h a = record { text = text; answers = h; appends = a }
+written w o variants.NoUpper text h a = record { text = text; answers = h; appends = a }
 written w o variants.TapeEnded text h a = record { text = text; answers = h; appends = a }
 written w o variants.Undecided text h a = record { text = text; answers = h; appends = a }
 written w o variants.TurnLimit text h a = record { text = text; answers = h; appends = a }
@@ -175,6 +206,7 @@ pub unless-wanting : (w : World) (o : Output) (status want : Status) → Ends w 
 unless-wanting w o variants.Done want h told no_fault = inl (told h.text h.answers)
 unless-wanting w o variants.WordsRefused want h told no_fault = inl (told h.text h.answers)
 unless-wanting w o variants.SpecRefused want h told no_fault = inl (told h.text h.answers)
+unless-wanting w o variants.NoUpper want h told no_fault = inl (told h.text h.answers)
 unless-wanting w o variants.TapeEnded want h told no_fault = inl (told h.text h.answers)
 unless-wanting w o variants.Undecided want h told no_fault = inl (told h.text h.answers)
 unless-wanting w o variants.TurnLimit want h told no_fault = inl (told h.text h.answers)
@@ -193,3 +225,9 @@ leaves w o status h p no_fault = unless-wanting w o status Status.SpecRefused h 
 
 pub draws : (w : World) (o : Output) (status : Status) → Ends w o status → (s : Spec) (num den turns : ℕ) (bytes : List ℕ) (ending : Ending) → IsDrawable w s num den bytes turns ending → ¬ (Rose o.faults_before o.faults_after) → (status ≡ ending_status ending) ⊎ (status ≡ Status.OutOfMemory)
 draws w o status h s num den turns bytes ending p no_fault = unless-wanting w o status (ending_status ending) h (λ text a. (drawn w s num den turns bytes ending status text p a).0) no_fault
+
+pub bounds_told : (w : World) (o : Output) (status : Status) → Ends w o status → (s : Spec) (num den : ℕ) (base : List ℕ) → IsBoundable w s num den base → ¬ (Rose o.faults_before o.faults_after) → (status ≡ Status.Done) ⊎ (status ≡ Status.OutOfMemory)
+bounds_told w o status h s num den base p no_fault = unless-wanting w o status Status.Done h (λ text a. (bounded w s num den base status text p a).0) no_fault
+
+pub lacks_base : (w : World) (o : Output) (status : Status) → Ends w o status → (s : Spec) (num den : ℕ) → IsBaseless w s num den → ¬ (Rose o.faults_before o.faults_after) → (status ≡ Status.NoUpper) ⊎ (status ≡ Status.OutOfMemory)
+lacks_base w o status h s num den p no_fault = unless-wanting w o status Status.NoUpper h (λ text a. (baseless w s num den status text p a).0) no_fault

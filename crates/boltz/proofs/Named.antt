@@ -1,7 +1,7 @@
 -- Which command words stand for.
-use Rattle.std.proofs.Common.{◌≡◌, ℕ, List, [], ◌∷◌, refl, sym, subst, ◌∙◌, ap}
+use Rattle.std.proofs.Common.{◌≡◌, ℕ, List, [], ◌∷◌, sym, subst, ◌∙◌, ap}
 use Rattle.std.specs.Prelude.{Err, codes}
-use Rattle.bz_model.specs.Number.{IsPart, number_value, IsFractionText}
+use Rattle.bz_model.specs.Number.{IsPart, number_value}
 use Rattle.bz_model.specs.FractionRead.{ReadsAs}
 use Rattle.bz_model.specs.declared.fraction.FractionFault.{FractionFault}
 use Rattle.bz_model.specs.declared.fraction.FractionFault.TheVariants.{NotAFraction, OutOfRange}
@@ -28,4 +28,14 @@ named-spec command file c f = words.spec file (cc) f
 -- five words without an x are no command
 pub no-sample : (command file x option tape : List ℕ) → ((num den : ℕ) → ¬ (IsX x num den)) → NamesNone (command ∷ file ∷ x ∷ option ∷ tape ∷ [])
 no-sample command file x option tape none c (words.spec f e n) = absurd (cc)
+no-sample command file x option tape none c (words.oracle f y num den e n is) = absurd (cc)
 no-sample command file x option tape none c (words.sample f y t num den e n is m) = let same : y ≡ x = cc in none num den (subst (λ w. IsX w num den) same is)
+
+pub named-oracle : (command file x : List ℕ) (num den : ℕ) → command ≡ codes "oracle" → IsName file → IsX x num den → Names (command ∷ file ∷ x ∷ []) (Command.Oracle file num den)
+named-oracle command file x num den c f is = words.oracle file x num den (cc) f is
+
+-- three words without an x are no command
+pub no-oracle : (command file x : List ℕ) → ((num den : ℕ) → ¬ (IsX x num den)) → NamesNone (command ∷ file ∷ x ∷ [])
+no-oracle command file x none c (words.spec f e n) = absurd (cc)
+no-oracle command file x none c (words.oracle f y num den e n is) = let same : y ≡ x = cc in none num den (subst (λ w. IsX w num den) same is)
+no-oracle command file x none c (words.sample f y t num den e n is m) = absurd (cc)

@@ -1,8 +1,8 @@
 -- Where each answer comes.
-use Rattle.std.proofs.Common.{◌≡◌, ◌≢◌, ℕ, ◌≤◌, arith, true, List, refl, sym, subst}
-use Rattle.std.specs.Prelude.{◌<◌, Bool, length, Option, Some, None, take, IfSome, slice_get}
+use Rattle.std.proofs.Common.{◌≡◌, ◌≢◌, ℕ, ◌≤◌, arith, List, sym, subst}
+use Rattle.std.specs.Prelude.{◌<◌, Bool, length, Option, Some, None, IfSome}
 use Rattle.std.proofs.lemmas.Option.{slice_get_within}
-use Rattle.bz_model.specs.Spec.{Spec, body_of}
+use Rattle.bz_model.specs.Spec.{Spec}
 use Rattle.bz_model.specs.WellFounded.{IsWellFounded}
 use Rattle.bz_outside.specs.Outside.{Rose}
 use Rattle.class_system.specs.Sound.{IsSound}
@@ -15,6 +15,8 @@ use Rattle.well_founded.specs.declared.cause.UnfoundedCause.{UnfoundedCause}
 use Rattle.well_founded.specs.declared.cause.UnfoundedCause.TheVariants.{NoObject, ZeroPart, ZeroLoop, OutOfMemory}
 use Rattle.boltz.specs.Answers.{World, file_of, IsAsked, IsAccepted, Answers, Sampled, tape_of, spec_text}
 use Rattle.boltz.specs.Answers as answers
+use Rattle.boltz.specs.Bounded.{Bounded}
+use Rattle.rounded_map.specs.RoundedMap.{setting}
 use Rattle.boltz.specs.Drawn.{TapeMet, IsCourseOver, IsReported}
 use Rattle.boltz.specs.UnderWay.{met}
 use Rattle.bit_tape.specs.Tape.{TapeSource, bits_of, HasFault}
@@ -40,6 +42,9 @@ told_cause w c read s cause text asked accepted memory tells line = answers.unfo
 
 pub told_spec : (w : World) (file read : List ℕ) (s : Spec) (text : List ℕ) → IsAsked w (Command.Spec file) read → IsAccepted read s → IsWellFounded s → text ≡ spec_text s → Answers w Status.Done text
 told_spec w file read s text asked accepted founded line = answers.printed file read s asked accepted founded line
+
+pub told_bounded : (w : World) (file read : List ℕ) (num den : ℕ) (s : Spec) (status : Status) (text : List ℕ) → IsAsked w (Command.Oracle file num den) read → IsAccepted read s → IsWellFounded s → Bounded (setting s num den 48) status text → Answers w status text
+told_bounded w file read num den s status text asked accepted founded done = answers.bounded file read num den s asked accepted founded done
 
 -- a count that rose from a later number rose from an earlier one
 rose-earlier : (earlier before now : ℕ) → earlier ≤ before → Rose before now → Rose earlier now

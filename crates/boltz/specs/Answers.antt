@@ -12,6 +12,8 @@ use Rattle.well_founded.specs.Examination.{TellsCause}
 use Rattle.well_founded.specs.declared.cause.UnfoundedCause.{UnfoundedCause}
 use Rattle.plain_table.specs.FirstForm.{is_first_form}
 use Rattle.plain_table.specs.PlainTable.{plain_bounds}
+use Rattle.rounded_map.specs.RoundedMap.{setting}
+use Rattle.boltz.specs.Bounded.{Bounded}
 use Rattle.boltz.specs.Drawn.{TapeMet, IsReported}
 use Rattle.boltz.specs.Lines.{spec_end_line}
 use Rattle.boltz.specs.Refusals.{words_line, read_line, not_yet_line, text_line, cause_line}
@@ -28,6 +30,7 @@ pub record World : Type 0 where
 -- The file of the specification that a command names.
 abbrev pub file_of : Command → List ℕ
 file_of (Command.Spec file) = file
+file_of (Command.Oracle file num den) = file
 file_of (Command.Sample file num den tape) = file
 
 -- The words stand for a command, and these bytes are what is read of its specification: the first 65537 bytes of the file, or all of a shorter one.
@@ -70,6 +73,8 @@ pub data Answers (w : World) : Status → List ℕ → Type 0 where
   unfounded : {text : List ℕ} → (c : Command) (read : List ℕ) (s : Spec) (cause : UnfoundedCause) → IsAsked w c read → IsAccepted read s → cause ≢ UnfoundedCause.OutOfMemory → TellsCause s cause → text ≡ cause_line s cause → Answers w Status.SpecRefused text
   -- the specification is printed
   printed : {text : List ℕ} → (file read : List ℕ) (s : Spec) → IsAsked w (Command.Spec file) read → IsAccepted read s → IsWellFounded s → text ≡ spec_text s → Answers w Status.Done text
+  -- the classes are bounded, or no base is found
+  bounded : {status : Status} {text : List ℕ} → (file read : List ℕ) (num den : ℕ) (s : Spec) → IsAsked w (Command.Oracle file num den) read → IsAccepted read s → IsWellFounded s → Bounded (setting s num den 48) status text → Answers w status text
   -- objects are drawn, or nothing is drawn yet from such a specification or at such a fraction
   sampled : {status : Status} {text : List ℕ} → (file tape read : List ℕ) (num den : ℕ) (s : Spec) → IsAsked w (Command.Sample file num den tape) read → IsAccepted read s → IsWellFounded s → Sampled s num den (tape_of w tape) status text → Answers w status text
 

@@ -1,11 +1,13 @@
--- When the answer is certain: what is certain to be printed, to be refused, and to be drawn.
-use Rattle.std.specs.Prelude.{◌≡◌, ℕ, ◌≤◌, true, List, length, take, Some, None}
+-- When the answer is certain: what is certain to be printed, to be refused, to be bounded, and to be drawn.
+use Rattle.std.specs.Prelude.{◌≡◌, ℕ, ◌≤◌, true, List, take, Some, None}
 use Rattle.bz_model.specs.Spec.{Spec}
 use Rattle.bz_model.specs.WellFounded.{IsWellFounded}
 use Rattle.bz_outside.specs.Outside.{Rose}
 use Rattle.bit_tape.specs.Bits.{file_bit}
 use Rattle.plain_table.specs.FirstForm.{is_first_form}
 use Rattle.plain_table.specs.PlainTable.{plain_bounds}
+use Rattle.newton_upper.specs.BaseRule.{base_of}
+use Rattle.rounded_map.specs.RoundedMap.{setting}
 use Rattle.size_window.specs.RunByBits.{Course, Ending, after}
 use Rattle.boltz.specs.Answers.{World, file_of, IsAccepted, IsNotYet}
 use Rattle.boltz.specs.Drawn.{sampling}
@@ -35,6 +37,18 @@ pub record IsUnfit (w : World) : Type 0 where
   pub bytes : List ℕ
   pub given : IsGiven w command bytes
   pub unfit : (s : Spec) → IsAccepted (take 65537 bytes) s → ¬ (IsWellFounded s)
+
+-- The words ask to bound the classes of a specification at an x with this base.
+pub record IsBoundable (w : World) (s : Spec) (num den : ℕ) (base : List ℕ) : Type 0 where
+  pub file : List ℕ
+  pub fit : IsFit w (Command.Oracle file num den) s
+  pub has_base : base_of (setting s num den 48) ≡ Some base
+
+-- The words ask to bound the classes of a specification at an x without a base.
+pub record IsBaseless (w : World) (s : Spec) (num den : ℕ) : Type 0 where
+  pub file : List ℕ
+  pub fit : IsFit w (Command.Oracle file num den) s
+  pub no_base : base_of (setting s num den 48) ≡ None
 
 -- The words ask to draw from a specification, or at a fraction, that isn't drawn from yet.
 pub record IsBeyond (w : World) : Type 0 where

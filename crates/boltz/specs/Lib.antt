@@ -3,6 +3,7 @@ pub mod Lines
 pub mod Refusals
 pub mod Spelling
 pub mod Drawn
+pub mod Bounded
 pub mod UnderWay
 pub mod Answers
 pub mod Reads

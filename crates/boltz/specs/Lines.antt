@@ -1,7 +1,11 @@
 -- The lines that the program writes, as lists of bytes.
-use Rattle.std.specs.Prelude.{ℕ, List, [], ◌∷◌, ◌++◌, flat_map, decimal, codes}
+use Rattle.std.specs.Prelude.{ℕ, zero, suc, List, [], ◌∷◌, ◌++◌, flat_map, decimal, codes, slice_get, unwrap_or}
+use Rattle.bz_model.specs.Spec.{Spec}
 use Rattle.bz_model.specs.declared.cell.Cell.{Cell}
 use Rattle.bz_model.specs.declared.cell.Bounds.{Bounds}
+use Rattle.class_system.specs.CanonicalText.{mode_word, canonical_text}
+use Rattle.hex.specs.Hex.{encode_lower}
+use Rattle.sha2.specs.Sha256.{sha256}
 
 -- A line feed.
 abbrev pub feed : List ℕ
@@ -41,3 +45,33 @@ end_line word kept thrown bits turns = codes "end " ++ (word ++ (codes " kept " 
 -- The last line after a specification's canonical text.
 abbrev pub spec_end_line : (classes nodes : ℕ) → List ℕ
 spec_end_line classes nodes = codes "end done classes " ++ (decimal classes ++ (codes " nodes " ++ (decimal nodes ++ feed)))
+
+-- The name of a class, and no bytes where there is no such class.
+abbrev pub class_name : Spec → ℕ → List ℕ
+class_name s c = unwrap_or (slice_get s.names c) []
+
+-- The lines before the bases of classes: the format, the mode, the SHA-256 digest of the canonical text in hex digits, x as it was given, and the fraction bits.
+abbrev pub certified_header : Spec → (num den F : ℕ) → List ℕ
+certified_header s num den F =
+    (codes "boltzmann 2" ++ feed ++ codes "mode ")
+    ++ (mode_word s.mode ++ ((feed ++ codes "spec ")
+    ++ (encode_lower (sha256 (canonical_text s)) ++ ((feed ++ codes "x ")
+    ++ (decimal num ++ (codes "/" ++ (decimal den
+    ++ ((feed ++ codes "fraction ") ++ (decimal F ++ feed)))))))))
+
+-- The line of a class's entry in the base.
+abbrev pub base_line : (name : List ℕ) → (value : ℕ) → List ℕ
+base_line name value = codes "base " ++ (name ++ (codes " " ++ (decimal value ++ feed)))
+
+-- The line of a class's lower and upper entry at a level.
+abbrev pub level_line : (level : ℕ) → (name : List ℕ) → (lo hi : ℕ) → List ℕ
+level_line level name lo hi = codes "level " ++ (decimal level ++ (codes " " ++ (name ++ (codes " " ++ (decimal lo ++ (codes " " ++ (decimal hi ++ feed)))))))
+
+-- The lines of the first so many things, in order, where each has its own.
+unfoldable pub lines_below : (line : ℕ → List ℕ) → ℕ → List ℕ
+lines_below line zero = []
+lines_below line (suc n) = lines_below line n ++ line n
+
+-- The last line after the levels.
+abbrev pub levels_end_line : List ℕ
+levels_end_line = codes "end done" ++ feed

@@ -8,6 +8,7 @@ use Rattle.boltz.specs.declared.words.Command.TheVariants as given
 -- The command that a command of the code is.
 abbrev pub named : Given → Command
 named (given.Spec file) = Command.Spec file.now
+named (given.Oracle file x) = Command.Oracle file.now x.num x.den
 named (given.Sample file x tape) = Command.Sample file.now x.num x.den tape.now
 
 -- A call meets this world where a part of it finds a shelf with this content and these counts of failed reads, and leaves it with those counts at the call's end: the contents are told, and no count stood higher when the call began.

@@ -1,10 +1,12 @@
 -- The lines that tell why a command is refused.
-use Rattle.std.specs.Prelude.{ℕ, ◌<◌, List, [], ◌++◌, length, decimal, codes, slice_get, unwrap_or}
+use Rattle.std.specs.Prelude.{ℕ, ◌<◌, ◌*◌, List, [], ◌++◌, length, decimal, codes, flat_map, Option, Some, None}
 use Rattle.bz_model.specs.Spec.{Spec}
 use Rattle.class_system.specs.declared.limits.BuildFault.{BuildFault}
 use Rattle.spec_reader.specs.declared.fault.SpecFault.{SpecFault}
 use Rattle.well_founded.specs.declared.cause.UnfoundedCause.{UnfoundedCause}
-use Rattle.boltz.specs.Lines.{feed}
+use Rattle.newton_upper.specs.Candidates.{candidate_count}
+use Rattle.newton_upper.specs.declared.trials.Trial.{Trial}
+use Rattle.boltz.specs.Lines.{feed, class_name}
 
 -- The words are no command.
 abbrev pub words_line : List ℕ
@@ -41,10 +43,6 @@ text_line (SpecFault.NeedsLabels line column) = codes "refused spec needs labels
 text_line (SpecFault.Limit fault) = limit_line fault
 text_line SpecFault.OutOfMemory = []
 
--- The name of a class.
-abbrev pub class_name : Spec → ℕ → List ℕ
-class_name s c = unwrap_or (slice_get s.names c) []
-
 -- Why a specification isn't well founded; nothing is told of want of memory.
 abbrev pub cause_line : Spec → UnfoundedCause → List ℕ
 cause_line s (UnfoundedCause.NoObject c) = codes "refused spec no object " ++ (class_name s c.0 ++ feed)
@@ -57,3 +55,24 @@ abbrev pub IsNamed : Spec → UnfoundedCause → Type 0
 IsNamed s (UnfoundedCause.NoObject c) = c.0 < length s.names
 IsNamed s (UnfoundedCause.ZeroLoop c) = c.0 < length s.names
 IsNamed s cause = Unit {0}
+
+-- A number, after a space.
+abbrev pub number_field : ℕ → List ℕ
+number_field n = codes " " ++ decimal n
+
+-- A value, or that there is none.
+abbrev pub value_text : Option ℕ → List ℕ
+value_text (Some n) = decimal n
+value_text None = codes "none"
+
+-- A proposal that isn't post-fixed: its entries, the first class that fails, and the upper value of that class's body.
+abbrev pub proposal_line : Spec → Trial → List ℕ
+proposal_line s t = codes "proposal" ++ (flat_map number_field t.values ++ (codes " fails " ++ (class_name s t.class_id.0 ++ (codes " got " ++ (value_text t.got ++ feed)))))
+
+-- No base was found: how many candidates and proposals there were.
+abbrev pub no_upper_line : (candidates proposals : ℕ) → List ℕ
+no_upper_line candidates proposals = codes "refused upper candidates " ++ (decimal candidates ++ (codes " proposals " ++ (decimal proposals ++ feed)))
+
+-- No base was found: the number of candidates of all six rounds and of proposals, and a line for each proposal.
+abbrev pub no_upper_text : Spec → (F : ℕ) → List Trial → List ℕ
+no_upper_text s F trials = no_upper_line (6 * candidate_count F) (length trials) ++ flat_map (proposal_line s) trials

@@ -6,6 +6,7 @@ abbrev pub status_number : Status → ℕ
 status_number Status.Done = 0
 status_number Status.WordsRefused = 2
 status_number Status.SpecRefused = 3
+status_number Status.NoUpper = 4
 status_number Status.TapeEnded = 5
 status_number Status.Undecided = 6
 status_number Status.TurnLimit = 7

@@ -4,15 +4,30 @@ ghost use Rattle.bz_model.specs.Spec.{Spec};
 ghost use Rattle.plain_table.specs.PlainTable.{plain_bounds};
 ghost use Rattle.size_window.specs.RunByBits.{Ending};
 ghost use Rattle.boltz.specs.Answers.{World, Answers, spec_text};
-ghost use Rattle.boltz.specs.Complete.{IsPrintable, IsUnfit, IsBeyond, IsDrawable, undisturbed};
+ghost use Rattle.boltz.specs.Complete.{IsPrintable, IsUnfit, IsBeyond, IsDrawable, IsBoundable, IsBaseless, undisturbed};
 ghost use Rattle.boltz.specs.Drawn.{IsDrawnText, ending_status};
-ghost use Rattle.boltz.specs.Refusals.{not_yet_line};
+ghost use Rattle.boltz.specs.Refusals.{not_yet_line, no_upper_text};
+ghost use Rattle.boltz.specs.Bounded.{bounded_text};
+ghost use Rattle.newton_upper.specs.BaseRule.{HasNoUpper};
+ghost use Rattle.newton_upper.specs.declared.trials.Trial.{Trial};
+ghost use Rattle.rounded_map.specs.RoundedMap.{setting};
 ghost use Rattle.boltz.specs.declared.status.Status.{Status};
 
 /// What can be printed has no other answer than to be printed.
 pub fn what_can_be_printed_is_printed()
     ensures printed { (w : World) (s : Spec) (status : Status) (text : List ℕ) → IsPrintable w s
         → Answers w status text → (status ≡ Status.Done) × (text ≡ spec_text s) }
+{}
+
+/// What has a base has no other answer than the text of the base and the levels, and what has none no
+/// other than the text of the proposals.
+pub fn what_can_be_bounded_is_bounded()
+    ensures bounded { (w : World) (s : Spec) (num den : ℕ) (base : List ℕ) (status : Status) (text : List ℕ)
+        → IsBoundable w s num den base → Answers w status text
+        → (status ≡ Status.Done) × (text ≡ bounded_text (setting s num den 48) base) }
+    ensures baseless { (w : World) (s : Spec) (num den : ℕ) (status : Status) (text : List ℕ)
+        → IsBaseless w s num den → Answers w status text
+        → (status ≡ Status.NoUpper) × ((trials : List Trial) × HasNoUpper (setting s num den 48) trials × (text ≡ no_upper_text s 48 trials)) }
 {}
 
 /// What can be drawn has no other answer than the text of the drawing over the tape's bits, with the

@@ -1,6 +1,7 @@
 //! The top call: a command's words, its files and its output.
 #![tactic(auto)]
 
+mod bounded;
 mod drawn;
 pub mod laws;
 pub mod lines;

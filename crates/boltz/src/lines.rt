@@ -1,9 +1,15 @@
 //! The lines that the program writes.
 ghost use Rattle.std.specs.Prelude.{◌≡◌, ◌++◌, IfOk, string_bytes};
-ghost use Rattle.boltz.specs.Lines.{header_lines, object_line, entry_lines, cells_line, cell_field, open_line, end_line, spec_end_line, feed};
+ghost use Rattle.boltz.specs.Lines.{header_lines, object_line, entry_lines, cells_line, cell_field, open_line, end_line, spec_end_line, class_name, certified_header, base_line, level_line, feed};
+ghost use Rattle.class_system.specs.CanonicalText.{mode_word};
+ghost use Rattle.class_system.specs.Views.{spec_mode};
 
 use bz_model::cell::{Bounds, Cell};
 use bz_model::fraction::Fraction;
+use class_system::draft::Mode;
+use class_system::ids::ClassId;
+use class_system::system::System;
+use sha2::{Digest, Sha256};
 use std::alloc::{AllocError, Global};
 use std::fmt::Write;
 
@@ -83,4 +89,81 @@ pub fn spec_end(alloc: Global, classes: u32, nodes: u32) -> Result<String, Alloc
     ensures { IfOk result (λ text. string_bytes text ≡ spec_end_line classes nodes) }
 {
     format!(in alloc; "end done classes {classes} nodes {nodes}\n")
+}
+
+/// The lines before the bases of classes.
+pub fn certified_header<const F: u32>(
+    alloc: Global,
+    system: &System,
+    x: Fraction,
+) -> Result<String, AllocError>
+    ensures { IfOk result (λ text. string_bytes text ≡ certified_header system.now x.num x.den F) }
+{
+    let canonical = system.to_text()?;
+    let digest = Sha256::digest(canonical.as_slice());
+    let hex = hex::encode(alloc, digest.as_slice())?;
+    let mode = word_of_mode(system.mode());
+    let hex = hex.as_str();
+    let num = x.num;
+    let den = x.den;
+    format!(in alloc; "boltzmann 2\nmode {mode}\nspec {hex}\nx {num}/{den}\nfraction {F}\n")
+}
+
+/// A mode's word.
+fn word_of_mode(mode: Mode) -> &'static str
+    ensures { result.now ≡ mode_word (spec_mode mode) }
+{
+    match mode {
+        Mode::Unlabelled => "unlabelled",
+        Mode::Labelled => "labelled",
+    }
+}
+
+/// The line of a class's entry in the base.
+pub fn base_of_class(
+    alloc: Global,
+    system: &System,
+    class: u32,
+    value: u64,
+) -> Result<Vec<u8>, AllocError>
+    ensures { IfOk result (λ line. line.items ≡ base_line (class_name system.now class) value) }
+{
+    let tail = format!(in alloc; " {value}\n")?;
+    let mut line = Vec::new(alloc);
+    line.extend_from_slice(b"base ")?;
+    line.extend_from_slice(name_of(system, class))?;
+    line.extend_from_slice(tail.as_bytes())?;
+    Ok(line)
+}
+
+/// The line of a class's bounds at a level.
+pub fn level_of_class(
+    alloc: Global,
+    system: &System,
+    level: u8,
+    class: u32,
+    bounds: Bounds,
+) -> Result<Vec<u8>, AllocError>
+    ensures { IfOk result (λ line. line.items ≡ level_line level (class_name system.now class) bounds.lo bounds.hi) }
+{
+    let lo = bounds.lo;
+    let hi = bounds.hi;
+    let head = format!(in alloc; "level {level} ")?;
+    let tail = format!(in alloc; " {lo} {hi}\n")?;
+    let mut line = Vec::new(alloc);
+    line.extend_from_slice(head.as_bytes())?;
+    line.extend_from_slice(name_of(system, class))?;
+    line.extend_from_slice(tail.as_bytes())?;
+    Ok(line)
+}
+
+/// The name of a class, and no bytes where there is no such class.
+pub fn name_of(system: &System, class: u32) -> &[u8]
+    ensures { result.now ≡ class_name system.now class }
+{
+    if class < system.class_count() {
+        system.name(ClassId(class)).bytes()
+    } else {
+        &[]
+    }
 }

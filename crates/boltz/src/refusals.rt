@@ -1,14 +1,17 @@
 //! The lines that tell why a command is refused.
-ghost use Rattle.std.specs.Prelude.{◌≡◌, ◌≢◌, ◌++◌, codes, IfOk, OnOk, string_bytes};
+ghost use Rattle.std.specs.Prelude.{◌≡◌, ◌≢◌, ◌≤◌, ◌++◌, codes, flat_map, IfOk, OnOk, string_bytes};
 ghost use Rattle.well_founded.specs.declared.cause.UnfoundedCause.{UnfoundedCause};
 ghost use Rattle.boltz.specs.Lines.{feed};
-ghost use Rattle.boltz.specs.Refusals.{limit_line, text_line, cause_line, IsNamed};
+ghost use Rattle.boltz.specs.Refusals.{limit_line, text_line, cause_line, IsNamed, number_field, value_text, proposal_line, no_upper_line, no_upper_text};
 
+use crate::lines::name_of;
 use bz_outside::word::Word;
 use class_system::limits::BuildFault;
 use class_system::system::System;
+use newton_upper::Trial;
 use spec_reader::fault::SpecFault;
 use std::alloc::{AllocError, Global};
+use std::fmt::Write;
 use well_founded::cause::UnfoundedCause;
 
 /// Why a text is no specification; `Err` where that is want of memory.
@@ -84,4 +87,66 @@ fn named(alloc: Global, why: &str, name: &Word) -> Result<Vec<u8>, AllocError>
     line.extend_from_slice(name.bytes())?;
     line.extend_from_slice(b"\n")?;
     Ok(line)
+}
+
+/// That no base was found, with a line for each proposal.
+pub fn no_upper<const F: u32>(
+    alloc: Global,
+    system: &System,
+    proposals: &[Trial],
+) -> Result<Vec<u8>, AllocError>
+    requires fraction_bits { (24 ≤ F) × (F ≤ 56) }
+    ensures { IfOk result (λ text. text.items ≡ no_upper_text system.now F proposals.now) }
+{
+    let candidates = 6 * ((F - 8) / 2 + 1);
+    let count = proposals.len();
+    let mut text = no_upper_head(alloc, candidates, count)?.into_bytes();
+    for proposal in proposals {
+        let line = proposal_of(alloc, system, proposal)?;
+        text.extend_from_slice(line.as_slice())?;
+    }
+    Ok(text)
+}
+
+/// How many candidates and proposals there were.
+fn no_upper_head(alloc: Global, candidates: u32, proposals: usize) -> Result<String, AllocError>
+    ensures { IfOk result (λ text. string_bytes text ≡ no_upper_line candidates proposals) }
+{
+    format!(in alloc; "refused upper candidates {candidates} proposals {proposals}\n")
+}
+
+/// The line of a proposal that isn't post-fixed.
+fn proposal_of(alloc: Global, system: &System, proposal: &Trial) -> Result<Vec<u8>, AllocError>
+    ensures { IfOk result (λ line. line.items ≡ proposal_line system.now proposal.now) }
+{
+    let values = values_of(alloc, proposal.values.items())?;
+    let got = got_of(alloc, proposal.got)?;
+    let mut line = Vec::new(alloc);
+    line.extend_from_slice(values.as_bytes())?;
+    line.extend_from_slice(name_of(system, proposal.class_id.0))?;
+    line.extend_from_slice(got.as_bytes())?;
+    Ok(line)
+}
+
+/// The part of a proposal's line before the class's name.
+fn values_of(alloc: Global, values: &[u64]) -> Result<String, AllocError>
+    ensures { IfOk result (λ text. string_bytes text ≡ (codes "proposal" ++ flat_map number_field values.now) ++ codes " fails ") }
+{
+    let mut text = format!(in alloc; "proposal")?;
+    for value in values {
+        let value = *value;
+        write!(text, " {value}")?;
+    }
+    text.push_str(" fails ")?;
+    Ok(text)
+}
+
+/// The part of a proposal's line after the class's name.
+fn got_of(alloc: Global, got: Option<u64>) -> Result<String, AllocError>
+    ensures { IfOk result (λ text. string_bytes text ≡ codes " got " ++ (value_text got ++ feed)) }
+{
+    match got {
+        Some(value) => format!(in alloc; " got {value}\n"),
+        None => format!(in alloc; " got none\n"),
+    }
 }

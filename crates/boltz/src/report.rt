@@ -6,6 +6,7 @@ ghost use Rattle.boltz.specs.Reads.{named, IsMet};
 ghost use Rattle.boltz.specs.UnderWay.{met};
 ghost use Rattle.bit_tape.specs.Tape.{TapeSource};
 
+use crate::bounded::bounded;
 use crate::drawn::drawn;
 use crate::lines::spec_end;
 use crate::refusals::{cause_refusal, text_refusal};
@@ -54,6 +55,7 @@ pub fn answer_to<S: Shelf, L: Ledger>(
     };
     let file = match command {
         Command::Spec { file } => file,
+        Command::Oracle { file, .. } => file,
         Command::Sample { file, .. } => file,
     };
     match read_up_to(alloc, shelf, file, MOST_READ) {
@@ -156,6 +158,7 @@ fn of_founded<S: Shelf, L: Ledger>(
                 text,
             })
         }
+        Command::Oracle { x, .. } => bounded::<48, L>(alloc, founded, x, steps),
         Command::Sample { x, tape, .. } => of_sample(alloc, founded, x, tape, shelf, steps),
     }
 }

@@ -11,6 +11,8 @@ pub enum Status {
     WordsRefused,
     /// The specification is refused, or isn't drawn from yet.
     SpecRefused,
+    /// No base is found for the specification and x.
+    NoUpper,
     /// The tape ended before all was drawn.
     TapeEnded,
     /// 60 bits left a number open.
@@ -34,6 +36,7 @@ impl Status {
             Status::Done => 0,
             Status::WordsRefused => 2,
             Status::SpecRefused => 3,
+            Status::NoUpper => 4,
             Status::TapeEnded => 5,
             Status::Undecided => 6,
             Status::TurnLimit => 7,

@@ -13,6 +13,11 @@ pub enum Command<'a> {
     Spec {
         file: &'a Word,
     },
+    /// Bounds the classes of a specification at `x`.
+    Oracle {
+        file: &'a Word,
+        x: Fraction,
+    },
     /// Draws from a specification at `x`, with the bits of a tape.
     Sample {
         file: &'a Word,
@@ -29,6 +34,7 @@ pub fn command_of(words: &[Word]) -> Option<Command<'_>>
 {
     match words {
         [command, file] => spec_of(command, file),
+        [command, file, x] => oracle_of(command, file, x),
         [command, file, x, option, tape] => sample_of(command, file, x, option, tape),
         _ => None,
     }
@@ -46,6 +52,23 @@ fn spec_of<'a>(command: &Word, file: &'a Word) -> Option<Command<'a>>
         return None;
     }
     Some(Command::Spec { file })
+}
+
+/// The command of three words.
+fn oracle_of<'a>(command: &Word, file: &'a Word, x: &Word) -> Option<Command<'a>>
+    ensures command { IfSome result (λ c. Names (command.now ∷ file.now ∷ x.now ∷ []) (named c)) }
+    ensures none { IsNone result → NamesNone (command.now ∷ file.now ∷ x.now ∷ []) }
+{
+    if !is_word(command, b"oracle") {
+        return None;
+    }
+    if !is_name(file) {
+        return None;
+    }
+    match Fraction::read(x.bytes()) {
+        Ok(x) => Some(Command::Oracle { file, x }),
+        Err(_) => None,
+    }
 }
 
 /// The command of five words.

@@ -1,6 +1,6 @@
-use Rattle.std.proofs.Common.{◌≡◌, inl, ap, subst}
+use Rattle.std.proofs.Common.{inl, subst}
 use Rattle.bz_outside.specs.Outside.{Appends}
-use Rattle.boltz.proofs.Complete.{printed, refused, left, drawn, written}
+use Rattle.boltz.proofs.Complete.{printed, refused, left, drawn, bounded, baseless, written}
 use Rattle.boltz.proofs.run.run.Goals as goal
 
 -- what can be printed has no other answer
@@ -14,6 +14,14 @@ returns-in-Ok-put_all-clause-refuses g c = λ p no_fault. inl (refused _ c.in-Ok
 -- what isn't drawn from yet has no other answer
 pub returns-in-Ok-put_all-clause-leaves : goal.returns-in-Ok-put_all-clause-leaves
 returns-in-Ok-put_all-clause-leaves g c = λ p no_fault. inl (left _ c.in-Ok.report.status c.in-Ok.report.text.items p c.in-Ok.ensures.answer).0
+
+-- what has a base has no other answer
+pub returns-in-Ok-put_all-clause-bounds : goal.returns-in-Ok-put_all-clause-bounds
+returns-in-Ok-put_all-clause-bounds g c = λ s num den base p no_fault. inl (bounded _ s num den base c.in-Ok.report.status c.in-Ok.report.text.items p c.in-Ok.ensures.answer).0
+
+-- what has no base has no other answer
+pub returns-in-Ok-put_all-clause-no_base : goal.returns-in-Ok-put_all-clause-no_base
+returns-in-Ok-put_all-clause-no_base g c = λ s num den p no_fault. inl (baseless _ s num den c.in-Ok.report.status c.in-Ok.report.text.items p c.in-Ok.ensures.answer).0
 
 -- what can be drawn has no other answer
 pub returns-in-Ok-put_all-clause-draws : goal.returns-in-Ok-put_all-clause-draws
