@@ -70,6 +70,25 @@ pub fn make_attempt<R: AllocGlobal + Abort, L: Ledger>(
     format!(in alloc; "{answer:?} {tokens:?}{cells} bits {}", tape.used())
 }
 
+/// The entry of class 0 in the base at 52 fraction bits; `None` where there is no base.
+pub fn first_entry<R: AllocGlobal, L: Ledger>(
+    rt: &R,
+    founded: &Founded,
+    x: Fraction,
+    blank: Blank,
+) -> Result<Option<u64>, AllocError>
+    requires name { blank.name ≡ L.name }
+    requires parts { blank.parts ≡ L.parts }
+    requires some { 0 < L.parts }
+{
+    let mut steps = Steps::<L>::open(blank);
+    match propose::<52, L>(rt.alloc(), founded, x, &mut steps) {
+        Ok(base) => Ok(base.values().first().copied()),
+        Err(UpperFault::OutOfMemory) => Err(AllocError),
+        Err(UpperFault::NoUpper { .. }) => Ok(None),
+    }
+}
+
 /// Visits the pending nodes until none is left, or one is not passed.
 fn visit_all<O: Oracle<48>, S: Shelf, L: Ledger>(
     founded: &Founded,

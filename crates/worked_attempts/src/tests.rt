@@ -1,6 +1,6 @@
 //! Attempts of an independent program.
 
-use crate::attempt::make_attempt;
+use crate::attempt::{first_entry, make_attempt};
 use bz_model::fraction::Fraction;
 use spec_reader::fault::SpecFault;
 use spec_reader::reading::read_spec;
@@ -45,6 +45,29 @@ fn specification<R: AllocGlobal + Abort>(rt: &R, text: &[u8]) -> Result<Founded,
             Err(AllocError)
         }
     }
+}
+
+/// Compares the entry of class 0 in the base at 52 fraction bits.
+fn compare_entry<R: AllocGlobal + Abort>(
+    rt: &R,
+    founded: &Founded,
+    x: &[u8],
+    want: Option<u64>,
+) -> Result<(), AllocError> {
+    let Ok(x) = Fraction::read(x) else {
+        panic!(rt; "not a fraction");
+    };
+    let got = first_entry::<R, Brand>(rt, founded, x, Blank::new(1))?;
+    assert_eq!(rt; got, want);
+    Ok(())
+}
+
+#[test]
+fn the_greatest_atom_at_52_bits(rt: HostRuntime) -> Result<(), Fail> {
+    let founded = specification(&rt, b"unlabelled\nC = Z\n")?;
+    compare_entry(&rt, &founded, b"4095/1", Some(18_442_240_474_082_181_376))?;
+    compare_entry(&rt, &founded, b"4096/1", None)?;
+    Ok(())
 }
 
 #[test]
