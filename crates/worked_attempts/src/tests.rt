@@ -193,9 +193,34 @@ fn cycles_of_atoms(rt: HostRuntime) -> Result<(), Fail> {
     let text = b"labelled\nC = Cyc(Z)\n";
     let attempts = [
         (b"\x80".as_slice(), 1000, "Made [Count(1), Dot] 4/3 bits 3"),
+        (b"\0", 10, "Made [Count(1), Dot] 0/1 bits 1"),
+        (b"\0", 0, "Overshot [] 0/1 bits 1"),
         (b"\xff", 3, "Overshot [] 31/5 bits 5"),
         (b"\xff", 1000, "Ended [] bits 8"),
     ];
+    compare(&rt, text, b"1/2", &attempts)?;
+    Ok(())
+}
+
+#[test]
+fn sets_of_atoms(rt: HostRuntime) -> Result<(), Fail> {
+    let text = b"labelled\nP = Set(Z)\n";
+    let attempts = [
+        (b"\x80".as_slice(), 10, "Made [Count(1), Dot] 4/3 bits 3"),
+        (b"\x80", 0, "Overshot [] 1/1 bits 1"),
+    ];
+    compare(&rt, text, b"1/1", &attempts)?;
+    Ok(())
+}
+
+#[test]
+fn sequences_of_two_or_more_atoms(rt: HostRuntime) -> Result<(), Fail> {
+    let text = b"unlabelled\nC = Seq>=2(Z)\n";
+    let attempts = [(
+        b"\0".as_slice(),
+        1000,
+        "Made [Count(2), Dot, Dot] 0/1 bits 1",
+    )];
     compare(&rt, text, b"1/2", &attempts)?;
     Ok(())
 }
