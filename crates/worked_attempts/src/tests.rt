@@ -32,7 +32,7 @@ fn compare<R: AllocGlobal + Abort>(
 }
 
 /// The specification of a text.
-fn specification<R: AllocGlobal + Abort>(rt: &R, text: &[u8]) -> Result<Founded, AllocError> {
+pub fn specification<R: AllocGlobal + Abort>(rt: &R, text: &[u8]) -> Result<Founded, AllocError> {
     let system = match read_spec(rt.alloc(), text) {
         Ok(system) => system,
         Err(SpecFault::OutOfMemory) => return Err(AllocError),
