@@ -11,4 +11,5 @@ pub mod drawing;
 pub mod ending;
 pub mod laws;
 pub mod limits;
+mod made;
 pub mod turned;
