@@ -6,6 +6,7 @@ pub mod Turning
 pub mod Settling
 pub mod Belonging
 pub mod Turns
+pub mod LabelTurns
 pub mod Following
 pub mod UnionsIdeally
 pub mod CountsIdeally

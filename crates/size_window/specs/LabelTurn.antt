@@ -1,11 +1,10 @@
 -- What a turn that labels a shape makes of a drawing.
-use Rattle.std.specs.Prelude.{◌≡◌, ◌≢◌, ℕ, ◌++◌, ◌<◌, ◌≤◌, ◌*◌, Bool, List, Option, Some}
+use Rattle.std.specs.Prelude.{◌≡◌, ℕ, ◌++◌, Bool, List, Option, Some}
 use Rattle.bz_model.specs.declared.cell.Cell.{Cell}
-use Rattle.bz_model.specs.Labels.{AreOneTo}
 use Rattle.object_store.specs.Tokens.{size_of}
 use Rattle.labelling.specs.declared.labelled.Labelled.{Labelled}
 use Rattle.labelling.specs.declared.labelled.Labelled.TheVariants as labelled
-use Rattle.labelling.specs.Answer.{IsLabelling, AreIdealLabels, OnLabels}
+use Rattle.labelling.specs.Answer.{IsLabelling, AreIdealLabels, OnLabels, StraddlesAt}
 use Rattle.size_window.specs.declared.ending.Ending.{Ending}
 use Rattle.size_window.specs.declared.ending.Ending.TheVariants.{TapeEnded, Undecided, ReadFault}
 use Rattle.size_window.specs.declared.ending.Straddle.TheVariants as straddle
@@ -33,7 +32,7 @@ SettlesLabels labelled.OutOfMemory shape used before answer now = (answer ≡ Ou
 -- A turn that labels this shape, taken out of the drawing before: the answer is that of a labelling, settled.
 pub record IsLabelTurn (bits : Option (ℕ → Option Bool)) (shape : MadeShape) (before : DrawingState) (start : ℕ) (answer : Turned) (now : DrawingState) (used : ℕ) : Type 0 where
   pub told : Labelled
-  pub labelling : told ≢ labelled.OutOfMemory → IsLabelling (size_of shape.tokens) bits start told used
-  pub ideal : OnLabels told (AreIdealLabels (size_of shape.tokens))
-  pub one_to : OnLabels told (λ labels cells. AreOneTo (size_of shape.tokens) labels)
+  pub labelling : IsLabelling bits (size_of shape.tokens) start told used
+  pub ideal : OnLabels told (λ labels cells. AreIdealLabels (size_of shape.tokens) labels cells)
+  pub straddles : StraddlesAt (size_of shape.tokens) told
   pub settles : SettlesLabels told shape used before answer now

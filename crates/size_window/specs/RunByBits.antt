@@ -6,7 +6,7 @@ use Rattle.object_store.specs.declared.token.Token.{Token}
 use Rattle.object_store.specs.Tokens.{size_of}
 use Rattle.choice_draw.specs.Draw.{Bit, bit_of}
 use Rattle.shape_sampler.specs.Visit.{Chooser, Attempt, Visited, visit, begun}
-use Rattle.labelling.specs.LabelsByBits.{Labelling, bits_in, labels_by_bits}
+use Rattle.labelling.specs.LabelsByBits.{Labelling, bits_in, labelling}
 
 -- The number that a draw left open: a node's, or a whole number below m for a label.
 pub data Open : Type 0 where
@@ -147,14 +147,14 @@ cut_short st ending finished place = record { state = ended st ending place; ent
 
 -- What a labelling means for the drawing: the shape is kept with its labels, or the drawing ends.
 abbrev pub labelled_with : State → Labelling → Turned
-labelled_with st (Labelling.All labels cells place) = record { state = kept_one (at_place st place); entry = Some (entry_of (at_place st place) labels cells); cells = cells }
+labelled_with st (Labelling.Given labels cells place) = record { state = kept_one (at_place st place); entry = Some (entry_of (at_place st place) labels cells); cells = cells }
 labelled_with st (Labelling.Straddled m cell finished place) = cut_short st (Ending.Undecided (Open.AtLabel m cell)) finished place
 labelled_with st (Labelling.Ended finished place) = cut_short st Ending.TapeEnded finished place
 labelled_with st (Labelling.Failed finished place) = cut_short st Ending.ReadFault finished place
 
 -- The waiting shape is labelled and kept.
 abbrev pub label_turn : (bit : ℕ → Bit) → State → Turned
-label_turn bit st = labelled_with st (labels_by_bits bit (size_of st.attempt.tokens) st.attempt.used)
+label_turn bit st = labelled_with st (labelling bit (size_of st.attempt.tokens) st.attempt.used)
 
 -- A turn that was counted.
 abbrev pub counted_turn : Sampling → (bit : ℕ → Bit) → State → Turned

@@ -3,10 +3,9 @@ ghost use Rattle.std.specs.Prelude.{◌≡◌, ◌≢◌, ℕ, ◌+◌, ◌-◌,
 ghost use Rattle.bz_model.specs.Fraction.{Fraction};
 ghost use Rattle.bz_model.specs.Oracle.{cost_between};
 ghost use Rattle.bit_tape.specs.Tape.{TapeSource, Belongs, bits_of, HasFault};
-ghost use Rattle.bz_model.specs.Labels.{AreOneTo};
 ghost use Rattle.class_system.specs.Views.{spec_mode};
 ghost use Rattle.choice_draw.specs.Decision.{level_for};
-ghost use Rattle.labelling.specs.Answer.{IsLabelling, AreIdealLabels, OnLabels};
+ghost use Rattle.labelling.specs.Answer.{OnLabels};
 ghost use Rattle.labelling.specs.LabelsByBits.{bits_in};
 ghost use Rattle.object_store.specs.Tokens.{size_of};
 ghost use Rattle.size_window.specs.RunByBits.{start};
