@@ -43,4 +43,11 @@ impl Labels {
     {
         self.content.as_slice()
     }
+
+    /// The list of these labels.
+    pub(crate) fn of(content: Vec<u64>) -> Labels
+        ensures same { result ≡ content.items }
+    {
+        Labels { content }
+    }
 }

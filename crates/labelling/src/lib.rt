@@ -5,5 +5,8 @@
 //! bits (`specs/LabelsByBits.antt`, `specs/Answer.antt`). No clause says that a number is ever decided.
 #![tactic(auto)]
 
+pub mod label;
 pub mod labelled;
 pub mod labels;
+mod progress;
+pub mod tree;
