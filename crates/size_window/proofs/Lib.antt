@@ -1,4 +1,3 @@
-pub mod Decided
 pub mod Visiting
 pub mod VisitCells
 pub mod Going

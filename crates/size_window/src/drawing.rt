@@ -15,11 +15,10 @@ ghost use Rattle.size_window.specs.LabelTurn.{IsLabelTurn, SettlesLabels};
 
 use crate::ending::{Ending, Straddle};
 use crate::limits::{Counts, Limits};
-use crate::made::Made;
+use crate::made::{Made, append, place_before};
 use crate::turned::{Entry, Outcome, Turned};
 use bit_tape::tape::Tape;
-use bz_model::cell::{Bounds, Cell};
-use bz_model::cells::Cells;
+use bz_model::cell::Bounds;
 use bz_model::oracle::Oracle;
 use bz_model::steps::Steps;
 use bz_outside::shelf::Shelf;
@@ -370,11 +369,17 @@ impl Drawing {
         self.go_on();
         match mode {
             Mode::Unlabelled => Turned::Kept(self.keep(made, None, used)),
-            Mode::Labelled => {
-                self.waiting = Some(made);
-                Turned::Going
-            }
+            Mode::Labelled => self.wait(made),
         }
+    }
+
+    /// Lets a made shape wait for its labels.
+    fn wait(&mut self, made: Made) -> Turned
+        ensures waits { self.new ≡ waiting_with self.old (shape_of made) }
+        ensures told { result ≡ Turned.Going }
+    {
+        self.waiting = Some(made);
+        Turned::Going
     }
 
     /// Keeps a made shape with these labels, so many tape bits being used.
@@ -400,39 +405,6 @@ impl Drawing {
             cells,
         }
     }
-}
-
-/// Appends cells where there is room for them.
-fn append(cells: &mut Cells, more: &[Cell])
-    requires { length more.now ≤ cells.old.spare }
-    ensures { cells.new.items ≡ cells.old.items ++ more.now }
-{
-    for cell in more {
-        put(cells, *cell);
-    }
-}
-
-/// Appends a cell where there is room for it.
-fn put(cells: &mut Cells, cell: Cell)
-    requires { 0 < cells.old.spare }
-    ensures items { cells.new.items ≡ cells.old.items ++ cell ∷ [] }
-    ensures spare { cells.old.spare ≤ cells.new.spare + 1 }
-{
-    match cells.push(cell) {
-        Ok(()) => {}
-        Err(_) => unreachable!(),
-    }
-}
-
-/// The place before the bits that cells spell, so many being used after them.
-fn place_before(used: u64, cells: &[Cell]) -> u64
-    ensures { result ≡ used - bits_in cells.now }
-{
-    let mut place = used;
-    for cell in cells {
-        place = place.saturating_sub(u64::from(cell.b));
-    }
-    place
 }
 
 /// What a visit's answer leaves to do. Of a cell that straddles it tells the bounds of level 6.

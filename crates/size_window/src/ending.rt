@@ -13,7 +13,10 @@ pub enum Straddle {
         hi: u64,
     },
     /// A whole number below `m`, for the label of an atom.
-    Label { m: u64, cell: Cell },
+    Label {
+        m: u64,
+        cell: Cell,
+    },
 }
 
 /// Why a drawing ended.

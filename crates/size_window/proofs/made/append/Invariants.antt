@@ -1,6 +1,6 @@
 -- The cells so far are appended, and there is room for the rest.
 use Rattle.std.proofs.Common.{◌≡◌, ◌+◌, ◌≤◌, ◌++◌, length, take}
-use Rattle.size_window.proofs.drawing.append.Given as goal
+use Rattle.size_window.proofs.made.append.Given as goal
 
 abbrev pub invariant-loop-cell : goal.invariant-loop-cell
 invariant-loop-cell l = record {
