@@ -14,7 +14,7 @@ pub record LabelsOn (tape : ℕ → Option Bool) (n start m : ℕ) (p : Progress
   pub same : (fault : Option ℕ) → FailsFrom place fault → labelling (bit_of tape fault) n start ≡ labels_from (bit_of tape fault) m p.remaining p.given p.cells place
 
 -- what a labelling does after a number is drawn
-after_number : (bit : ℕ → Bit) (k : ℕ) (p : ProgressState) (place : ℕ) → Draw ℕ → Labelling
+unfoldable pub after_number : (bit : ℕ → Bit) (k : ℕ) (p : ProgressState) (place : ℕ) → Draw ℕ → Labelling
 after_number bit k p place drawn = elim drawn as (λ _. Labelling) [
   | Draw.Decided i cell ↦ labels_from bit (suc k) (remove p.remaining i) (p.given ++ slice_index p.remaining i ∷ []) (p.cells ++ cell ∷ []) (place + cell.b)
   | Draw.Straddled cell ↦ Labelling.Straddled (suc (suc k)) cell p.cells (place + cell.b)
@@ -22,7 +22,7 @@ after_number bit k p place drawn = elim drawn as (λ _. Labelling) [
   | Draw.Failed end ↦ Labelling.Failed p.cells end
 ]
 
-unfolds : (bit : ℕ → Bit) (k : ℕ) (p : ProgressState) (place : ℕ) → labels_from bit (suc (suc k)) p.remaining p.given p.cells place ≡ after_number bit k p place (draw (whole_decision (suc (suc k))) bit place)
+pub unfolds : (bit : ℕ → Bit) (k : ℕ) (p : ProgressState) (place : ℕ) → labels_from bit (suc (suc k)) p.remaining p.given p.cells place ≡ after_number bit k p place (draw (whole_decision (suc (suc k))) bit place)
 unfolding after_number
 unfolds bit k p place = refl
 

@@ -6,3 +6,4 @@ pub mod LaterFaults
 pub mod LabelsOn
 pub mod Naming
 pub mod ToldLabels
+pub mod IdealByBits

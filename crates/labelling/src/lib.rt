@@ -9,4 +9,6 @@ pub mod label;
 pub mod labelled;
 pub mod labels;
 mod progress;
+#[cfg(test)]
+mod tests;
 pub mod tree;
