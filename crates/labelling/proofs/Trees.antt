@@ -15,7 +15,7 @@ pub nodes-some : (h : ℕ) → 0 < nodes_in h
 nodes-some h = let n = nodes-leaves h in let w : 0 < 2 ^ h = pow_pos h in omega arith
 
 -- the labels are as many as the tree counts
-length-adding : (h : ℕ) (counts : List ℕ) (first : ℕ) → AddsUp h counts → length (labels_of h counts first) ≡ count_of counts
+pub length-adding : (h : ℕ) (counts : List ℕ) (first : ℕ) → AddsUp h counts → length (labels_of h counts first) ≡ count_of counts
 length-adding zero counts first few = length-replicate (count_of counts) first
 length-adding (suc h) counts first sums =
     length-append (labels_of h (left_of h counts) first) (labels_of h (right_of h counts) (first + 2 ^ h))

@@ -1,5 +1,5 @@
 //! Trees of counts: which labels remain.
-ghost use Rattle.std.specs.Prelude.{◌≡◌, ℕ, ◌+◌, ◌^◌, ◌<◌, ◌≤◌, length, remove, slice_index, IfOk};
+ghost use Rattle.std.specs.Prelude.{◌≡◌, ℕ, ◌+◌, ◌^◌, ◌<◌, ◌≤◌, length, remove, slice_index, count_by, nat_lt, IfOk};
 ghost use Rattle.bz_model.specs.Labels.{numbers_from};
 ghost use Rattle.labelling.specs.Tree.{nodes_in, count_of, labels_of, IsCountTree};
 
@@ -50,6 +50,7 @@ impl LabelTree {
     pub fn take(&mut self, i: u64) -> u64
         requires in_range { i < length self.old }
         ensures label { result ≡ slice_index self.old i }
+        ensures below { count_by (λ label. nat_lt label result) self.old ≡ i }
         ensures removed { self.new ≡ remove self.old i }
     {
         1 + take_from(self.counts.as_mut_slice(), self.height, i)
