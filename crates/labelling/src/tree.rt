@@ -62,6 +62,7 @@ fn height_for(n: u64) -> u32
     requires { n ≤ 1000000 }
     ensures few { result ≤ 20 }
     ensures enough { n ≤ 2 ^ result }
+    ensures least { (height : ℕ) → n ≤ 2 ^ height → result ≤ height }
 {
     let mut height = 0;
     'heights: while leaves_in(height) < n {
