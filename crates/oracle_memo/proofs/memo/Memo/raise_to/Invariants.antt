@@ -1,6 +1,6 @@
 use Rattle.std.proofs.Common.{◌≡◌, ◌+◌, ◌≤◌, max}
 use Rattle.oracle_memo.specs.Levels.{cost_at}
-use Rattle.oracle_memo.proofs.memo.MemoOracle.raise.Given as goal
+use Rattle.oracle_memo.proofs.memo.Memo.raise_to.Given as goal
 
 -- so many levels are raised, nothing else is changed, and the ticks are those that raising costs
 abbrev pub invariant-loop-level : goal.invariant-loop-level
