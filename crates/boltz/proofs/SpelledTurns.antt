@@ -1,18 +1,18 @@
 -- The cells of a course spell the bits of the tape: turn after turn.
-use Rattle.std.proofs.Common.{◌≡◌, ◌≢◌, ℕ, zero, suc, ◌+◌, ◌≤◌, arith, Bool, true, false, cond, List, [], ◌∷◌, ◌++◌, length, append-nil, length-append, refl, sym, ◌∙◌, ap, subst}
-use Rattle.std.specs.Prelude.{Option, Some, None, nat_eq, nat_lt, option_to_list}
+use Rattle.std.proofs.Common.{◌≡◌, ℕ, zero, suc, ◌+◌, ◌≤◌, arith, Bool, true, false, cond, List, [], ◌∷◌, ◌++◌, length, append-nil, length-append, refl, sym, ◌∙◌, ap, subst}
+use Rattle.std.specs.Prelude.{Option, Some, None, nat_eq, nat_lt}
 use Rattle.std.proofs.lemmas.List.{append_assoc}
 use Rattle.bz_model.specs.declared.cell.Cell.{Cell}
 use Rattle.bz_model.specs.Spec.{Mode, node_at}
 use Rattle.bz_model.specs.Cell.{bits_of, spelled}
 use Rattle.object_store.specs.Tokens.{size_of}
-use Rattle.choice_draw.specs.Draw.{Bit, bit_of}
-use Rattle.shape_sampler.specs.Visit.{Chooser, Attempt, Visited, visit, visit_among, node_visited, begun}
-use Rattle.size_window.specs.RunByBits.{Sampling, State, Turned, Course, Ending, quiet, with_attempt, added, thrown_away, kept_or_waits, shape_made, went, visited, shape_turn, counted_turn, open_turn, label_turn, turn_unless, fault_place, followed_by, after, ended}
+use Rattle.choice_draw.specs.Draw.{bit_of}
+use Rattle.shape_sampler.specs.Visit.{Attempt, Visited, visit, visit_among}
+use Rattle.size_window.specs.RunByBits.{Sampling, State, Turned, Course, Ending, quiet, with_attempt, added, thrown_away, kept_or_waits, went, visited, shape_turn, counted_turn, open_turn, label_turn, turn_unless, fault_place, followed_by, after, ended}
 use Rattle.size_window.proofs.VisitCells.{added-after}
 use Rattle.boltz.specs.Spelling.{HasBits, Spells}
 use Rattle.boltz.proofs.Courses.{quiet-on}
-use Rattle.boltz.proofs.Spelling.{has-both, spelled-both, bits-length, Reaches, Adds, VisitSpells, node-spells}
+use Rattle.boltz.proofs.Spelling.{has-both, spelled-both, bits-length, Adds, VisitSpells, node-spells}
 
 -- A course that goes on, or has ended, spells the bits; while it goes on no number is open, and no labels are awaited.
 record Keeps (c : Course) (tape : ℕ → Option Bool) : Type 0 where

@@ -43,8 +43,8 @@ pub fn run<S: Shelf, K: Sink, L: Ledger>(
         → ¬ (Rose (K.faults out.old) (K.faults out.new)) → (result ≡ Status.Done) ⊎ (result ≡ Status.OutOfMemory) }
     ensures no_base { (s : Spec) (num den : ℕ) → IsBaseless (record { words = words.now; content = S.content shelf.old; before = S.faults shelf.old; after = S.faults shelf.new }) s num den
         → ¬ (Rose (K.faults out.old) (K.faults out.new)) → (result ≡ Status.NoUpper) ⊎ (result ≡ Status.OutOfMemory) }
-    ensures draws { (s : Spec) (num den turns : ℕ) (bytes : List ℕ) (ending : Ending)
-        → IsDrawable (record { words = words.now; content = S.content shelf.old; before = S.faults shelf.old; after = S.faults shelf.new }) s num den bytes turns ending
+    ensures draws { (s : Spec) (num den turns : ℕ) (base bytes : List ℕ) (ending : Ending)
+        → IsDrawable (record { words = words.now; content = S.content shelf.old; before = S.faults shelf.old; after = S.faults shelf.new }) s num den base bytes turns ending
         → ¬ (Rose (K.faults out.old) (K.faults out.new)) → (result ≡ ending_status ending) ⊎ (result ≡ Status.OutOfMemory) }
     ensures content { S.content shelf.new ≡ S.content shelf.old }
     ensures counts { (name : List ℕ) → S.faults shelf.old name ≤ S.faults shelf.new name }

@@ -1,4 +1,4 @@
-use Rattle.std.proofs.Common.{◌≡◌, ◌++◌, subst, []}
+use Rattle.std.proofs.Common.{◌≡◌, subst, []}
 use Rattle.bz_model.specs.ObjectText.{object_text}
 use Rattle.object_store.specs.Tokens.{IsOf}
 use Rattle.boltz.proofs.drawn.write_entry.Goals as goal

@@ -1,7 +1,6 @@
 use Rattle.std.proofs.Common.{◌≡◌, ◌++◌}
-use Rattle.boltz.specs.Bounded.{class_base}
-use Rattle.boltz.specs.Lines.{lines_below}
-use Rattle.boltz.proofs.bounded.append_base.Given as goal
+use Rattle.boltz.specs.Lines.{class_base, lines_below}
+use Rattle.boltz.proofs.lines.append_base.Given as goal
 
 -- the lines of the classes so far are appended
 abbrev pub invariant-loop-class : goal.invariant-loop-class

@@ -25,7 +25,7 @@ returns-in-Ok-put_all-clause-no_base g c = λ s num den p no_fault. inl (baseles
 
 -- what can be drawn has no other answer
 pub returns-in-Ok-put_all-clause-draws : goal.returns-in-Ok-put_all-clause-draws
-returns-in-Ok-put_all-clause-draws g c = λ s num den turns bytes ending p no_fault. inl (drawn _ s num den turns bytes ending c.in-Ok.report.status c.in-Ok.report.text.items p c.in-Ok.ensures.answer).0
+returns-in-Ok-put_all-clause-draws g c = λ s num den turns base bytes ending p no_fault. inl (drawn _ s num den turns base bytes ending c.in-Ok.report.status c.in-Ok.report.text.items p c.in-Ok.ensures.answer).0
 
 -- the whole text is written
 pub returns-in-Ok-put_all-clause-ends : goal.returns-in-Ok-put_all-clause-ends
