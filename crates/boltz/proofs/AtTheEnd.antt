@@ -1,18 +1,18 @@
 -- What a drawing that has come to its end reports.
-use Rattle.std.proofs.Common.{◌≡◌, ℕ, Bool, List, [], ◌∷◌, ◌++◌, refl, sym, ◌∙◌, ap, subst}
+use Rattle.std.proofs.Common.{◌≡◌, ℕ, Bool, List, [], ◌++◌, refl, sym, ◌∙◌, ap, subst}
 use Rattle.std.specs.Prelude.{Option, Some, None, IfSome, option_map}
 use Rattle.bz_model.specs.declared.cell.Bounds.{Bounds}
 use Rattle.bz_model.specs.Fraction.{Fraction, ratio}
-use Rattle.bz_model.specs.Spec.{Spec, Mode}
+use Rattle.bz_model.specs.Spec.{Spec}
 use Rattle.bit_tape.specs.Tape.{TapeSource, TapeState, Belongs, bits_of}
 use Rattle.class_system.specs.Sound.{IsSound}
-use Rattle.shape_sampler.specs.State.{SessionState}
 use Rattle.boltz.specs.Spelling.{Spells}
 use Rattle.boltz.proofs.SpelledTurns.{spells_bits}
 use Rattle.size_window.specs.declared.ending.Ending.{Ending as Told}
 use Rattle.size_window.specs.declared.ending.Ending.TheVariants as told
 use Rattle.size_window.specs.RunByBits.{Limits, State, Course, Ending, start, at_start}
-use Rattle.size_window.specs.Drawing.{DrawingState, DrawingBelongs, state_of, running, ending_of}
+use Rattle.size_window.specs.Drawing.{DrawingState, DrawingBelongs, state_of, ending_of}
+use Rattle.size_window.proofs.Turning.{attempt-used}
 use Rattle.size_window.proofs.Going.{goes-start}
 use Rattle.boltz.specs.Drawn.{TapeMet, sampling, IsCourseOver, IsReported, IsDrawn, IsDrawnText, drawn_header, open_lines, ending_word, ending_status}
 use Rattle.boltz.specs.Drawn as drawn
@@ -50,11 +50,6 @@ starts-so-far s x F table limits source contents before now d used lines none at
     over None = tt
     over (Some bits) = record { turns = 0; faults = λ n. None; caused = λ n given e. absurd (cc); same = refl }
 
--- the bits used are those of the state
-used-is : (st : SessionState) (pending : List ℕ) (used : ℕ) → (running st pending used).used ≡ used
-used-is st [] used = refl
-used-is st (e ∷ es) used = refl
-
 -- the ending that is told
 done-told : (e : Told) → ending_of e ≡ Ending.Done → e ≡ told.Done
 done-told told.Done is = refl
@@ -78,19 +73,19 @@ fault-told told.TurnLimit is = absurd (cc)
 fault-told told.ReadFault is = refl
 
 -- the cells of a course over told bits spell them
-spells-over : (s : Spec) (F : ℕ) (table : (level node : ℕ) → Bounds) (limits : Limits) (t : TapeMet) (c : Course) → s.mode ≡ Mode.Unlabelled → (bits : Option (ℕ → Option Bool)) → IfSome bits (IsCourseOver s F table limits t c) → IfSome bits (Spells c)
-spells-over s F table limits t c unlabelled None over = tt
-spells-over s F table limits t c unlabelled (Some bits) over = subst (λ d. Spells d bits) (sym over.same) (spells_bits (sampling s F table limits bits) unlabelled over.faults over.turns)
+spells-over : (s : Spec) (F : ℕ) (table : (level node : ℕ) → Bounds) (limits : Limits) (t : TapeMet) (c : Course) (bits : Option (ℕ → Option Bool)) → IfSome bits (IsCourseOver s F table limits t c) → IfSome bits (Spells c)
+spells-over s F table limits t c None over = tt
+spells-over s F table limits t c (Some bits) over = subst (λ d. Spells d bits) (sym over.same) (spells_bits (sampling s F table limits bits) over.faults over.turns)
 
-pub reported-of : (a : Setting) → a.spec.mode ≡ Mode.Unlabelled → (base : List ℕ) (limits : Limits) (t : TapeMet) (d : DrawingState) (used : ℕ) (lines : List ℕ) (e : Told) → IsAtEnd a.spec (ratio a.num a.den) a.bits (level_bounds a base) limits t d used lines e → (status : Status) (text : List ℕ) → status ≡ ending_status (ending_of e) → text ≡ drawn_header a base limits ++ (lines ++ (told_open e ++ end_line (ending_word (ending_of e)) d.kept d.thrown used d.turns)) → IsReported a base limits t status text
-reported-of a unlabelled base limits t d used lines e h status text answered is =
+pub reported-of : (a : Setting) (base : List ℕ) (limits : Limits) (t : TapeMet) (d : DrawingState) (used : ℕ) (lines : List ℕ) (e : Told) → IsAtEnd a.spec (ratio a.num a.den) a.bits (level_bounds a base) limits t d used lines e → (status : Status) (text : List ℕ) → status ≡ ending_status (ending_of e) → text ≡ drawn_header a base limits ++ (lines ++ (told_open e ++ end_line (ending_word (ending_of e)) d.kept d.thrown used d.turns)) → IsReported a base limits t status text
+reported-of a base limits t d used lines e h status text answered is =
     let at = h.so_far.state in
     let c = h.so_far.course in
     let table = level_bounds a base in
     let kept : c.state.kept ≡ d.kept = ap (λ (st : State). st.kept) at in
     let thrown : c.state.thrown ≡ d.thrown = ap (λ (st : State). st.thrown) at in
     let turns : c.state.turns ≡ d.turns = ap (λ (st : State). st.turns) at in
-    let bits : c.state.attempt.used ≡ used = ap (λ (st : State). st.attempt.used) at ∙ used-is d.session d.session.pending used in
+    let bits : c.state.attempt.used ≡ used = ap (λ (st : State). st.attempt.used) at ∙ attempt-used d.waiting d.session used in
     record {
       course = c;
       ending = ending_of e;
@@ -98,7 +93,7 @@ reported-of a unlabelled base limits t d used lines e h status text answered is 
         ended = ap (λ (st : State). st.ending) at ∙ ap (option_map ending_of) h.ended;
         follows = h.so_far.goes.follows;
         by_bits = h.so_far.by_bits;
-        spells = spells-over a.spec a.bits table limits t c unlabelled (bits_of t.source t.contents) h.so_far.by_bits;
+        spells = spells-over a.spec a.bits table limits t c (bits_of t.source t.contents) h.so_far.by_bits;
         kept = λ is. kept ∙ h.kept (done-told e is);
         out_of_turns = λ is. turns ∙ h.out_of_turns (limit-told e is);
         failed = λ is. h.failed (fault-told e is);

@@ -1,7 +1,7 @@
 -- A specification that is accepted and well founded is printed, or drawn from, and no other one is.
 use Rattle.std.proofs.Common.{arith, ◌⊎◌, inl, inr, ◌≡◌, ℕ, zero, suc, ◌≤◌, List, [], ◌∷◌, refl, sym, subst, ap, ◌∙◌}
 use Rattle.std.specs.Prelude.{Bool, length, take, Option, Some, None, IfSome, option_map}
-use Rattle.bz_model.specs.Spec.{Spec, Mode}
+use Rattle.bz_model.specs.Spec.{Spec}
 use Rattle.bz_outside.specs.Outside.{Rose, Appends}
 use Rattle.bit_tape.specs.Bits.{file_bit}
 use Rattle.spec_reader.specs.Reading.{Grammar, Refuses}
@@ -21,12 +21,12 @@ use Rattle.boltz.specs.Bounded as bounds
 use Rattle.newton_upper.specs.BaseRule.{base_of, HasNoUpper}
 use Rattle.newton_upper.specs.declared.trials.Trial.{Trial}
 use Rattle.rounded_map.specs.RoundedMap.{Setting, setting}
-use Rattle.boltz.specs.Complete.{IsGiven, IsFit, IsPrintable, IsUnfit, IsBeyond, undisturbed, IsDrawable, IsBoundable, IsBaseless}
+use Rattle.boltz.specs.Complete.{IsGiven, IsFit, IsPrintable, IsUnfit, undisturbed, IsDrawable, IsBoundable, IsBaseless}
 use Rattle.boltz.specs.Complete as complete-of
-use Rattle.boltz.specs.Drawn.{TapeMet, HasFailed, IsNotYet, sampling, IsCourseOver, IsDrawnText, IsReported, Sampled, ending_status}
+use Rattle.boltz.specs.Drawn.{TapeMet, HasFailed, sampling, IsCourseOver, IsDrawnText, IsReported, Sampled, ending_status}
 use Rattle.boltz.specs.Drawn as drawing
 use Rattle.bit_tape.specs.Tape.{TapeSource}
-use Rattle.boltz.specs.Refusals.{not_yet_line, no_upper_text}
+use Rattle.boltz.specs.Refusals.{no_upper_text}
 use Rattle.boltz.specs.Words.{Command, Names}
 use Rattle.boltz.specs.declared.status.Status.{Status}
 use Rattle.boltz.specs.declared.status.Status.TheVariants as variants
@@ -116,26 +116,14 @@ baseless-only t status text has (bounds.no_base trials lacks e f) = (e, (trials,
 pub bounded : (w : World) (s : Spec) (num den : ℕ) (base : List ℕ) (status : Status) (text : List ℕ) → IsBoundable w s num den base → Answers w status text → (status ≡ Status.Done) × (text ≡ bounded_text (setting s num den 48) base)
 bounded w s num den base status text p h = based-only (setting s num den 48) base status text p.has_base (outcome w (Command.Oracle p.file num den) s p.fit status text h)
 
--- a drawing without a base tells the proposals, and a labelled one is left
-clash : (s : Spec) → s.mode ≡ Mode.Unlabelled → ¬ (IsNotYet s)
-clash s mode not_yet = absurd (cc)
-
-baseless-drawn : (t : Setting) (limits : Limits) (tape : TapeMet) (status : Status) (text : List ℕ) → t.spec.mode ≡ Mode.Unlabelled → base_of t ≡ None → Sampled t limits tape status text → (status ≡ Status.NoUpper) × ((trials : List Trial) × HasNoUpper t trials × (text ≡ no_upper_text t.spec t.bits trials))
-baseless-drawn t limits tape status text mode none (drawing.not_yet not_yet e f) = absurd (clash t.spec mode not_yet)
-baseless-drawn t limits tape status text mode none (drawing.drawn base same has r) = absurd (cc)
-baseless-drawn t limits tape status text mode none (drawing.no_base trials same lacks e f) = (e, (trials, lacks, f))
+-- a drawing without a base tells the proposals
+baseless-drawn : (t : Setting) (limits : Limits) (tape : TapeMet) (status : Status) (text : List ℕ) → base_of t ≡ None → Sampled t limits tape status text → (status ≡ Status.NoUpper) × ((trials : List Trial) × HasNoUpper t trials × (text ≡ no_upper_text t.spec t.bits trials))
+baseless-drawn t limits tape status text none (drawing.drawn base has r) = absurd (cc)
+baseless-drawn t limits tape status text none (drawing.no_base trials lacks e f) = (e, (trials, lacks, f))
 
 pub baseless : (w : World) (s : Spec) (num den : ℕ) (status : Status) (text : List ℕ) → IsBaseless w s num den → Answers w status text → (status ≡ Status.NoUpper) × ((trials : List Trial) × HasNoUpper (setting s num den 48) trials × (text ≡ no_upper_text s 48 trials))
 baseless w s num den status text (complete-of.to_bound file fit none) h = baseless-only (setting s num den 48) status text none (outcome w (Command.Oracle file num den) s fit status text h)
-baseless w s num den status text (complete-of.to_draw file tape fit mode none) h = baseless-drawn (setting s num den 48) usual (tape_of w (TapeSource.Named tape)) status text mode none (outcome w (Command.Sample file num den tape) s fit status text h)
-
-left-only : (t : Setting) (limits : Limits) (tape : TapeMet) (status : Status) (text : List ℕ) → IsNotYet t.spec → Sampled t limits tape status text → (status ≡ Status.SpecRefused) × (text ≡ not_yet_line)
-left-only t limits tape status text h (drawing.not_yet not_yet e f) = (e, f)
-left-only t limits tape status text h (drawing.drawn base mode has reported) = absurd (clash t.spec mode h)
-left-only t limits tape status text h (drawing.no_base trials mode lacks e f) = absurd (clash t.spec mode h)
-
-pub left : (w : World) (status : Status) (text : List ℕ) → IsBeyond w → Answers w status text → (status ≡ Status.SpecRefused) × (text ≡ not_yet_line)
-left w status text p h = left-only (setting p.s p.num p.den 48) usual (tape_of w (TapeSource.Named p.tape)) status text p.not_yet (outcome w (Command.Sample p.file p.num p.den p.tape) p.s p.fit status text h)
+baseless w s num den status text (complete-of.to_draw file tape fit none) h = baseless-drawn (setting s num den 48) usual (tape_of w (TapeSource.Named tape)) status text none (outcome w (Command.Sample file num den tape) s fit status text h)
 
 -- a failing turn would be a read of the tape that failed
 none-fails : (fault : Option ℕ) → ((given : ℕ) → fault ≡ Some given → ⊥) → fault ≡ None
@@ -168,14 +156,13 @@ reported-only a base limits turns tape bytes w ending status text no_fault is_to
     let end : r.ending ≡ ending = ending-of r.course (undisturbed a base limits bytes turns) r.ending ending same r.drawn.ended ends in
     (r.answer ∙ ap ending_status end, subst (λ e. IsDrawnText a base limits (undisturbed a base limits bytes turns) e text) end (subst (λ k. IsDrawnText a base limits k r.ending text) same r.told))
 
-drawn-only : (a : Setting) (base : List ℕ) (limits : Limits) (turns : ℕ) (tape bytes : List ℕ) (w : World) (ending : Ending) (status : Status) (text : List ℕ) → a.spec.mode ≡ Mode.Unlabelled → base_of a ≡ Some base → ¬ (HasFailed (tape_of w (TapeSource.Named tape))) → w.content tape ≡ Some bytes → (undisturbed a base limits bytes turns).state.ending ≡ Some ending → Sampled a limits (tape_of w (TapeSource.Named tape)) status text → (status ≡ ending_status ending) × IsDrawnText a base limits (undisturbed a base limits bytes turns) ending text
-drawn-only a base limits turns tape bytes w ending status text mode has no_fault is_told ends (drawing.not_yet not_yet e f) = absurd (clash a.spec mode not_yet)
-drawn-only a base limits turns tape bytes w ending status text mode has no_fault is_told ends (drawing.no_base trials same lacks e f) = let none = lacks.no_base in absurd (cc)
-drawn-only a base limits turns tape bytes w ending status text mode has no_fault is_told ends (drawing.drawn other same had r) =
+drawn-only : (a : Setting) (base : List ℕ) (limits : Limits) (turns : ℕ) (tape bytes : List ℕ) (w : World) (ending : Ending) (status : Status) (text : List ℕ) → base_of a ≡ Some base → ¬ (HasFailed (tape_of w (TapeSource.Named tape))) → w.content tape ≡ Some bytes → (undisturbed a base limits bytes turns).state.ending ≡ Some ending → Sampled a limits (tape_of w (TapeSource.Named tape)) status text → (status ≡ ending_status ending) × IsDrawnText a base limits (undisturbed a base limits bytes turns) ending text
+drawn-only a base limits turns tape bytes w ending status text has no_fault is_told ends (drawing.no_base trials lacks e f) = let none = lacks.no_base in absurd (cc)
+drawn-only a base limits turns tape bytes w ending status text has no_fault is_told ends (drawing.drawn other had r) =
     reported-only a base limits turns tape bytes w ending status text no_fault is_told ends (subst (λ b. IsReported a b limits (tape_of w (TapeSource.Named tape)) status text) (same-base (base_of a) base other has had) r)
 
 pub drawn : (w : World) (s : Spec) (num den turns : ℕ) (base bytes : List ℕ) (ending : Ending) (status : Status) (text : List ℕ) → IsDrawable w s num den base bytes turns ending → Answers w status text → (status ≡ ending_status ending) × IsDrawnText (setting s num den 48) base usual (undisturbed (setting s num den 48) base usual bytes turns) ending text
-drawn w s num den turns base bytes ending status text p h = drawn-only (setting s num den 48) base usual turns p.tape bytes w ending status text p.unlabelled p.has_base p.no_fault p.tape_told p.ends (outcome w (Command.Sample p.file num den p.tape) s p.fit status text h)
+drawn w s num den turns base bytes ending status text p h = drawn-only (setting s num den 48) base usual turns p.tape bytes w ending status text p.has_base p.no_fault p.tape_told p.ends (outcome w (Command.Sample p.file num den p.tape) s p.fit status text h)
 
 -- an answer with a text is none of want of memory and none of a failed write
 abbrev IsTold : Status → Type 0
@@ -191,9 +178,8 @@ ending-told Ending.TurnLimit = tt
 ending-told Ending.ReadFault = tt
 
 sampled-told : (a : Setting) (limits : Limits) (t : TapeMet) (status : Status) (text : List ℕ) → Sampled a limits t status text → IsTold status
-sampled-told a limits t status text (drawing.not_yet not_yet e f) = subst IsTold (sym e) tt
-sampled-told a limits t status text (drawing.drawn base mode has r) = subst IsTold (sym r.answer) (ending-told r.ending)
-sampled-told a limits t status text (drawing.no_base trials mode lacks e f) = subst IsTold (sym e) tt
+sampled-told a limits t status text (drawing.drawn base has r) = subst IsTold (sym r.answer) (ending-told r.ending)
+sampled-told a limits t status text (drawing.no_base trials lacks e f) = subst IsTold (sym e) tt
 
 bounded-told : (t : Setting) (status : Status) (text : List ℕ) → Bounded t status text → IsTold status
 bounded-told t status text (bounds.based b is e f) = subst IsTold (sym e) tt
@@ -239,9 +225,6 @@ complete w o status h s p no_fault = unless-wanting w o status Status.Done h (λ
 
 pub refuses : (w : World) (o : Output) (status : Status) → Ends w o status → IsUnfit w → ¬ (Rose o.faults_before o.faults_after) → (status ≡ Status.SpecRefused) ⊎ (status ≡ Status.OutOfMemory)
 refuses w o status h p no_fault = unless-wanting w o status Status.SpecRefused h (λ text a. refused w status text p a) no_fault
-
-pub leaves : (w : World) (o : Output) (status : Status) → Ends w o status → IsBeyond w → ¬ (Rose o.faults_before o.faults_after) → (status ≡ Status.SpecRefused) ⊎ (status ≡ Status.OutOfMemory)
-leaves w o status h p no_fault = unless-wanting w o status Status.SpecRefused h (λ text a. (left w status text p a).0) no_fault
 
 pub draws : (w : World) (o : Output) (status : Status) → Ends w o status → (s : Spec) (num den turns : ℕ) (base bytes : List ℕ) (ending : Ending) → IsDrawable w s num den base bytes turns ending → ¬ (Rose o.faults_before o.faults_after) → (status ≡ ending_status ending) ⊎ (status ≡ Status.OutOfMemory)
 draws w o status h s num den turns base bytes ending p no_fault = unless-wanting w o status (ending_status ending) h (λ text a. (drawn w s num den turns base bytes ending status text p a).0) no_fault

@@ -153,6 +153,7 @@ open-told : (table : (level node : ℕ) → Bounds) (e : Told) → TellsOpen tab
 open-told table told.Done h = refl
 open-told table told.TapeEnded h = refl
 open-told table (told.Undecided (straddle.Node node cell lo hi)) h = ap (λ b. open_line node.0 cell b) (same-bounds (table 6 node.0) lo hi h.lower h.upper)
+open-told table (told.Undecided (straddle.Label m cell)) h = refl
 open-told table told.TurnLimit h = refl
 open-told table told.ReadFault h = refl
 

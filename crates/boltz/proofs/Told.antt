@@ -81,9 +81,8 @@ reported-since a base limits t earlier status text h r = record {
 }
 
 sampled-since : (a : Setting) (limits : Limits) (t : TapeMet) (earlier : List ℕ → ℕ) (status : Status) (text : List ℕ) → ((name : List ℕ) → earlier name ≤ t.before name) → Sampled a limits t status text → Sampled a limits (since t earlier) status text
-sampled-since a limits t earlier status text h (drawn.not_yet not_yet e f) = drawn.not_yet not_yet e f
-sampled-since a limits t earlier status text h (drawn.drawn base mode has r) = drawn.drawn base mode has (reported-since a base limits t earlier status text h r)
-sampled-since a limits t earlier status text h (drawn.no_base trials mode lacks e f) = drawn.no_base trials mode lacks e f
+sampled-since a limits t earlier status text h (drawn.drawn base has r) = drawn.drawn base has (reported-since a base limits t earlier status text h r)
+sampled-since a limits t earlier status text h (drawn.no_base trials lacks e f) = drawn.no_base trials lacks e f
 
 pub told_sampled : (w : World) (content : List ℕ → Option (List ℕ)) (before after : List ℕ → ℕ) (file tape read : List ℕ) (num den : ℕ) (s : Spec) (status : Status) (text : List ℕ) → IsMet w content before after → IsAsked w (Command.Sample file num den tape) read → IsAccepted read s → IsWellFounded s → Sampled (setting s num den 48) usual (met (TapeSource.Named tape) content before after) status text → Answers w status text
 told_sampled w content before after file tape read num den s status text m asked accepted founded done =

@@ -69,7 +69,7 @@ pub data Answers (w : World) : Status → List ℕ → Type 0 where
   printed : {text : List ℕ} → (file read : List ℕ) (s : Spec) → IsAsked w (Command.Spec file) read → IsAccepted read s → IsWellFounded s → text ≡ spec_text s → Answers w Status.Done text
   -- the classes are bounded, or no base is found
   bounded : {status : Status} {text : List ℕ} → (file read : List ℕ) (num den : ℕ) (s : Spec) → IsAsked w (Command.Oracle file num den) read → IsAccepted read s → IsWellFounded s → Bounded (setting s num den 48) status text → Answers w status text
-  -- objects are drawn, or no base is found, or nothing is drawn yet from such a specification
+  -- objects are drawn, or no base is found
   sampled : {status : Status} {text : List ℕ} → (file tape read : List ℕ) (num den : ℕ) (s : Spec) → IsAsked w (Command.Sample file num den tape) read → IsAccepted read s → IsWellFounded s → Sampled (setting s num den 48) usual (tape_of w (TapeSource.Named tape)) status text → Answers w status text
 
 -- What the sink tells before a call and after it, with its counts of failed writes.

@@ -1,7 +1,7 @@
 -- Drawings: what they are functions of, why they end, and what they write.
 use Rattle.std.specs.Prelude.{◌≡◌, ℕ, Bool, List, [], ◌∷◌, ◌++◌, Option, Some, IfSome, codes}
 use Rattle.bz_model.specs.Fraction.{Fraction, ratio}
-use Rattle.bz_model.specs.Spec.{Spec, Mode}
+use Rattle.bz_model.specs.Spec.{Spec}
 use Rattle.bz_model.specs.ObjectText.{object_text}
 use Rattle.bz_model.specs.declared.cell.Bounds.{Bounds}
 use Rattle.bit_tape.specs.Tape.{TapeSource, bits_of, HasFault}
@@ -15,13 +15,9 @@ use Rattle.newton_upper.specs.BaseRule.{base_of, HasNoUpper}
 use Rattle.newton_upper.specs.declared.trials.Trial.{Trial}
 use Rattle.oracle_memo.specs.Levels.{level_bounds}
 use Rattle.rounded_map.specs.RoundedMap.{Setting}
-use Rattle.boltz.specs.Lines.{certified_header, window_line, base_lines, entry_lines, open_line, end_line}
-use Rattle.boltz.specs.Refusals.{not_yet_line, no_upper_text}
+use Rattle.boltz.specs.Lines.{certified_header, window_line, base_lines, entry_lines, open_line, open_label_line, end_line}
+use Rattle.boltz.specs.Refusals.{no_upper_text}
 use Rattle.boltz.specs.declared.status.Status.{Status}
-
--- Nothing is drawn yet from a labelled specification.
-abbrev pub IsNotYet : Spec → Type 0
-IsNotYet s = s.mode ≡ Mode.Labelled
 
 -- A drawing is a function of the specification, a table of bounds of its nodes in units of 2^-F, the limits, and the bits of the tape.
 abbrev pub sampling : Spec → (F : ℕ) → (table : (level node : ℕ) → Bounds) → Limits → (bits : ℕ → Option Bool) → Sampling
@@ -81,9 +77,10 @@ ending_status (Ending.Undecided left_open) = Status.Undecided
 ending_status Ending.TurnLimit = Status.TurnLimit
 ending_status Ending.ReadFault = Status.ReadFault
 
--- The line of a number that was left open at a node, with the node's bounds at level 6. Other endings have none.
+-- The line of a number that was left open: at a node, with the node's bounds at level 6, or for a label. Other endings have none.
 abbrev pub open_lines : (table : (level node : ℕ) → Bounds) → Ending → List ℕ
 open_lines table (Ending.Undecided (Open.AtNode node cell)) = open_line node cell (table 6 node)
+open_lines table (Ending.Undecided (Open.AtLabel m cell)) = open_label_line m cell
 open_lines table ending = []
 
 -- The lines before the first object: the header, the window of sizes, and the base.
@@ -104,8 +101,7 @@ pub record IsReported (t : Setting) (base : List ℕ) (limits : Limits) (tape : 
   pub told : IsDrawnText t base limits course ending text
   pub answer : status ≡ ending_status ending
 
--- What becomes of a command that draws from a well-founded specification within the limits: labelled objects aren't drawn yet; else a drawing over the levels of the base is reported and, where there is no base, the proposals are told.
+-- What becomes of a command that draws from a well-founded specification within the limits: where there is a base, a drawing over its levels is reported, and where there is none, the proposals are told.
 pub data Sampled (t : Setting) (limits : Limits) (tape : TapeMet) (status : Status) (text : List ℕ) : Type 0 where
-  not_yet : IsNotYet t.spec → status ≡ Status.SpecRefused → text ≡ not_yet_line → Sampled t limits tape status text
-  drawn : (base : List ℕ) → t.spec.mode ≡ Mode.Unlabelled → base_of t ≡ Some base → IsReported t base limits tape status text → Sampled t limits tape status text
-  no_base : (trials : List Trial) → t.spec.mode ≡ Mode.Unlabelled → HasNoUpper t trials → status ≡ Status.NoUpper → text ≡ no_upper_text t.spec t.bits trials → Sampled t limits tape status text
+  drawn : (base : List ℕ) → base_of t ≡ Some base → IsReported t base limits tape status text → Sampled t limits tape status text
+  no_base : (trials : List Trial) → HasNoUpper t trials → status ≡ Status.NoUpper → text ≡ no_upper_text t.spec t.bits trials → Sampled t limits tape status text

@@ -31,6 +31,10 @@ entry_lines number place size text cells = object_line number place size ++ (cod
 abbrev pub open_line : (node : ℕ) → Cell → Bounds → List ℕ
 open_line node cell bounds = codes "undecided node " ++ (decimal node ++ (codes " cell " ++ (decimal cell.k ++ (codes "/" ++ (decimal cell.b ++ (codes " within " ++ (decimal bounds.lo ++ (codes " " ++ (decimal bounds.hi ++ feed)))))))))
 
+-- The line of a whole number below m that 60 bits leave open, for a label.
+abbrev pub open_label_line : (m : ℕ) → Cell → List ℕ
+open_label_line m cell = codes "undecided label " ++ (decimal m ++ (codes " cell " ++ (decimal cell.k ++ (codes "/" ++ (decimal cell.b ++ feed)))))
+
 -- The last line of a drawing: why it ended, how many objects were kept and attempts thrown away, the bits used and the turns made.
 abbrev pub end_line : (word : List ℕ) → (kept thrown bits turns : ℕ) → List ℕ
 end_line word kept thrown bits turns = codes "end " ++ (word ++ (codes " kept " ++ (decimal kept ++ (codes " thrown " ++ (decimal thrown ++ (codes " bits " ++ (decimal bits ++ (codes " turns " ++ (decimal turns ++ feed)))))))))

@@ -12,7 +12,7 @@ use Rattle.size_window.specs.RunByBits.{Limits, Course}
 use Rattle.size_window.specs.Drawing.{DrawingState, DrawingBelongs, state_of, ending_of}
 use Rattle.size_window.specs.Follows.{Goes}
 use Rattle.boltz.specs.Drawn.{TapeMet, HasFailed, IsCourseOver, Lists, open_lines}
-use Rattle.boltz.specs.Lines.{open_line}
+use Rattle.boltz.specs.Lines.{open_line, open_label_line}
 
 -- A tape over a shelf, in a call in which its counts stood so when it began.
 abbrev pub met : (source : TapeSource) (contents : List ℕ → Option (List ℕ)) (before now : List ℕ → ℕ) → TapeMet
@@ -41,9 +41,10 @@ pub record CanTurn (s : Spec) (x : Fraction) (contents : List ℕ → Option (Li
   pub ahead : Belongs contents tape
   pub so_far : HasCourse s x limits d tape.used
 
--- The line of a number that was left open, with the bounds that the ending tells. Other endings have none.
+-- The line of a number that was left open, with the bounds that the ending tells of a node. Other endings have none.
 abbrev pub told_open : Ending → List ℕ
 told_open (Undecided (straddle.Node node cell lo hi)) = open_line node.0 cell (record { lo = lo; hi = hi })
+told_open (Undecided (straddle.Label m cell)) = open_label_line m cell
 told_open _ = []
 
 -- A drawing has come to this end, and tells why.

@@ -2,19 +2,19 @@
 ghost use Rattle.std.specs.Prelude.{◌≡◌, ◌+◌, ℕ, ◌≤◌, [], ◌++◌, List, length, None, Some, IfOk, IfSome, IfNone, string_bytes};
 ghost use Rattle.bz_model.specs.Fraction.{ratio};
 ghost use Rattle.bz_model.specs.Oracle.{AreCosts, cost_between};
-ghost use Rattle.bz_model.specs.Spec.{Mode};
 ghost use Rattle.bit_tape.specs.Tape.{TapeSource, Belongs};
 ghost use Rattle.object_store.specs.Tokens.{IsOf};
 ghost use Rattle.oracle_memo.specs.Memos.{Memory};
 ghost use Rattle.rounded_map.specs.RoundedMap.{setting, IsPostFixed};
 ghost use Rattle.size_window.specs.Drawing.{AreLimits, ending_of, limits_of};
-ghost use Rattle.size_window.specs.Turn.{entry_of};
+ghost use Rattle.size_window.specs.Turn.{entry_of, HasLabels, labels_of as labels_told};
+ghost use Rattle.size_window.specs.declared.ending.Ending.TheVariants as told;
 ghost use Rattle.boltz.specs.Drawn.{ending_word, ending_status, drawn_header, AreLinesOf, IsReported, Sampled};
 ghost use Rattle.boltz.specs.UnderWay.{met, IsSoFar, CanTurn, IsAtEnd, AfterTurn, GoesOn, told_open};
 ghost use Rattle.boltz.specs.Lines.{end_line};
 
 use crate::bounded::without_base;
-use crate::lines::{append_base, certified_header, end, entry, open_number, window};
+use crate::lines::{append_base, certified_header, end, entry, open_label, open_number, window};
 use crate::report::Report;
 use crate::status::Status;
 use bit_tape::tape::Tape;
@@ -26,7 +26,7 @@ use bz_outside::shelf::Shelf;
 use class_system::ids::ClassId;
 use class_system::system::System;
 use newton_upper::{Base, UpperFault, propose};
-use object_text::print::print_in;
+use object_text::print::print_labelled;
 use oracle_memo::Memo;
 use size_window::drawing::Drawing;
 use size_window::ending::{Ending, Straddle};
@@ -48,7 +48,6 @@ pub fn sampled<const F: u32, S: Shelf, L: Ledger>(
     steps: &mut Steps<L>,
 ) -> Result<Report, AllocError>
     requires fraction_bits { (24 ≤ F) × (F ≤ 56) }
-    requires unlabelled { founded.now.mode ≡ Mode.Unlabelled }
     requires limits { AreLimits (limits_of limits) }
     requires unused { tape.used ≡ 0 }
     requires ahead { Belongs (S.content shelf.old) tape }
@@ -75,7 +74,6 @@ fn drawn<const F: u32, S: Shelf, L: Ledger>(
     steps: &mut Steps<L>,
 ) -> Result<Report, AllocError>
     requires fraction_bits { (24 ≤ F) × (F ≤ 56) }
-    requires unlabelled { founded.now.mode ≡ Mode.Unlabelled }
     requires post_fixed { IsPostFixed (setting founded.now x.num x.den F) base }
     requires limits { AreLimits (limits_of limits) }
     requires unused { tape.used ≡ 0 }
@@ -149,7 +147,6 @@ fn turn_to_the_end<const F: u32, O: Oracle<F>, S: Shelf, L: Ledger>(
     lines: &mut Vec<u8>,
 ) -> Result<Ending, AllocError>
     requires fraction { (24 ≤ F) × (F ≤ 56) }
-    requires unlabelled { founded.now.mode ≡ Mode.Unlabelled }
     requires spec { O.spec oracle.old ≡ founded.now }
     requires costs { AreCosts (O.cost oracle.old) }
     requires levels { O.raised oracle.old ≤ 6 }
@@ -188,7 +185,6 @@ fn turn_once<const F: u32, O: Oracle<F>, S: Shelf, L: Ledger>(
     lines: &mut Vec<u8>,
 ) -> Result<Option<Ending>, AllocError>
     requires fraction { (24 ≤ F) × (F ≤ 56) }
-    requires unlabelled { founded.now.mode ≡ Mode.Unlabelled }
     requires spec { O.spec oracle.old ≡ founded.now }
     requires can_turn { CanTurn founded.now (O.x oracle.old) (S.content shelf.old) drawing.old.limits drawing.old tape.old }
     ensures turned { IfOk result (λ ending. (before : List ℕ → ℕ) → ((name : List ℕ) → before name ≤ S.faults shelf.old name)
@@ -224,18 +220,29 @@ fn write_entry(
     kept: &Entry,
     lines: &mut Vec<u8>,
 ) -> Result<(), AllocError>
-    requires unlabelled { founded.now.mode ≡ Mode.Unlabelled }
     requires is_of { IsOf founded.now 0 kept.now.shape.items }
+    requires labels { HasLabels founded.now.mode kept.now }
     ensures { IfOk result (λ _. (more : List ℕ) × AreLinesOf founded.now (entry_of kept.now) more × (lines.new.items ≡ lines.old.items ++ more)) }
 {
     let system = founded.system();
     system.known();
-    let text = print_in(alloc, system, ClassId(0), &kept.shape)?;
+    let labels = labels_of(kept);
+    let text = print_labelled(alloc, system, ClassId(0), &kept.shape, labels)?;
     let size = kept.shape.size();
     let cells = kept.cells.items();
     let more = entry(alloc, kept.number, kept.place, size, text.as_slice(), cells)?;
     lines.extend_from_slice(more.as_slice())?;
     Ok(())
+}
+
+/// The labels of a kept object, of which there are none in unlabelled mode.
+fn labels_of(kept: &Entry) -> &[u64]
+    ensures { result.now ≡ labels_told kept.now.labels }
+{
+    match &kept.labels {
+        Some(labels) => labels.items(),
+        None => &[],
+    }
 }
 
 /// The lines after the last object.
@@ -244,12 +251,24 @@ fn closing(alloc: Global, ending: Ending, counts: Counts, bits: u64) -> Result<S
 {
     let word = word_of(ending);
     let last = end(alloc, word, counts.kept, counts.thrown, bits, counts.turns)?;
-    let Ending::Undecided(Straddle::Node { node, cell, lo, hi }) = ending else {
+    let Ending::Undecided(straddle) = ending else {
         return Ok(last);
     };
-    let mut lines = open_number(alloc, node.0, cell, Bounds { lo, hi })?;
+    let mut lines = open_of(alloc, straddle)?;
     lines.push_str(&last)?;
     Ok(lines)
+}
+
+/// The line of a number that was left open.
+fn open_of(alloc: Global, straddle: Straddle) -> Result<String, AllocError>
+    ensures { IfOk result (λ text. string_bytes text ≡ told_open (told.Undecided straddle)) }
+{
+    match straddle {
+        Straddle::Node { node, cell, lo, hi } => {
+            open_number(alloc, node.0, cell, Bounds { lo, hi })
+        }
+        Straddle::Label { m, cell } => open_label(alloc, m, cell),
+    }
 }
 
 /// Why a drawing ended, as the last line tells it.

@@ -3,9 +3,9 @@ ghost use Rattle.std.specs.Prelude.{◌≡◌, ℕ, List};
 ghost use Rattle.bz_model.specs.Spec.{Spec};
 ghost use Rattle.size_window.specs.RunByBits.{Ending};
 ghost use Rattle.boltz.specs.Answers.{World, Answers, spec_text, usual};
-ghost use Rattle.boltz.specs.Complete.{IsPrintable, IsUnfit, IsBeyond, IsDrawable, IsBoundable, IsBaseless, undisturbed};
+ghost use Rattle.boltz.specs.Complete.{IsPrintable, IsUnfit, IsDrawable, IsBoundable, IsBaseless, undisturbed};
 ghost use Rattle.boltz.specs.Drawn.{IsDrawnText, ending_status};
-ghost use Rattle.boltz.specs.Refusals.{not_yet_line, no_upper_text};
+ghost use Rattle.boltz.specs.Refusals.{no_upper_text};
 ghost use Rattle.boltz.specs.Bounded.{bounded_text};
 ghost use Rattle.newton_upper.specs.BaseRule.{HasNoUpper};
 ghost use Rattle.newton_upper.specs.declared.trials.Trial.{Trial};
@@ -37,11 +37,9 @@ pub fn what_can_be_drawn_is_drawn()
         → (status ≡ ending_status ending) × IsDrawnText (setting s num den 48) base usual (undisturbed (setting s num den 48) base usual bytes turns) ending text }
 {}
 
-/// What is read of an unfit specification is refused, and what isn't drawn from yet is left.
+/// What is read of an unfit specification is refused.
 #[tactic(auto, using(crate::proofs::Complete::refused))]
 pub fn what_is_unfit_is_refused()
     ensures refused { (w : World) (status : Status) (text : List ℕ) → IsUnfit w → Answers w status text
         → status ≡ Status.SpecRefused }
-    ensures left { (w : World) (status : Status) (text : List ℕ) → IsBeyond w → Answers w status text
-        → (status ≡ Status.SpecRefused) × (text ≡ not_yet_line) }
 {}

@@ -1,6 +1,6 @@
 //! The lines that the program writes.
 ghost use Rattle.std.specs.Prelude.{◌≡◌, ◌++◌, length, IfOk, OnOk, string_bytes};
-ghost use Rattle.boltz.specs.Lines.{object_line, entry_lines, cells_line, cell_field, open_line, end_line, spec_end_line, class_name, certified_header, window_line, base_line, base_lines, class_base, lines_below, level_line, feed};
+ghost use Rattle.boltz.specs.Lines.{object_line, entry_lines, cells_line, cell_field, open_line, open_label_line, end_line, spec_end_line, class_name, certified_header, window_line, base_line, base_lines, class_base, lines_below, level_line, feed};
 ghost use Rattle.class_system.specs.CanonicalText.{mode_word};
 ghost use Rattle.class_system.specs.Views.{spec_mode};
 
@@ -59,6 +59,14 @@ pub fn open_number(
     let (k, b) = (cell.k, cell.b);
     let (lo, hi) = (bounds.lo, bounds.hi);
     format!(in alloc; "undecided node {node} cell {k}/{b} within {lo} {hi}\n")
+}
+
+/// The line of a whole number below `m` that 60 bits leave open, for a label.
+pub fn open_label(alloc: Global, m: u64, cell: Cell) -> Result<String, AllocError>
+    ensures { IfOk result (λ text. string_bytes text ≡ open_label_line m cell) }
+{
+    let (k, b) = (cell.k, cell.b);
+    format!(in alloc; "undecided label {m} cell {k}/{b}\n")
 }
 
 /// The last line of a drawing that ended with this word.

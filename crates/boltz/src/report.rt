@@ -1,9 +1,8 @@
 //! What the program writes, and its answer.
 ghost use Rattle.std.specs.Prelude.{◌≡◌, ℕ, ◌≤◌, List, IfOk, IsTrue, IsFalse};
 ghost use Rattle.boltz.specs.Answers.{World, IsAsked, IsAccepted, Answers, spec_text, usual};
-ghost use Rattle.boltz.specs.Drawn.{IsNotYet, Sampled};
+ghost use Rattle.boltz.specs.Drawn.{Sampled};
 ghost use Rattle.boltz.specs.Reads.{named, IsMet};
-ghost use Rattle.bz_model.specs.Spec.{Mode as ModeOf};
 ghost use Rattle.rounded_map.specs.RoundedMap.{setting};
 ghost use Rattle.boltz.specs.UnderWay.{met};
 ghost use Rattle.bit_tape.specs.Tape.{TapeSource};
@@ -19,7 +18,6 @@ use bz_model::fraction::Fraction;
 use bz_model::steps::Steps;
 use bz_outside::shelf::{ReadStop, Shelf, read_up_to};
 use bz_outside::word::Word;
-use class_system::draft::Mode;
 use class_system::system::System;
 use size_window::limits::Limits;
 use spec_reader::fault::SpecFault;
@@ -188,26 +186,8 @@ fn of_sample<S: Shelf, L: Ledger>(
     ensures content { S.content shelf.new ≡ S.content shelf.old }
     ensures counts { (name : List ℕ) → S.faults shelf.old name ≤ S.faults shelf.new name }
 {
-    if !is_unlabelled(founded) {
-        let text = line(alloc, "refused not yet\n")?;
-        return Ok(Report {
-            status: Status::SpecRefused,
-            text,
-        });
-    }
     let tape = Tape::over(Word::from_bytes(alloc, tape.bytes())?);
     sampled::<48, S, L>(alloc, founded, x, USUAL, tape, shelf, steps)
-}
-
-/// Whether objects are drawn from the specification so far.
-fn is_unlabelled(founded: &Founded) -> bool
-    ensures drawn { IsTrue result → founded.now.mode ≡ ModeOf.Unlabelled }
-    ensures not_yet { IsFalse result → IsNotYet founded.now }
-{
-    match founded.system().mode() {
-        Mode::Unlabelled => true,
-        Mode::Labelled => false,
-    }
 }
 
 /// A specification in its canonical form, and the closing line.

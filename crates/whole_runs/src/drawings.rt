@@ -135,19 +135,40 @@ fn objects_and_endings(rt: HostRuntime) -> Result<(), Fail> {
 }
 
 #[test]
-fn drawings_without_a_header(rt: HostRuntime) -> Result<(), Fail> {
-    for (x, text, status, want) in [
-        ("1/2", "labelled\nC = Z + Z\n", 3, "refused not yet\n"),
-        ("1/2", "labelled\nT = Z*Set(T)\n", 3, "refused not yet\n"),
+fn labelled_objects_and_endings(rt: HostRuntime) -> Result<(), Fail> {
+    for (x, text, digest, base, tape, status, want) in [
         (
-            "3/10",
-            "unlabelled\nB = E + Z*B*B\n",
-            4,
-            "refused upper candidates 126 proposals 0\n",
+            "9/25",
+            "labelled\nT = Z*Set(T)\n",
+            "29a47b287dffb6b7af67ca04825edeb8e2af387858a1c055e9f7d2bdd9c08753",
+            "base T 229536619891989\n",
+            b"\xc9\xd3\xe1\xf0\xaa\x5a\x17\xc3".as_slice(),
+            0,
+            "object 1 at 0 size 6\ntext (Z#5 {(Z#1 {(Z#6 {(Z#2 {}) (Z#4 {(Z#3 {})})})})})\ncells 1614/11 9/4 1927/11 1557/11 2/3 2/3 52/6 2/4 3/2 3/2 1/1\nend done kept 1 thrown 0 bits 58 turns 25\n",
+        ),
+        (
+            "1/1",
+            "labelled\nC = Z*Z*Z\n",
+            "9d0c1e2d4938e771adb3253f2bf0c66499eb0b97bd1e401547e7b5e4fbf2f251",
+            "base C 281474976710912\n",
+            b"UUUUUUUUU".as_slice(),
+            6,
+            "undecided label 3 cell 384307168202282325/60\nend undecided kept 0 thrown 0 bits 60 turns 6\n",
         ),
     ] {
+        let want = format!(in rt.alloc();
+            "boltzmann 2\nmode labelled\nspec {digest}\nx {x}\nfraction 48\nwindow 0 1000\n{base}{want}"
+        )?;
         let words = format!(in rt.alloc(); "sample s {x} --tape t")?;
-        compare(&rt, &words, text, b"\x80", status, want)?;
+        compare(&rt, &words, text, tape, status, &want)?;
     }
+    Ok(())
+}
+
+#[test]
+fn a_drawing_without_a_base(rt: HostRuntime) -> Result<(), Fail> {
+    let text = "unlabelled\nB = E + Z*B*B\n";
+    let want = "refused upper candidates 126 proposals 0\n";
+    compare(&rt, "sample s 3/10 --tape t", text, b"\x80", 4, want)?;
     Ok(())
 }

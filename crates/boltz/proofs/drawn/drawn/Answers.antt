@@ -35,4 +35,4 @@ returns-clause-reported g c =
     ∙ ap (λ z. z ++ (c.as_slice.result.now ++ c.as_bytes.result.now)) head
     ∙ ap (λ z. drawn_header a c.args.base (limits_of c.args.limits) ++ (z ++ c.as_bytes.result.now)) c.as_slice.ensures.value
     ∙ ap (λ z. drawn_header a c.args.base (limits_of c.args.limits) ++ (lines ++ z)) (c.as_bytes.ensures.value ∙ closing) in
-    reported-of a c.requires.unlabelled c.args.base (limits_of c.args.limits) tape c.turn_to_the_end.new.drawing c.turn_to_the_end.new.tape.used lines c.in_ok-ending.ending within c.status_of.result c.in_ok-text.text.items c.status_of.ensures text
+    reported-of a c.args.base (limits_of c.args.limits) tape c.turn_to_the_end.new.drawing c.turn_to_the_end.new.tape.used lines c.in_ok-ending.ending within c.status_of.result c.in_ok-text.text.items c.status_of.ensures text

@@ -27,3 +27,7 @@ returns-in_ok-write_entry-in-Kept-clause-goes_on g c = can-turn-on c.args.founde
 -- the drawing has come to its end
 pub returns-in-Finished-clause-turned : goal.returns-in-Finished-clause-turned
 returns-in-Finished-clause-turned g c = λ before below p. at-end c.args.founded.now (g.O.Oracle.x c.args.oracle.now) g.row.F (g.O.Oracle.table c.args.oracle.now) c.args.drawing.now.limits c.args.tape.now.source (g.S.Shelf.content c.args.shelf.now) (g.S.Shelf.faults c.args.shelf.now) (g.S.Shelf.faults c.turn.new.shelf) c.args.drawing.now c.turn.new.self c.args.tape.now.used c.turn.new.tape.used c.in-Finished.ending (record { sound = c.requires.can_turn.sound; within = c.requires.can_turn.within; goes_on = c.requires.can_turn.goes_on; counts = c.turn.ensures.faults; cause = c.in-Finished.ensures.cause c.requires.can_turn.goes_on; turn = c.in-Finished.ensures.turned (λ e. absurd (cc)) }) c.in-Finished.ensures.counted (λ e. (c.in-Finished.ensures.done c.requires.can_turn.goes_on).0 e) (λ e. ((c.in-Finished.ensures.turn_limit c.requires.can_turn.goes_on).0 e).1) (c.in-Finished.ensures.undecided c.requires.can_turn.goes_on) before below c.args.lines.now.items p
+
+-- an entry has its labels
+pub write_entry-requires-clause-labels : goal.write_entry-requires-clause-labels
+write_entry-requires-clause-labels g c = c.in-Kept.ensures.labels
