@@ -1,15 +1,15 @@
 -- Lines of classes and of levels, one after another, and the class vectors that they tell.
-use Rattle.std.proofs.Common.{◌≡◌, ℕ, suc, ◌+◌, ◌-◌, ◌≤◌, List, [], ◌++◌, length, refl, sym, ap, ◌∙◌, arith, add-one, append_assoc, append-nil}
+use Rattle.std.proofs.Common.{◌≡◌, ℕ, suc, ◌+◌, max, List, [], ◌++◌, length, refl, sym, ap, ◌∙◌, arith, add-one, append_assoc, append-nil}
 use Rattle.std.specs.Prelude.{Some}
 use Rattle.bz_model.specs.Spec.{Spec}
 use Rattle.newton_upper.specs.BaseRule.{base_of, HasNoUpper}
 use Rattle.newton_upper.specs.declared.trials.Trial.{Trial}
-use Rattle.oracle_memo.specs.Levels.{sweeps_at, level_down, level_up}
-use Rattle.oracle_memo.proofs.Raising.{level_up-on, sweeps-rise}
-use Rattle.rounded_map.specs.RoundedMap.{Setting, setting, repeated, sweep_up}
+use Rattle.oracle_memo.specs.Levels.{level_down, level_up}
+use Rattle.oracle_memo.specs.Memos.{Memory}
+use Rattle.rounded_map.specs.RoundedMap.{Setting, setting}
 use Rattle.boltz.specs.Bounded.{Bounded, bounded_text, class_level, level_lines, level_after}
 use Rattle.boltz.specs.Bounded as bounds
-use Rattle.boltz.specs.Lines.{lines_below}
+use Rattle.boltz.specs.Lines.{lines_below, base_lines}
 use Rattle.boltz.specs.Refusals.{no_upper_text}
 use Rattle.boltz.specs.declared.status.Status.{Status}
 
@@ -39,20 +39,41 @@ levels_more t base lower upper before start text next text_is lower_is upper_is 
     ∙ ap (λ k. level_lines t base k) (add-one before))
     next_is
 
--- no level has fewer sweeps than the one before
-pub sweeps_rise : (before : ℕ) → sweeps_at before ≤ sweeps_at (before + 1)
-sweeps_rise before = sweeps-rise before
+-- the class vectors of a memo that is raised to a level
+pub lower_told : (m now : Memory) (s : Spec) (F level : ℕ) (lower : List ℕ) → now ≡ record m { raised = level } → m.spec ≡ s → lower ≡ level_down (setting now.spec now.num now.den F) now.raised → lower ≡ level_down (setting s m.num m.den F) level
+lower_told m now s F level lower raised same is =
+    is ∙ ap (λ (k : Memory). level_down (setting k.spec k.num k.den F) k.raised) raised ∙ ap (λ (r : Spec). level_down (setting r m.num m.den F) level) same
 
--- the upper class vector of the next level
-pub raised_up : (t : Setting) (base old new : List ℕ) (before more fewer : ℕ) → more ≡ sweeps_at (before + 1) → fewer ≡ sweeps_at before → new ≡ repeated (sweep_up t) (more - fewer) old → old ≡ level_up t base before → new ≡ level_up t base (before + 1)
-raised_up t base old new before more fewer more_is fewer_is new_is old_is =
-    new_is ∙ ap (repeated (sweep_up t) (more - fewer)) old_is ∙ level_up-on t base before (before + 1) (more - fewer) (omega (arith, sweeps-rise before, more_is, fewer_is))
+pub upper_told : (m now : Memory) (s : Spec) (F level : ℕ) (upper : List ℕ) → now ≡ record m { raised = level } → m.spec ≡ s → upper ≡ level_up (setting now.spec now.num now.den F) now.base now.raised → upper ≡ level_up (setting s m.num m.den F) m.base level
+upper_told m now s F level upper raised same is =
+    is ∙ ap (λ (k : Memory). level_up (setting k.spec k.num k.den F) k.base k.raised) raised ∙ ap (λ (r : Spec). level_up (setting r m.num m.den F) m.base level) same
+
+-- a memo that is raised from one level to the next
+pub next_raised : (m old now : Memory) (before : ℕ) → old ≡ record m { raised = before } → now ≡ record old { raised = max old.raised (before + 1) } → now ≡ record m { raised = before + 1 }
+next_raised m old now before same raised =
+    let last : max before (before + 1) ≡ before + 1 = omega arith in
+    raised ∙ ap (λ (k : Memory). record k { raised = max k.raised (before + 1) }) same ∙ ap (λ (r : ℕ). record m { raised = r }) last
+
+pub none_raised : (m : Memory) → m.raised ≡ 0 → m ≡ record m { raised = 0 }
+none_raised m is = ap (λ (r : ℕ). record m { raised = r }) is
+
+-- a text that was put together from four
+pub joined_four : (head base levels last first second third all : List ℕ) → first ≡ head → second ≡ first ++ base → third ≡ second ++ levels → all ≡ third ++ last → all ≡ head ++ (base ++ (levels ++ last))
+joined_four head base levels last first second third all h b l e =
+    e ∙ ap (λ t. t ++ last) (l ∙ ap (λ s. s ++ levels) (b ∙ ap (λ f. f ++ base) h)) ∙ append_assoc (head ++ base) levels last ∙ append_assoc head base (levels ++ last)
+
+-- the levels over a memo that was made of a base
+pub levels_of : (t : Setting) (base : List ℕ) (s : Spec) (m : Memory) → s ≡ t.spec → m ≡ record { spec = t.spec; num = t.num; den = t.den; base = base; raised = 0 } → lines_below (level_after (setting s m.num m.den t.bits) m.base) 6 ≡ lines_below (level_after t base) 6
+levels_of t base s m same made =
+    ap (λ (r : Spec). lines_below (level_after (setting r m.num m.den t.bits) m.base) 6) same ∙ ap (λ (k : Memory). lines_below (level_after (setting t.spec k.num k.den t.bits) k.base) 6) made
+
+-- the lines of a base
+pub base_lines_of : (s r : Spec) (values base : List ℕ) → s ≡ r → values ≡ base → base_lines s values ≡ base_lines r base
+base_lines_of s r values base same are = ap (λ (k : Spec). base_lines k values) same ∙ ap (base_lines r) are
 
 -- what is told where there is a base, and where there is none
-pub told_base : (s founded : Spec) (num den F : ℕ) (base values text : List ℕ) → s ≡ founded → base_of (setting founded num den F) ≡ Some base → values ≡ base → text ≡ bounded_text (setting s num den F) values → Bounded (setting founded num den F) Status.Done text
-told_base s founded num den F base values text same has values_are told =
-    bounds.based base has refl (told ∙ ap (bounded_text (setting s num den F)) values_are ∙ ap (λ r. bounded_text (setting r num den F) base) same)
+pub told_base : (t : Setting) (base text : List ℕ) → base_of t ≡ Some base → text ≡ bounded_text t base → Bounded t Status.Done text
+told_base t base text has told = bounds.based base has refl told
 
-pub told_none : (s founded : Spec) (num den F : ℕ) (trials items : List Trial) (text : List ℕ) → s ≡ founded → HasNoUpper (setting founded num den F) trials → items ≡ trials → text ≡ no_upper_text s F items → Bounded (setting founded num den F) Status.NoUpper text
-told_none s founded num den F trials items text same lacks items_are told =
-    bounds.no_base trials lacks refl (told ∙ ap (no_upper_text s F) items_are ∙ ap (λ r. no_upper_text r F trials) same)
+pub told_none : (t : Setting) (trials : List Trial) (status : Status) (text : List ℕ) → HasNoUpper t trials → status ≡ Status.NoUpper → text ≡ no_upper_text t.spec t.bits trials → Bounded t status text
+told_none t trials status text lacks is told = bounds.no_base trials lacks is told

@@ -1,6 +1,6 @@
 -- A specification that is accepted and well founded is printed, or drawn from, and no other one is.
 use Rattle.std.proofs.Common.{arith, ◌⊎◌, inl, inr, ◌≡◌, ℕ, zero, suc, ◌≤◌, List, [], ◌∷◌, refl, sym, subst, ap, ◌∙◌}
-use Rattle.std.specs.Prelude.{Bool, true, length, take, Option, Some, None, IfSome, option_map}
+use Rattle.std.specs.Prelude.{Bool, length, take, Option, Some, None, IfSome, option_map}
 use Rattle.bz_model.specs.Spec.{Spec}
 use Rattle.bz_outside.specs.Outside.{Rose, Appends}
 use Rattle.bit_tape.specs.Bits.{file_bit}
@@ -12,19 +12,21 @@ use Rattle.spec_reader.proofs.Sounds.{stands_sound}
 use Rattle.class_system.specs.Sound.{IsSound}
 use Rattle.well_founded.specs.Examination.{TellsCause}
 use Rattle.well_founded.proofs.Judged.{tells-unfounded}
-use Rattle.plain_table.specs.FirstForm.{is_first_form}
-use Rattle.plain_table.specs.PlainTable.{plain_bounds}
-use Rattle.size_window.specs.RunByBits.{Course, Ending}
-use Rattle.boltz.specs.Answers.{Output, Ends, World, file_of, IsAsked, IsAccepted, IsNotYet, Answers, Sampled, tape_of, spec_text}
+use Rattle.oracle_memo.specs.Levels.{level_bounds}
+use Rattle.size_window.specs.RunByBits.{Limits, Course, Ending}
+use Rattle.boltz.specs.Answers.{Output, Ends, World, file_of, IsAsked, IsAccepted, Answers, usual, tape_of, spec_text}
 use Rattle.boltz.specs.Answers as answers
 use Rattle.boltz.specs.Bounded.{Bounded, bounded_text}
 use Rattle.boltz.specs.Bounded as bounds
 use Rattle.newton_upper.specs.BaseRule.{base_of, HasNoUpper}
 use Rattle.newton_upper.specs.declared.trials.Trial.{Trial}
 use Rattle.rounded_map.specs.RoundedMap.{Setting, setting}
-use Rattle.boltz.specs.Complete.{IsGiven, IsFit, IsPrintable, IsUnfit, IsBeyond, undisturbed, IsDrawable, IsBoundable, IsBaseless}
-use Rattle.boltz.specs.Drawn.{TapeMet, HasFailed, sampling, IsCourseOver, IsDrawnText, ending_status}
-use Rattle.boltz.specs.Refusals.{not_yet_line, no_upper_text}
+use Rattle.boltz.specs.Complete.{IsGiven, IsFit, IsPrintable, IsUnfit, undisturbed, IsDrawable, IsBoundable, IsBaseless}
+use Rattle.boltz.specs.Complete as complete-of
+use Rattle.boltz.specs.Drawn.{TapeMet, HasFailed, sampling, IsCourseOver, IsDrawnText, IsReported, Sampled, ending_status}
+use Rattle.boltz.specs.Drawn as drawing
+use Rattle.bit_tape.specs.Tape.{TapeSource}
+use Rattle.boltz.specs.Refusals.{no_upper_text}
 use Rattle.boltz.specs.Words.{Command, Names}
 use Rattle.boltz.specs.declared.status.Status.{Status}
 use Rattle.boltz.specs.declared.status.Status.TheVariants as variants
@@ -61,7 +63,7 @@ module _ (w : World) (c : Command) (bytes : List ℕ) (given : IsGiven w c bytes
 abbrev Outcome : World → Spec → Status → List ℕ → Command → Type 0
 Outcome w s status text (Command.Spec file) = (status ≡ Status.Done) × (text ≡ spec_text s)
 Outcome w s status text (Command.Oracle file num den) = Bounded (setting s num den 48) status text
-Outcome w s status text (Command.Sample file num den tape) = Sampled s num den (tape_of w tape) status text
+Outcome w s status text (Command.Sample file num den tape) = Sampled (setting s num den 48) usual (tape_of w (TapeSource.Named tape)) status text
 
 module _ (w : World) (c : Command) (s : Spec) (fit : IsFit w c s) where
   -- all of the file is read
@@ -88,7 +90,7 @@ module _ (w : World) (c : Command) (s : Spec) (fit : IsFit w c s) where
   outcome status text (answers.sampled file tape read num den t asked accepts founded done) =
       let same = same-tables (Command.Sample file num den tape) read t asked accepts in
       subst (Outcome w s status text) (alone w c fit.bytes fit.given (Command.Sample file num den tape) asked.named)
-      (subst (λ u. Sampled u num den (tape_of w tape) status text) same done)
+      (subst (λ u. Sampled (setting u num den 48) usual (tape_of w (TapeSource.Named tape)) status text) same done)
 
 pub printed : (w : World) (s : Spec) (status : Status) (text : List ℕ) → IsPrintable w s → Answers w status text → (status ≡ Status.Done) × (text ≡ spec_text s)
 printed w s status text p h = outcome w (Command.Spec p.file) s p.fit status text h
@@ -114,20 +116,14 @@ baseless-only t status text has (bounds.no_base trials lacks e f) = (e, (trials,
 pub bounded : (w : World) (s : Spec) (num den : ℕ) (base : List ℕ) (status : Status) (text : List ℕ) → IsBoundable w s num den base → Answers w status text → (status ≡ Status.Done) × (text ≡ bounded_text (setting s num den 48) base)
 bounded w s num den base status text p h = based-only (setting s num den 48) base status text p.has_base (outcome w (Command.Oracle p.file num den) s p.fit status text h)
 
+-- a drawing without a base tells the proposals
+baseless-drawn : (t : Setting) (limits : Limits) (tape : TapeMet) (status : Status) (text : List ℕ) → base_of t ≡ None → Sampled t limits tape status text → (status ≡ Status.NoUpper) × ((trials : List Trial) × HasNoUpper t trials × (text ≡ no_upper_text t.spec t.bits trials))
+baseless-drawn t limits tape status text none (drawing.drawn base has r) = absurd (cc)
+baseless-drawn t limits tape status text none (drawing.no_base trials lacks e f) = (e, (trials, lacks, f))
+
 pub baseless : (w : World) (s : Spec) (num den : ℕ) (status : Status) (text : List ℕ) → IsBaseless w s num den → Answers w status text → (status ≡ Status.NoUpper) × ((trials : List Trial) × HasNoUpper (setting s num den 48) trials × (text ≡ no_upper_text s 48 trials))
-baseless w s num den status text p h = baseless-only (setting s num den 48) status text p.no_base (outcome w (Command.Oracle p.file num den) s p.fit status text h)
-
--- a specification of the first form at a fraction of at most 1 is drawn from
-no-wait : (s : Spec) (num den : ℕ) → is_first_form s ≡ true → num ≤ den → ¬ (IsNotYet s num den)
-no-wait s num den first small (inl e) = absurd (cc)
-no-wait s num den first small (inr h) = omega arith
-
-left-only : (s : Spec) (num den : ℕ) (t : TapeMet) (status : Status) (text : List ℕ) → IsNotYet s num den → Sampled s num den t status text → (status ≡ Status.SpecRefused) × (text ≡ not_yet_line)
-left-only s num den t status text h (answers.not_yet not_yet e f) = (e, f)
-left-only s num den t status text h (answers.drawn first small reported) = absurd (no-wait s num den first small h)
-
-pub left : (w : World) (status : Status) (text : List ℕ) → IsBeyond w → Answers w status text → (status ≡ Status.SpecRefused) × (text ≡ not_yet_line)
-left w status text p h = left-only p.s p.num p.den (tape_of w p.tape) status text p.not_yet (outcome w (Command.Sample p.file p.num p.den p.tape) p.s p.fit status text h)
+baseless w s num den status text (complete-of.to_bound file fit none) h = baseless-only (setting s num den 48) status text none (outcome w (Command.Oracle file num den) s fit status text h)
+baseless w s num den status text (complete-of.to_draw file tape fit none) h = baseless-drawn (setting s num den 48) usual (tape_of w (TapeSource.Named tape)) status text none (outcome w (Command.Sample file num den tape) s fit status text h)
 
 -- a failing turn would be a read of the tape that failed
 none-fails : (fault : Option ℕ) → ((given : ℕ) → fault ≡ Some given → ⊥) → fault ≡ None
@@ -138,25 +134,35 @@ ending-of : (c d : Course) (e f : Ending) → c ≡ d → c.state.ending ≡ Som
 ending-of c d e f same at_c at_d = cc
 
 -- the course over the tape's bits is the undisturbed one
-same-course : (s : Spec) (num den turns : ℕ) (bytes : List ℕ) (t : TapeMet) (c : Course) (d e : Ending) → ¬ (HasFailed t) → IsCourseOver s 48 (plain_bounds s num den) t c (file_bit bytes) → c.state.ending ≡ Some d → (undisturbed s num den bytes turns).state.ending ≡ Some e → c ≡ undisturbed s num den bytes turns
-same-course s num den turns bytes t c d e no_fault over at_c at_turns =
-    let quiet = unfailing (sampling s 48 (plain_bounds s num den) (file_bit bytes)) over.faults over.turns (λ k. none-fails (over.faults k) (λ given is. no_fault (over.caused k given is))) in
-    let same : c ≡ undisturbed s num den bytes over.turns = over.same ∙ quiet in
-    same ∙ one_end (sampling s 48 (plain_bounds s num den) (file_bit bytes)) (λ k. None) over.turns turns d e (subst (λ k. k.state.ending ≡ Some d) same at_c) at_turns
+same-course : (a : Setting) (base : List ℕ) (limits : Limits) (turns : ℕ) (bytes : List ℕ) (t : TapeMet) (c : Course) (d e : Ending) → ¬ (HasFailed t) → IsCourseOver a.spec a.bits (level_bounds a base) limits t c (file_bit bytes) → c.state.ending ≡ Some d → (undisturbed a base limits bytes turns).state.ending ≡ Some e → c ≡ undisturbed a base limits bytes turns
+same-course a base limits turns bytes t c d e no_fault over at_c at_turns =
+    let sample = sampling a.spec a.bits (level_bounds a base) limits (file_bit bytes) in
+    let quiet = unfailing sample over.faults over.turns (λ k. none-fails (over.faults k) (λ given is. no_fault (over.caused k given is))) in
+    let same : c ≡ undisturbed a base limits bytes over.turns = over.same ∙ quiet in
+    same ∙ one_end sample (λ k. None) over.turns turns d e (subst (λ k. k.state.ending ≡ Some d) same at_c) at_turns
 
 told-bits : (content : Option (List ℕ)) (bytes : List ℕ) (P : (ℕ → Option Bool) → Type 0) → content ≡ Some bytes → IfSome (option_map file_bit content) P → P (file_bit bytes)
 told-bits content bytes P e h = subst (λ o. IfSome (option_map file_bit o) P) e h
 
-drawn-only : (s : Spec) (num den turns : ℕ) (tape bytes : List ℕ) (w : World) (ending : Ending) (status : Status) (text : List ℕ) → is_first_form s ≡ true → num ≤ den → ¬ (HasFailed (tape_of w tape)) → w.content tape ≡ Some bytes → (undisturbed s num den bytes turns).state.ending ≡ Some ending → Sampled s num den (tape_of w tape) status text → (status ≡ ending_status ending) × IsDrawnText s num den (plain_bounds s num den) (undisturbed s num den bytes turns) ending text
-drawn-only s num den turns tape bytes w ending status text first small no_fault is_told ends (answers.not_yet not_yet e f) = absurd (no-wait s num den first small not_yet)
-drawn-only s num den turns tape bytes w ending status text first small no_fault is_told ends (answers.drawn _ _ r) =
-    let over = told-bits (w.content tape) bytes (IsCourseOver s 48 (plain_bounds s num den) (tape_of w tape) r.course) is_told r.drawn.by_bits in
-    let same = same-course s num den turns bytes (tape_of w tape) r.course r.ending ending no_fault over r.drawn.ended ends in
-    let end : r.ending ≡ ending = ending-of r.course (undisturbed s num den bytes turns) r.ending ending same r.drawn.ended ends in
-    (r.answer ∙ ap ending_status end, subst (λ e. IsDrawnText s num den (plain_bounds s num den) (undisturbed s num den bytes turns) e text) end (subst (λ k. IsDrawnText s num den (plain_bounds s num den) k r.ending text) same r.told))
+same-base : (o : Option (List ℕ)) (base other : List ℕ) → o ≡ Some base → o ≡ Some other → other ≡ base
+same-base o base other e f = cc
 
-pub drawn : (w : World) (s : Spec) (num den turns : ℕ) (bytes : List ℕ) (ending : Ending) (status : Status) (text : List ℕ) → IsDrawable w s num den bytes turns ending → Answers w status text → (status ≡ ending_status ending) × IsDrawnText s num den (plain_bounds s num den) (undisturbed s num den bytes turns) ending text
-drawn w s num den turns bytes ending status text p h = drawn-only s num den turns p.tape bytes w ending status text p.first_form p.small p.no_fault p.tape_told p.ends (outcome w (Command.Sample p.file num den p.tape) s p.fit status text h)
+-- a drawing that is reported is the undisturbed one over these bytes
+reported-only : (a : Setting) (base : List ℕ) (limits : Limits) (turns : ℕ) (tape bytes : List ℕ) (w : World) (ending : Ending) (status : Status) (text : List ℕ) → ¬ (HasFailed (tape_of w (TapeSource.Named tape))) → w.content tape ≡ Some bytes → (undisturbed a base limits bytes turns).state.ending ≡ Some ending → IsReported a base limits (tape_of w (TapeSource.Named tape)) status text → (status ≡ ending_status ending) × IsDrawnText a base limits (undisturbed a base limits bytes turns) ending text
+reported-only a base limits turns tape bytes w ending status text no_fault is_told ends r =
+    let t = tape_of w (TapeSource.Named tape) in
+    let over = told-bits (w.content tape) bytes (IsCourseOver a.spec a.bits (level_bounds a base) limits t r.course) is_told r.drawn.by_bits in
+    let same = same-course a base limits turns bytes t r.course r.ending ending no_fault over r.drawn.ended ends in
+    let end : r.ending ≡ ending = ending-of r.course (undisturbed a base limits bytes turns) r.ending ending same r.drawn.ended ends in
+    (r.answer ∙ ap ending_status end, subst (λ e. IsDrawnText a base limits (undisturbed a base limits bytes turns) e text) end (subst (λ k. IsDrawnText a base limits k r.ending text) same r.told))
+
+drawn-only : (a : Setting) (base : List ℕ) (limits : Limits) (turns : ℕ) (tape bytes : List ℕ) (w : World) (ending : Ending) (status : Status) (text : List ℕ) → base_of a ≡ Some base → ¬ (HasFailed (tape_of w (TapeSource.Named tape))) → w.content tape ≡ Some bytes → (undisturbed a base limits bytes turns).state.ending ≡ Some ending → Sampled a limits (tape_of w (TapeSource.Named tape)) status text → (status ≡ ending_status ending) × IsDrawnText a base limits (undisturbed a base limits bytes turns) ending text
+drawn-only a base limits turns tape bytes w ending status text has no_fault is_told ends (drawing.no_base trials lacks e f) = let none = lacks.no_base in absurd (cc)
+drawn-only a base limits turns tape bytes w ending status text has no_fault is_told ends (drawing.drawn other had r) =
+    reported-only a base limits turns tape bytes w ending status text no_fault is_told ends (subst (λ b. IsReported a b limits (tape_of w (TapeSource.Named tape)) status text) (same-base (base_of a) base other has had) r)
+
+pub drawn : (w : World) (s : Spec) (num den turns : ℕ) (base bytes : List ℕ) (ending : Ending) (status : Status) (text : List ℕ) → IsDrawable w s num den base bytes turns ending → Answers w status text → (status ≡ ending_status ending) × IsDrawnText (setting s num den 48) base usual (undisturbed (setting s num den 48) base usual bytes turns) ending text
+drawn w s num den turns base bytes ending status text p h = drawn-only (setting s num den 48) base usual turns p.tape bytes w ending status text p.has_base p.no_fault p.tape_told p.ends (outcome w (Command.Sample p.file num den p.tape) s p.fit status text h)
 
 -- an answer with a text is none of want of memory and none of a failed write
 abbrev IsTold : Status → Type 0
@@ -171,9 +177,9 @@ ending-told (Ending.Undecided left_open) = tt
 ending-told Ending.TurnLimit = tt
 ending-told Ending.ReadFault = tt
 
-sampled-told : (s : Spec) (num den : ℕ) (t : TapeMet) (status : Status) (text : List ℕ) → Sampled s num den t status text → IsTold status
-sampled-told s num den t status text (answers.not_yet not_yet e f) = subst IsTold (sym e) tt
-sampled-told s num den t status text (answers.drawn first small r) = subst IsTold (sym r.answer) (ending-told r.ending)
+sampled-told : (a : Setting) (limits : Limits) (t : TapeMet) (status : Status) (text : List ℕ) → Sampled a limits t status text → IsTold status
+sampled-told a limits t status text (drawing.drawn base has r) = subst IsTold (sym r.answer) (ending-told r.ending)
+sampled-told a limits t status text (drawing.no_base trials lacks e f) = subst IsTold (sym e) tt
 
 bounded-told : (t : Setting) (status : Status) (text : List ℕ) → Bounded t status text → IsTold status
 bounded-told t status text (bounds.based b is e f) = subst IsTold (sym e) tt
@@ -186,7 +192,7 @@ is-told w status text (answers.text_refused d read fault asked memory refuses e)
 is-told w status text (answers.unfounded d read t cause asked accepts memory tells e) = tt
 is-told w status text (answers.printed file read t asked accepts founded e) = tt
 is-told w status text (answers.bounded file read num den t asked accepts founded done) = bounded-told (setting t num den 48) status text done
-is-told w status text (answers.sampled file tape read num den t asked accepts founded done) = sampled-told t num den (tape_of w tape) status text done
+is-told w status text (answers.sampled file tape read num den t asked accepts founded done) = sampled-told (setting t num den 48) usual (tape_of w (TapeSource.Named tape)) status text done
 
 -- an answer whose text is written is how a call ends
 pub written : (w : World) (o : Output) (status : Status) (text : List ℕ) → Answers w status text → Appends o.before o.after text → Ends w o status
@@ -220,11 +226,8 @@ complete w o status h s p no_fault = unless-wanting w o status Status.Done h (λ
 pub refuses : (w : World) (o : Output) (status : Status) → Ends w o status → IsUnfit w → ¬ (Rose o.faults_before o.faults_after) → (status ≡ Status.SpecRefused) ⊎ (status ≡ Status.OutOfMemory)
 refuses w o status h p no_fault = unless-wanting w o status Status.SpecRefused h (λ text a. refused w status text p a) no_fault
 
-pub leaves : (w : World) (o : Output) (status : Status) → Ends w o status → IsBeyond w → ¬ (Rose o.faults_before o.faults_after) → (status ≡ Status.SpecRefused) ⊎ (status ≡ Status.OutOfMemory)
-leaves w o status h p no_fault = unless-wanting w o status Status.SpecRefused h (λ text a. (left w status text p a).0) no_fault
-
-pub draws : (w : World) (o : Output) (status : Status) → Ends w o status → (s : Spec) (num den turns : ℕ) (bytes : List ℕ) (ending : Ending) → IsDrawable w s num den bytes turns ending → ¬ (Rose o.faults_before o.faults_after) → (status ≡ ending_status ending) ⊎ (status ≡ Status.OutOfMemory)
-draws w o status h s num den turns bytes ending p no_fault = unless-wanting w o status (ending_status ending) h (λ text a. (drawn w s num den turns bytes ending status text p a).0) no_fault
+pub draws : (w : World) (o : Output) (status : Status) → Ends w o status → (s : Spec) (num den turns : ℕ) (base bytes : List ℕ) (ending : Ending) → IsDrawable w s num den base bytes turns ending → ¬ (Rose o.faults_before o.faults_after) → (status ≡ ending_status ending) ⊎ (status ≡ Status.OutOfMemory)
+draws w o status h s num den turns base bytes ending p no_fault = unless-wanting w o status (ending_status ending) h (λ text a. (drawn w s num den turns base bytes ending status text p a).0) no_fault
 
 pub bounds_told : (w : World) (o : Output) (status : Status) → Ends w o status → (s : Spec) (num den : ℕ) (base : List ℕ) → IsBoundable w s num den base → ¬ (Rose o.faults_before o.faults_after) → (status ≡ Status.Done) ⊎ (status ≡ Status.OutOfMemory)
 bounds_told w o status h s num den base p no_fault = unless-wanting w o status Status.Done h (λ text a. (bounded w s num den base status text p a).0) no_fault

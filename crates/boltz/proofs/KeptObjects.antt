@@ -1,6 +1,6 @@
 -- What a course keeps are objects of class 0.
-use Rattle.std.proofs.Common.{◌≡◌, ℕ, suc, List, [], ◌∷◌, ◌++◌, refl, sym, ◌∙◌, ap, subst}
-use Rattle.std.specs.Prelude.{Option, Some, option_to_list}
+use Rattle.std.proofs.Common.{◌≡◌, ℕ, List, [], ◌∷◌, ◌++◌, sym, subst}
+use Rattle.std.specs.Prelude.{Some, option_to_list}
 use Rattle.bz_model.specs.Fraction.{Fraction}
 use Rattle.bz_model.specs.Spec.{Spec, body_of}
 use Rattle.bz_model.specs.Object.{Object, Belongs}
@@ -11,7 +11,7 @@ use Rattle.bz_laws.proofs.Makings.{fine}
 use Rattle.object_store.specs.Tokens.{IsOf}
 use Rattle.shape_sampler.proofs.Numbers.{least_of, least_of-in}
 use Rattle.size_window.specs.RunByBits.{Limits, Entry, Course, Turned, followed_by}
-use Rattle.size_window.specs.Follows.{IsEntryOf, AreEntriesOf, window_of, Follows}
+use Rattle.size_window.specs.Follows.{AreEntriesOf, window_of, Follows}
 
 -- an object of class 0
 record IsMade (s : Spec) (o : Object) : Type 0 where

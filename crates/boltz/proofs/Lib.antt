@@ -5,7 +5,9 @@ pub mod Commands
 pub mod Courses
 pub mod Complete
 pub mod KeptObjects
+pub mod KeptLabels
 pub mod OneTurn
 pub mod Spelling
+pub mod SpelledLabels
 pub mod SpelledTurns
 pub mod AtTheEnd

@@ -1,5 +1,5 @@
 -- A course with one turn more.
-use Rattle.std.proofs.Common.{◌≡◌, ◌≢◌, ℕ, zero, suc, ◌+◌, ◌-◌, ◌<◌, ◌≤◌, arith, Bool, true, false, cond, List, [], ◌∷◌, ◌++◌, append-nil, refl, sym, ◌∙◌, ap, subst}
+use Rattle.std.proofs.Common.{◌≡◌, ℕ, zero, suc, ◌+◌, ◌-◌, ◌<◌, ◌≤◌, arith, Bool, true, false, cond, List, [], ◌++◌, append-nil, refl, sym, ◌∙◌, ap, subst}
 use Rattle.std.specs.Prelude.{Option, Some, None, IfSome, eqb, option_to_list, IsTrue, ◌↔◌}
 use Rattle.std.proofs.lemmas.Bool.{eq-eqb, ne_eqb}
 use Rattle.bz_model.specs.declared.cell.Bounds.{Bounds}
@@ -14,7 +14,7 @@ use Rattle.size_window.specs.declared.ending.Ending.TheVariants as told
 use Rattle.size_window.specs.declared.ending.Straddle.TheVariants as straddle
 use Rattle.size_window.specs.declared.turned.Turned.{Turned as Answer}
 use Rattle.size_window.specs.declared.turned.Turned.TheVariants as answer
-use Rattle.size_window.specs.RunByBits.{Limits, Sampling, State, Entry, Course, Turned, turn, followed_by, one_turn_on, after}
+use Rattle.size_window.specs.RunByBits.{Limits, Sampling, Entry, Course, turn, followed_by, one_turn_on, after}
 use Rattle.class_system.specs.Sound.{IsSound}
 use Rattle.well_founded.specs.EmptyObjects.{has_empty}
 use Rattle.size_window.specs.Ideally.{chooser_of}
@@ -25,7 +25,7 @@ use Rattle.size_window.proofs.TablesIdeally.{chooses-by}
 use Rattle.size_window.specs.Drawing.{DrawingState, DrawingBelongs, state_of, ending_of}
 use Rattle.size_window.specs.Follows.{Goes}
 use Rattle.size_window.specs.Turn.{IsTurn, IsCounted, told_entry, told_fault, turns_by, turns_of, ending_by, TellsOpen}
-use Rattle.boltz.specs.Drawn.{TapeMet, HasFailed, usual, sampling, IsCourseOver, AreLinesOf, Lists, open_lines}
+use Rattle.boltz.specs.Drawn.{TapeMet, HasFailed, sampling, IsCourseOver, AreLinesOf, Lists, open_lines}
 use Rattle.boltz.specs.Drawn as drawn
 use Rattle.boltz.specs.UnderWay.{met, IsSoFar, HasCourse, CanTurn, IsAtEnd, told_open}
 use Rattle.boltz.specs.Lines.{open_line}
@@ -82,23 +82,23 @@ empty-is : (s : Spec) (part : ℕ) → IsSound s → IsTrue (has_empty s part) �
 empty-is s part sound = (marked-zero s (orderly s sound) part, zero-marked s (orderly s sound) part)
 
 -- What a turn of a drawing tells.
-pub record TellsTurn (s : Spec) (x : Fraction) (F : ℕ) (table : (level node : ℕ) → Bounds) (source : TapeSource) (contents : List ℕ → Option (List ℕ)) (old new : List ℕ → ℕ) (d now : DrawingState) (start used : ℕ) (a : Answer) : Type 0 where
-  pub limits : d.limits ≡ usual
+pub record TellsTurn (s : Spec) (x : Fraction) (F : ℕ) (table : (level node : ℕ) → Bounds) (limits : Limits) (source : TapeSource) (contents : List ℕ → Option (List ℕ)) (old new : List ℕ → ℕ) (d now : DrawingState) (start used : ℕ) (a : Answer) : Type 0 where
+  pub within : d.limits ≡ limits
   pub sound : IsSound s
   pub goes_on : d.ending ≡ None
   pub counts : (name : List ℕ) → old name ≤ new name
   pub cause : a ≡ answer.Finished told.ReadFault → HasFault source old new
   pub turn : IsTurn s x F table (bits_of source contents) d start a now used
 
-module _ (s : Spec) (x : Fraction) (F : ℕ) (table : (level node : ℕ) → Bounds) (source : TapeSource) (contents : List ℕ → Option (List ℕ)) (old new : List ℕ → ℕ) (d now : DrawingState) (start used : ℕ) (a : Answer) (h : TellsTurn s x F table source contents old new d now start used a) where
-  goes-usual : (c : Course) → c.state ≡ state_of d start → Goes s x usual c → Goes s x usual (followed_by c h.turn.turned)
-  goes-usual c at g = subst (λ l. Goes s x l (followed_by c h.turn.turned)) h.limits (h.turn.goes c at (subst (λ l. Goes s x l c) (sym h.limits) g))
+module _ (s : Spec) (x : Fraction) (F : ℕ) (table : (level node : ℕ) → Bounds) (limits : Limits) (source : TapeSource) (contents : List ℕ → Option (List ℕ)) (old new : List ℕ → ℕ) (d now : DrawingState) (start used : ℕ) (a : Answer) (h : TellsTurn s x F table limits source contents old new d now start used a) where
+  goes-within : (c : Course) → c.state ≡ state_of d start → Goes s x limits c → Goes s x limits (followed_by c h.turn.turned)
+  goes-within c at g = subst (λ l. Goes s x l (followed_by c h.turn.turned)) h.within (h.turn.goes c at (subst (λ l. Goes s x l c) (sym h.within) g))
 
-  pub course-on : HasCourse s x d start → HasCourse s x now used
-  course-on c = record { course = followed_by c.course h.turn.turned; state = h.turn.state; goes = goes-usual c.course c.state c.goes }
+  pub course-on : HasCourse s x limits d start → HasCourse s x limits now used
+  course-on c = record { course = followed_by c.course h.turn.turned; state = h.turn.state; goes = goes-within c.course c.state c.goes }
 
-  pub entry-is-of : (e : Entry) → HasCourse s x d start → told_entry a ≡ Some e → IsOf s 0 e.tokens
-  entry-is-of e c is = kept-is-of s x usual c.course h.turn.turned e (goes-usual c.course c.state c.goes).follows (h.turn.entry ∙ is)
+  pub entry-is-of : (e : Entry) → HasCourse s x limits d start → told_entry a ≡ Some e → IsOf s 0 e.tokens
+  entry-is-of e c is = kept-is-of s x limits c.course h.turn.turned e (goes-within c.course c.state c.goes).follows (h.turn.entry ∙ is)
 
   module _ (before : List ℕ → ℕ) (below : (name : List ℕ) → before name ≤ old name) where
     fault : Option ℕ
@@ -111,13 +111,13 @@ module _ (s : Spec) (x : Fraction) (F : ℕ) (table : (level node : ℕ) → Bou
     unfolding fault
     fault-caused given e = failed-now (fault-told d.ending a (used - start) given e)
 
-    over-on : (c : Course) → c.state ≡ state_of d start → (bits : Option (ℕ → Option Bool)) → IfSome bits (IsCourseOver s F table (met source contents before old) c) → IfSome bits (λ tape. (k : Chooser) → ChoosesBy s F table k → h.turn.turned ≡ turn (record { chooser = k; limits = d.limits; tape = tape }) (told_fault d.ending a (used - start)) (state_of d start)) → IfSome bits (IsCourseOver s F table (met source contents before new) (followed_by c h.turn.turned))
+    over-on : (c : Course) → c.state ≡ state_of d start → (bits : Option (ℕ → Option Bool)) → IfSome bits (IsCourseOver s F table limits (met source contents before old) c) → IfSome bits (λ tape. (k : Chooser) → ChoosesBy s F table k → h.turn.turned ≡ turn (record { chooser = k; limits = d.limits; tape = tape }) (told_fault d.ending a (used - start)) (state_of d start)) → IfSome bits (IsCourseOver s F table limits (met source contents before new) (followed_by c h.turn.turned))
     unfolding fault
     over-on c at None over exact = tt
     over-on c at (Some bits) over exact =
-        let sample : Sampling = sampling s F table bits in
+        let sample : Sampling = sampling s F table limits bits in
         let same-turn : h.turn.turned ≡ turn sample fault c.state =
-        subst (λ l. h.turn.turned ≡ turn (record { chooser = chooser_of s F table (has_empty s); limits = l; tape = bits }) fault c.state) h.limits
+        subst (λ l. h.turn.turned ≡ turn (record { chooser = chooser_of s F table (has_empty s); limits = l; tape = bits }) fault c.state) h.within
         (subst (λ st. h.turn.turned ≡ turn (record { chooser = chooser_of s F table (has_empty s); limits = d.limits; tape = bits }) fault st) (sym at)
         (exact (chooser_of s F table (has_empty s)) (chooses-by s F table (has_empty s) (λ part. empty-is s part h.sound)))) in
         let faults : ℕ → Option ℕ = extended over.faults over.turns fault in
@@ -133,11 +133,11 @@ module _ (s : Spec) (x : Fraction) (F : ℕ) (table : (level node : ℕ) → Bou
     lists-on c lines more None l none = subst (λ es. Lists s es (lines ++ more)) (sym (append-nil c.entries)) (subst (Lists s c.entries) (sym (ap (λ m. lines ++ m) none ∙ append-nil lines)) l)
     lists-on c lines more (Some e) l of = drawn.one_more c.entries e lines more l of refl refl
 
-    pub so-far-on : (lines more : List ℕ) → Appended s (told_entry a) more → IsSoFar s x F table (met source contents before old) d start lines → IsSoFar s x F table (met source contents before new) now used (lines ++ more)
+    pub so-far-on : (lines more : List ℕ) → Appended s (told_entry a) more → IsSoFar s x F table limits (met source contents before old) d start lines → IsSoFar s x F table limits (met source contents before new) now used (lines ++ more)
     so-far-on lines more appended p = record {
       course = followed_by p.course h.turn.turned;
       state = h.turn.state;
-      goes = goes-usual p.course p.state p.goes;
+      goes = goes-within p.course p.state p.goes;
       by_bits = over-on p.course p.state (bits_of source contents) p.by_bits h.turn.exact;
       lists = subst (λ o. Lists s (p.course.entries ++ option_to_list o) (lines ++ more)) (sym h.turn.entry) (lists-on p.course lines more (told_entry a) p.lists appended);
     }
@@ -153,15 +153,16 @@ open-told : (table : (level node : ℕ) → Bounds) (e : Told) → TellsOpen tab
 open-told table told.Done h = refl
 open-told table told.TapeEnded h = refl
 open-told table (told.Undecided (straddle.Node node cell lo hi)) h = ap (λ b. open_line node.0 cell b) (same-bounds (table 6 node.0) lo hi h.lower h.upper)
+open-told table (told.Undecided (straddle.Label m cell)) h = refl
 open-told table told.TurnLimit h = refl
 open-told table told.ReadFault h = refl
 
--- the limits are the usual ones
-count-one : (l : Limits) → l ≡ usual → l.count ≡ 1
-count-one l e = ap (λ k. k.count) e
+-- the limits are the drawing's
+count-same : (l limits : Limits) → l ≡ limits → l.count ≡ limits.count
+count-same l limits e = ap (λ (k : Limits). k.count) e
 
-million : (l : Limits) → l ≡ usual → l.turns ≡ 1000000
-million l e = ap (λ k. k.turns) e
+turns-same : (l limits : Limits) → l ≡ limits → l.turns ≡ limits.turns
+turns-same l limits e = ap (λ (k : Limits). k.turns) e
 
 turns-none : (ending : Option Told) (e : Told) → ending ≡ None → e ≡ told.TurnLimit → turns_by ending (answer.Finished e) ≡ 0
 turns-none ending e none is = ap (λ o. turns_by o (answer.Finished e)) none ∙ ap (λ f. turns_of f) is
@@ -170,26 +171,26 @@ pub turns-one : (ending : Option Told) (a : Answer) → ending ≡ None → turn
 turns-one ending a none one = ap (λ o. turns_by o a) none ∙ one
 
 -- a drawing that ended in this turn has come to its end
-pub at-end : (s : Spec) (x : Fraction) (F : ℕ) (table : (level node : ℕ) → Bounds) (source : TapeSource) (contents : List ℕ → Option (List ℕ)) (old new : List ℕ → ℕ) (d now : DrawingState) (start used : ℕ) (e : Told) → TellsTurn s x F table source contents old new d now start used (answer.Finished e) → IsCounted d (answer.Finished e) now → ((answer.Finished e ≡ answer.Finished told.Done) → d.kept ≡ d.limits.count) → ((answer.Finished e ≡ answer.Finished told.TurnLimit) → d.turns ≡ d.limits.turns) → TellsOpen table (answer.Finished e) → (before : List ℕ → ℕ) → ((name : List ℕ) → before name ≤ old name) → (lines : List ℕ) → IsSoFar s x F table (met source contents before old) d start lines → IsAtEnd s x F table (met source contents before new) now used lines e
-at-end s x F table source contents old new d now start used e h counted done turn_limit tells_open before below lines p = record {
-  so_far = subst (IsSoFar s x F table (met source contents before new) now used) (append-nil lines) (so-far-on s x F table source contents old new d now start used (answer.Finished e) h before below lines [] refl p);
+pub at-end : (s : Spec) (x : Fraction) (F : ℕ) (table : (level node : ℕ) → Bounds) (limits : Limits) (source : TapeSource) (contents : List ℕ → Option (List ℕ)) (old new : List ℕ → ℕ) (d now : DrawingState) (start used : ℕ) (e : Told) → TellsTurn s x F table limits source contents old new d now start used (answer.Finished e) → IsCounted d (answer.Finished e) now → ((answer.Finished e ≡ answer.Finished told.Done) → d.kept ≡ d.limits.count) → ((answer.Finished e ≡ answer.Finished told.TurnLimit) → d.turns ≡ d.limits.turns) → TellsOpen table (answer.Finished e) → (before : List ℕ → ℕ) → ((name : List ℕ) → before name ≤ old name) → (lines : List ℕ) → IsSoFar s x F table limits (met source contents before old) d start lines → IsAtEnd s x F table limits (met source contents before new) now used lines e
+at-end s x F table limits source contents old new d now start used e h counted done turn_limit tells_open before below lines p = record {
+  so_far = subst (IsSoFar s x F table limits (met source contents before new) now used) (append-nil lines) (so-far-on s x F table limits source contents old new d now start used (answer.Finished e) h before below lines [] refl p);
   ended = counted.ending;
-  kept = λ is. let all = done (ap answer.Finished is) in let one = count-one d.limits h.limits in let same = counted.kept in omega (arith, all, one, same);
-  out_of_turns = λ is. let all = turn_limit (ap answer.Finished is) in let most = million d.limits h.limits in let same = counted.turns in let none = turns-none d.ending e h.goes_on is in omega (arith, all, most, same, none);
+  kept = λ is. let all = done (ap answer.Finished is) in let one = count-same d.limits limits h.within in let same = counted.kept in omega (arith, all, one, same);
+  out_of_turns = λ is. let all = turn_limit (ap answer.Finished is) in let most = turns-same d.limits limits h.within in let same = counted.turns in let none = turns-none d.ending e h.goes_on is in omega (arith, all, most, same, none);
   failed = λ is. failed-since source before old new below (h.cause (ap answer.Finished is));
   open_is = open-told table e tells_open;
 }
 
 -- a drawing that goes on can make another turn
-pub can-turn-on : (s : Spec) (x : Fraction) (F : ℕ) (table : (level node : ℕ) → Bounds) (source : TapeSource) (contents : List ℕ → Option (List ℕ)) (old new : List ℕ → ℕ) (d now : DrawingState) (before_tape tape : TapeState) (a : Answer) → TellsTurn s x F table source contents old new d now before_tape.used tape.used a → CanTurn s x contents d before_tape → IsCounted d a now → turns_by None a ≡ 1 → ending_by d.ending a ≡ d.ending → DrawingBelongs s x now → Belongs contents tape → CanTurn s x contents now tape × (now.turns ≡ d.turns + 1)
-can-turn-on s x F table source contents old new d now before_tape tape a h can counted one same belongs ahead = (
+pub can-turn-on : (s : Spec) (x : Fraction) (F : ℕ) (table : (level node : ℕ) → Bounds) (limits : Limits) (source : TapeSource) (contents : List ℕ → Option (List ℕ)) (old new : List ℕ → ℕ) (d now : DrawingState) (before_tape tape : TapeState) (a : Answer) → TellsTurn s x F table limits source contents old new d now before_tape.used tape.used a → CanTurn s x contents limits d before_tape → IsCounted d a now → turns_by None a ≡ 1 → ending_by d.ending a ≡ d.ending → DrawingBelongs s x now → Belongs contents tape → CanTurn s x contents limits now tape × (now.turns ≡ d.turns + 1)
+can-turn-on s x F table limits source contents old new d now before_tape tape a h can counted one same belongs ahead = (
   record {
     sound = can.sound;
     belongs = belongs;
-    limits = counted.limits ∙ can.limits;
+    within = counted.limits ∙ can.within;
     goes_on = counted.ending ∙ same ∙ can.goes_on;
     ahead = ahead;
-    so_far = course-on s x F table source contents old new d now before_tape.used tape.used a h can.so_far;
+    so_far = course-on s x F table limits source contents old new d now before_tape.used tape.used a h can.so_far;
   },
   counted.turns ∙ ap (λ n. d.turns + n) (turns-one d.ending a can.goes_on one),
 )

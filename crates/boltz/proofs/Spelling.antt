@@ -1,15 +1,15 @@
 -- The cells of a course spell the bits of the tape: what a draw, a visit and a turn add.
-use Rattle.std.proofs.Common.{◌≡◌, ◌≢◌, ℕ, zero, suc, ◌+◌, ◌-◌, ◌*◌, ◌/◌, ◌%◌, ◌^◌, ◌<◌, ◌≤◌, arith, Bool, true, false, cond, List, [], ◌∷◌, ◌++◌, length, append-nil, length-append, refl, sym, ◌∙◌, ap, subst}
-use Rattle.std.specs.Prelude.{Option, Some, None, eqb, nat_eq, nat_lt}
+use Rattle.std.proofs.Common.{◌≡◌, ℕ, zero, suc, ◌+◌, ◌*◌, ◌/◌, ◌%◌, ◌^◌, ◌<◌, ◌≤◌, arith, Bool, true, false, cond, List, [], ◌∷◌, ◌++◌, length, append-nil, refl, sym, ◌∙◌, ap, subst}
+use Rattle.std.specs.Prelude.{Option, Some, None, eqb, nat_lt}
 use Rattle.std.proofs.Math.Nat.{pow-succ', div-one}
 use Rattle.std.proofs.lemmas.Nat.{pow_pos, mod_below, div-add-mod', div-mul-add}
 use Rattle.std.proofs.lemmas.List.{append_assoc}
 use Rattle.bz_model.specs.declared.cell.Cell.{Cell}
-use Rattle.bz_model.specs.Spec.{Mode, Node, node_at}
+use Rattle.bz_model.specs.Spec.{Node}
 use Rattle.bz_model.specs.Cell.{bits_of, spelled}
 use Rattle.choice_draw.specs.Decision.{Choice}
 use Rattle.choice_draw.specs.Draw.{Bit, Draw, bit_or_end, bit_of, bit_number, halved, draw_from, draw}
-use Rattle.shape_sampler.specs.Visit.{Chooser, Attempt, Visited, visit, visit_among, node_visited, after_draw, union_answered, counted_answered, room_for, atom_visited, begun}
+use Rattle.shape_sampler.specs.Visit.{Chooser, Attempt, Visited, node_visited, after_draw, union_answered, counted_answered, room_for, atom_visited}
 use Rattle.boltz.specs.Spelling.{HasBits}
 
 -- bits one after the other

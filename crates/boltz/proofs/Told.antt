@@ -13,17 +13,18 @@ use Rattle.well_founded.specs.Foundedness as leads
 use Rattle.well_founded.specs.Examination.{TellsCause}
 use Rattle.well_founded.specs.declared.cause.UnfoundedCause.{UnfoundedCause}
 use Rattle.well_founded.specs.declared.cause.UnfoundedCause.TheVariants.{NoObject, ZeroPart, ZeroLoop, OutOfMemory}
-use Rattle.boltz.specs.Answers.{World, file_of, IsAsked, IsAccepted, Answers, Sampled, tape_of, spec_text}
+use Rattle.boltz.specs.Answers.{World, file_of, IsAsked, IsAccepted, Answers, usual, tape_of, spec_text}
 use Rattle.boltz.specs.Answers as answers
 use Rattle.boltz.specs.Bounded.{Bounded}
-use Rattle.rounded_map.specs.RoundedMap.{setting}
-use Rattle.boltz.specs.Drawn.{TapeMet, IsCourseOver, IsReported}
+use Rattle.oracle_memo.specs.Levels.{level_bounds}
+use Rattle.rounded_map.specs.RoundedMap.{Setting, setting}
+use Rattle.boltz.specs.Drawn.{TapeMet, IsCourseOver, IsReported, Sampled}
+use Rattle.boltz.specs.Drawn as drawn
 use Rattle.boltz.specs.UnderWay.{met}
 use Rattle.bit_tape.specs.Tape.{TapeSource, bits_of, HasFault}
 use Rattle.boltz.specs.Reads.{IsMet}
 use Rattle.bz_model.specs.declared.cell.Bounds.{Bounds}
-use Rattle.plain_table.specs.PlainTable.{plain_bounds}
-use Rattle.size_window.specs.RunByBits.{Course}
+use Rattle.size_window.specs.RunByBits.{Limits, Course}
 use Rattle.boltz.specs.Refusals.{words_line, read_line, text_line, cause_line, IsNamed}
 use Rattle.boltz.specs.Words.{Command, Names, NamesNone}
 use Rattle.boltz.specs.declared.status.Status.{Status}
@@ -58,12 +59,12 @@ pub failed-since : (source : TapeSource) (earlier before now : List ℕ → ℕ)
 failed-since (TapeSource.Named name) earlier before now h rose = rose-earlier (earlier name) (before name) (now name) (h name) rose
 failed-since (TapeSource.Seeded seed) earlier before now h never = never
 
-over-since : (s : Spec) (F : ℕ) (table : (level node : ℕ) → Bounds) (t : TapeMet) (earlier : List ℕ → ℕ) (c : Course) → ((name : List ℕ) → earlier name ≤ t.before name) → (bits : Option (ℕ → Option Bool)) → IfSome bits (IsCourseOver s F table t c) → IfSome bits (IsCourseOver s F table (since t earlier) c)
-over-since s F table t earlier c h None over = tt
-over-since s F table t earlier c h (Some bits) over = record { turns = over.turns; faults = over.faults; caused = λ n given is. failed-since t.source earlier t.before t.now h (over.caused n given is); same = over.same }
+over-since : (s : Spec) (F : ℕ) (table : (level node : ℕ) → Bounds) (limits : Limits) (t : TapeMet) (earlier : List ℕ → ℕ) (c : Course) → ((name : List ℕ) → earlier name ≤ t.before name) → (bits : Option (ℕ → Option Bool)) → IfSome bits (IsCourseOver s F table limits t c) → IfSome bits (IsCourseOver s F table limits (since t earlier) c)
+over-since s F table limits t earlier c h None over = tt
+over-since s F table limits t earlier c h (Some bits) over = record { turns = over.turns; faults = over.faults; caused = λ n given is. failed-since t.source earlier t.before t.now h (over.caused n given is); same = over.same }
 
-reported-since : (s : Spec) (num den F : ℕ) (table : (level node : ℕ) → Bounds) (t : TapeMet) (earlier : List ℕ → ℕ) (status : Status) (text : List ℕ) → ((name : List ℕ) → earlier name ≤ t.before name) → IsReported s num den F table t status text → IsReported s num den F table (since t earlier) status text
-reported-since s num den F table t earlier status text h r = record {
+reported-since : (a : Setting) (base : List ℕ) (limits : Limits) (t : TapeMet) (earlier : List ℕ → ℕ) (status : Status) (text : List ℕ) → ((name : List ℕ) → earlier name ≤ t.before name) → IsReported a base limits t status text → IsReported a base limits (since t earlier) status text
+reported-since a base limits t earlier status text h r = record {
   course = r.course;
   ending = r.ending;
   told = r.told;
@@ -73,21 +74,23 @@ reported-since s num den F table t earlier status text h r = record {
     follows = r.drawn.follows;
     kept = r.drawn.kept;
     out_of_turns = r.drawn.out_of_turns;
-    by_bits = over-since s F table t earlier r.course h (bits_of t.source t.contents) r.drawn.by_bits;
+    by_bits = over-since a.spec a.bits (level_bounds a base) limits t earlier r.course h (bits_of t.source t.contents) r.drawn.by_bits;
     spells = r.drawn.spells;
     failed = λ e. failed-since t.source earlier t.before t.now h (r.drawn.failed e);
   };
 }
 
-sampled-since : (s : Spec) (num den : ℕ) (t : TapeMet) (earlier : List ℕ → ℕ) (status : Status) (text : List ℕ) → ((name : List ℕ) → earlier name ≤ t.before name) → Sampled s num den t status text → Sampled s num den (since t earlier) status text
-sampled-since s num den t earlier status text h (answers.not_yet not_yet e f) = answers.not_yet not_yet e f
-sampled-since s num den t earlier status text h (answers.drawn first small r) = answers.drawn first small (reported-since s num den 48 (plain_bounds s num den) t earlier status text h r)
+sampled-since : (a : Setting) (limits : Limits) (t : TapeMet) (earlier : List ℕ → ℕ) (status : Status) (text : List ℕ) → ((name : List ℕ) → earlier name ≤ t.before name) → Sampled a limits t status text → Sampled a limits (since t earlier) status text
+sampled-since a limits t earlier status text h (drawn.drawn base has r) = drawn.drawn base has (reported-since a base limits t earlier status text h r)
+sampled-since a limits t earlier status text h (drawn.no_base trials lacks e f) = drawn.no_base trials lacks e f
 
-pub told_sampled : (w : World) (content : List ℕ → Option (List ℕ)) (before after : List ℕ → ℕ) (file tape read : List ℕ) (num den : ℕ) (s : Spec) (status : Status) (text : List ℕ) → IsMet w content before after → IsAsked w (Command.Sample file num den tape) read → IsAccepted read s → IsWellFounded s → Sampled s num den (met (TapeSource.Named tape) content before after) status text → Answers w status text
+pub told_sampled : (w : World) (content : List ℕ → Option (List ℕ)) (before after : List ℕ → ℕ) (file tape read : List ℕ) (num den : ℕ) (s : Spec) (status : Status) (text : List ℕ) → IsMet w content before after → IsAsked w (Command.Sample file num den tape) read → IsAccepted read s → IsWellFounded s → Sampled (setting s num den 48) usual (met (TapeSource.Named tape) content before after) status text → Answers w status text
 told_sampled w content before after file tape read num den s status text m asked accepted founded done =
-    let moved = sampled-since s num den (met (TapeSource.Named tape) content before after) w.before status text m.no_higher done in
-    let at_end : Sampled s num den (met (TapeSource.Named tape) content w.before w.after) status text = subst (λ n. Sampled s num den (met (TapeSource.Named tape) content w.before n) status text) (sym m.at_end) moved in
-    let there : Sampled s num den (tape_of w tape) status text = subst (λ o. Sampled s num den (met (TapeSource.Named tape) o w.before w.after) status text) (sym m.contents) at_end in
+    let source = TapeSource.Named tape in
+    let a = setting s num den 48 in
+    let moved = sampled-since a usual (met source content before after) w.before status text m.no_higher done in
+    let at_end : Sampled a usual (met source content w.before w.after) status text = subst (λ n. Sampled a usual (met source content w.before n) status text) (sym m.at_end) moved in
+    let there : Sampled a usual (tape_of w source) status text = subst (λ o. Sampled a usual (met source o w.before w.after) status text) (sym m.contents) at_end in
     answers.sampled file tape read num den s asked accepted founded there
 
 -- the class of a step has a body

@@ -1,5 +1,5 @@
 -- What the program answers, and where each answer comes.
-use Rattle.std.specs.Prelude.{◌≡◌, ◌≢◌, ℕ, ◌<◌, ◌≤◌, ◌⊎◌, true, false, List, ◌++◌, length, take, Option, IfSome}
+use Rattle.std.specs.Prelude.{◌≡◌, ◌≢◌, ℕ, ◌≤◌, List, ◌++◌, length, take, Option, IfSome}
 use Rattle.bz_model.specs.Spec.{Spec}
 use Rattle.bz_model.specs.WellFounded.{IsWellFounded}
 use Rattle.bz_outside.specs.Outside.{Rose, Appends, AppendsFront}
@@ -10,13 +10,12 @@ use Rattle.spec_reader.specs.Reading.{Grammar, Refuses}
 use Rattle.spec_reader.specs.declared.fault.SpecFault.{SpecFault}
 use Rattle.well_founded.specs.Examination.{TellsCause}
 use Rattle.well_founded.specs.declared.cause.UnfoundedCause.{UnfoundedCause}
-use Rattle.plain_table.specs.FirstForm.{is_first_form}
-use Rattle.plain_table.specs.PlainTable.{plain_bounds}
 use Rattle.rounded_map.specs.RoundedMap.{setting}
 use Rattle.boltz.specs.Bounded.{Bounded}
-use Rattle.boltz.specs.Drawn.{TapeMet, IsReported}
+use Rattle.size_window.specs.RunByBits.{Limits}
+use Rattle.boltz.specs.Drawn.{TapeMet, Sampled}
 use Rattle.boltz.specs.Lines.{spec_end_line}
-use Rattle.boltz.specs.Refusals.{words_line, read_line, not_yet_line, text_line, cause_line}
+use Rattle.boltz.specs.Refusals.{words_line, read_line, text_line, cause_line}
 use Rattle.boltz.specs.Words.{Command, Names, NamesNone}
 use Rattle.boltz.specs.declared.status.Status.{Status}
 
@@ -44,22 +43,17 @@ pub record IsAccepted (read : List ℕ) (s : Spec) : Type 0 where
   pub stands : Grammar read s
   pub within : IsWithinLimits s
 
--- The specifications and fractions that aren't drawn from yet: those that aren't of the first form, and fractions above 1.
-abbrev pub IsNotYet : Spec → (num den : ℕ) → Type 0
-IsNotYet s num den = (is_first_form s ≡ false) ⊎ (den < num)
-
 -- A specification in its canonical form.
 abbrev pub spec_text : Spec → List ℕ
 spec_text s = canonical_text s ++ spec_end_line (length s.names) (length s.nodes)
 
--- The tape of this name.
-abbrev pub tape_of : World → (name : List ℕ) → TapeMet
-tape_of w name = record { source = TapeSource.Named name; contents = w.content; before = w.before; now = w.after }
+-- Where no other limits are asked for, one object of at most 1000 atoms is drawn, within a million turns.
+abbrev pub usual : Limits
+usual = record { min = 0; max = 1000; count = 1; turns = 1000000 }
 
--- What becomes of a command that draws from a well-founded specification within the limits: it is left for later, or it reports a drawing over the tape.
-pub data Sampled (s : Spec) (num den : ℕ) (t : TapeMet) (status : Status) (text : List ℕ) : Type 0 where
-  not_yet : IsNotYet s num den → status ≡ Status.SpecRefused → text ≡ not_yet_line → Sampled s num den t status text
-  drawn : is_first_form s ≡ true → num ≤ den → IsReported s num den 48 (plain_bounds s num den) t status text → Sampled s num den t status text
+-- A tape in this call.
+abbrev pub tape_of : World → TapeSource → TapeMet
+tape_of w source = record { source = source; contents = w.content; before = w.before; now = w.after }
 
 -- An answer with the text that it writes, and where it comes.
 pub data Answers (w : World) : Status → List ℕ → Type 0 where
@@ -75,8 +69,8 @@ pub data Answers (w : World) : Status → List ℕ → Type 0 where
   printed : {text : List ℕ} → (file read : List ℕ) (s : Spec) → IsAsked w (Command.Spec file) read → IsAccepted read s → IsWellFounded s → text ≡ spec_text s → Answers w Status.Done text
   -- the classes are bounded, or no base is found
   bounded : {status : Status} {text : List ℕ} → (file read : List ℕ) (num den : ℕ) (s : Spec) → IsAsked w (Command.Oracle file num den) read → IsAccepted read s → IsWellFounded s → Bounded (setting s num den 48) status text → Answers w status text
-  -- objects are drawn, or nothing is drawn yet from such a specification or at such a fraction
-  sampled : {status : Status} {text : List ℕ} → (file tape read : List ℕ) (num den : ℕ) (s : Spec) → IsAsked w (Command.Sample file num den tape) read → IsAccepted read s → IsWellFounded s → Sampled s num den (tape_of w tape) status text → Answers w status text
+  -- objects are drawn, or no base is found
+  sampled : {status : Status} {text : List ℕ} → (file tape read : List ℕ) (num den : ℕ) (s : Spec) → IsAsked w (Command.Sample file num den tape) read → IsAccepted read s → IsWellFounded s → Sampled (setting s num den 48) usual (tape_of w (TapeSource.Named tape)) status text → Answers w status text
 
 -- What the sink tells before a call and after it, with its counts of failed writes.
 pub record Output : Type 0 where

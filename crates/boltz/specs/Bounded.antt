@@ -5,13 +5,9 @@ use Rattle.newton_upper.specs.BaseRule.{base_of, HasNoUpper}
 use Rattle.newton_upper.specs.declared.trials.Trial.{Trial}
 use Rattle.oracle_memo.specs.Levels.{level_down, level_up}
 use Rattle.rounded_map.specs.RoundedMap.{Setting}
-use Rattle.boltz.specs.Lines.{class_name, certified_header, base_line, level_line, lines_below, levels_end_line}
+use Rattle.boltz.specs.Lines.{class_name, certified_header, base_lines, level_line, lines_below, levels_end_line}
 use Rattle.boltz.specs.Refusals.{no_upper_text}
 use Rattle.boltz.specs.declared.status.Status.{Status}
-
--- The line of a class in the base.
-abbrev pub class_base : Spec → (base : List ℕ) → (class : ℕ) → List ℕ
-class_base s base c = base_line (class_name s c) (slice_index base c)
 
 -- The line of a class at a level with these class vectors.
 abbrev pub class_level : Spec → (level : ℕ) → (lower upper : List ℕ) → (class : ℕ) → List ℕ
@@ -29,7 +25,7 @@ level_after t base before = level_lines t base (suc before)
 abbrev pub bounded_text : Setting → (base : List ℕ) → List ℕ
 bounded_text t base =
     certified_header t.spec t.num t.den t.bits
-    ++ (lines_below (class_base t.spec base) (length t.spec.bodies)
+    ++ (base_lines t.spec base
     ++ (lines_below (level_after t base) 6
     ++ levels_end_line))
 

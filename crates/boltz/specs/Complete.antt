@@ -1,15 +1,14 @@
 -- When the answer is certain: what is certain to be printed, to be refused, to be bounded, and to be drawn.
-use Rattle.std.specs.Prelude.{◌≡◌, ℕ, ◌≤◌, true, List, take, Some, None}
+use Rattle.std.specs.Prelude.{◌≡◌, ℕ, List, take, Some, None}
 use Rattle.bz_model.specs.Spec.{Spec}
 use Rattle.bz_model.specs.WellFounded.{IsWellFounded}
 use Rattle.bz_outside.specs.Outside.{Rose}
 use Rattle.bit_tape.specs.Bits.{file_bit}
-use Rattle.plain_table.specs.FirstForm.{is_first_form}
-use Rattle.plain_table.specs.PlainTable.{plain_bounds}
 use Rattle.newton_upper.specs.BaseRule.{base_of}
-use Rattle.rounded_map.specs.RoundedMap.{setting}
-use Rattle.size_window.specs.RunByBits.{Course, Ending, after}
-use Rattle.boltz.specs.Answers.{World, file_of, IsAccepted, IsNotYet}
+use Rattle.oracle_memo.specs.Levels.{level_bounds}
+use Rattle.rounded_map.specs.RoundedMap.{Setting, setting}
+use Rattle.size_window.specs.RunByBits.{Limits, Course, Ending, after}
+use Rattle.boltz.specs.Answers.{World, file_of, IsAccepted, usual}
 use Rattle.boltz.specs.Drawn.{sampling}
 use Rattle.boltz.specs.Words.{Command, Names}
 
@@ -44,33 +43,21 @@ pub record IsBoundable (w : World) (s : Spec) (num den : ℕ) (base : List ℕ) 
   pub fit : IsFit w (Command.Oracle file num den) s
   pub has_base : base_of (setting s num den 48) ≡ Some base
 
--- The words ask to bound the classes of a specification at an x without a base.
-pub record IsBaseless (w : World) (s : Spec) (num den : ℕ) : Type 0 where
-  pub file : List ℕ
-  pub fit : IsFit w (Command.Oracle file num den) s
-  pub no_base : base_of (setting s num den 48) ≡ None
+-- The words ask to bound the classes of a specification at an x without a base, or to draw from it there.
+pub data IsBaseless (w : World) (s : Spec) (num den : ℕ) : Type 0 where
+  to_bound : (file : List ℕ) → IsFit w (Command.Oracle file num den) s → base_of (setting s num den 48) ≡ None → IsBaseless w s num den
+  to_draw : (file tape : List ℕ) → IsFit w (Command.Sample file num den tape) s → base_of (setting s num den 48) ≡ None → IsBaseless w s num den
 
--- The words ask to draw from a specification, or at a fraction, that isn't drawn from yet.
-pub record IsBeyond (w : World) : Type 0 where
-  pub file : List ℕ
-  pub num : ℕ
-  pub den : ℕ
-  pub tape : List ℕ
-  pub s : Spec
-  pub fit : IsFit w (Command.Sample file num den tape) s
-  pub not_yet : IsNotYet s num den
+-- The course of so many turns over the levels of a base and the bits of these bytes, where no read fails.
+abbrev pub undisturbed : Setting → (base : List ℕ) → Limits → (bytes : List ℕ) → (turns : ℕ) → Course
+undisturbed t base limits bytes turns = after (sampling t.spec t.bits (level_bounds t base) limits (file_bit bytes)) (λ n. None) turns
 
--- The course of so many turns over the bits of these bytes, where no read fails.
-abbrev pub undisturbed : Spec → (num den : ℕ) → (bytes : List ℕ) → (turns : ℕ) → Course
-undisturbed s num den bytes turns = after (sampling s 48 (plain_bounds s num den) (file_bit bytes)) (λ n. None) turns
-
--- The words ask to draw from a specification of the first form at a fraction of at most 1, the tape is told to have these bytes, no read of it failed in the call, and over its bits the course of so many turns comes to this end.
-pub record IsDrawable (w : World) (s : Spec) (num den : ℕ) (bytes : List ℕ) (turns : ℕ) (ending : Ending) : Type 0 where
+-- The words ask to draw from a specification at an x with this base, the tape is told to have these bytes, no read of it failed in the call, and over its bits the course of so many turns comes to this end.
+pub record IsDrawable (w : World) (s : Spec) (num den : ℕ) (base bytes : List ℕ) (turns : ℕ) (ending : Ending) : Type 0 where
   pub file : List ℕ
   pub tape : List ℕ
   pub fit : IsFit w (Command.Sample file num den tape) s
-  pub first_form : is_first_form s ≡ true
-  pub small : num ≤ den
+  pub has_base : base_of (setting s num den 48) ≡ Some base
   pub tape_told : w.content tape ≡ Some bytes
   pub no_fault : ¬ (Rose (w.before tape) (w.after tape))
-  pub ends : (undisturbed s num den bytes turns).state.ending ≡ Some ending
+  pub ends : (undisturbed (setting s num den 48) base usual bytes turns).state.ending ≡ Some ending

@@ -1,5 +1,5 @@
 -- Drawings: what they are functions of, why they end, and what they write.
-use Rattle.std.specs.Prelude.{◌≡◌, ℕ, Bool, List, [], ◌∷◌, ◌++◌, Option, Some, None, IfSome, codes}
+use Rattle.std.specs.Prelude.{◌≡◌, ℕ, Bool, List, [], ◌∷◌, ◌++◌, Option, Some, IfSome, codes}
 use Rattle.bz_model.specs.Fraction.{Fraction, ratio}
 use Rattle.bz_model.specs.Spec.{Spec}
 use Rattle.bz_model.specs.ObjectText.{object_text}
@@ -11,16 +11,17 @@ use Rattle.size_window.specs.Ideally.{chooser_of}
 use Rattle.well_founded.specs.EmptyObjects.{has_empty}
 use Rattle.size_window.specs.Follows.{Follows}
 use Rattle.boltz.specs.Spelling.{Spells}
-use Rattle.boltz.specs.Lines.{header_lines, entry_lines, open_line, end_line}
+use Rattle.newton_upper.specs.BaseRule.{base_of, HasNoUpper}
+use Rattle.newton_upper.specs.declared.trials.Trial.{Trial}
+use Rattle.oracle_memo.specs.Levels.{level_bounds}
+use Rattle.rounded_map.specs.RoundedMap.{Setting}
+use Rattle.boltz.specs.Lines.{certified_header, window_line, base_lines, entry_lines, open_line, open_label_line, end_line}
+use Rattle.boltz.specs.Refusals.{no_upper_text}
 use Rattle.boltz.specs.declared.status.Status.{Status}
 
--- One object of at most 1000 atoms is drawn, within a million turns.
-abbrev pub usual : Limits
-usual = record { min = 0; max = 1000; count = 1; turns = 1000000 }
-
--- A drawing is a function of the specification, a table of bounds of its nodes in units of 2^-F, and the bits of the tape.
-abbrev pub sampling : Spec → (F : ℕ) → (table : (level node : ℕ) → Bounds) → (bits : ℕ → Option Bool) → Sampling
-sampling s F table bits = record { chooser = chooser_of s F table (has_empty s); limits = usual; tape = bits }
+-- A drawing is a function of the specification, a table of bounds of its nodes in units of 2^-F, the limits, and the bits of the tape.
+abbrev pub sampling : Spec → (F : ℕ) → (table : (level node : ℕ) → Bounds) → Limits → (bits : ℕ → Option Bool) → Sampling
+sampling s F table limits bits = record { chooser = chooser_of s F table (has_empty s); limits = limits; tape = bits }
 
 -- A tape as a call meets it: where its bits come from, the contents of the files where they are told, and the counts of failed reads of each name when the call began and now.
 pub record TapeMet : Type 0 where
@@ -34,20 +35,20 @@ abbrev pub HasFailed : TapeMet → Type 0
 HasFailed t = HasFault t.source t.before t.now
 
 -- A course is that of so many turns over these bits. The shelf failed in a turn only if a read of the tape failed in the call.
-pub record IsCourseOver (s : Spec) (F : ℕ) (table : (level node : ℕ) → Bounds) (t : TapeMet) (c : Course) (bits : ℕ → Option Bool) : Type 0 where
+pub record IsCourseOver (s : Spec) (F : ℕ) (table : (level node : ℕ) → Bounds) (limits : Limits) (t : TapeMet) (c : Course) (bits : ℕ → Option Bool) : Type 0 where
   pub turns : ℕ
   pub faults : ℕ → Option ℕ
   pub caused : (n given : ℕ) → faults n ≡ Some given → HasFailed t
-  pub same : c ≡ after (sampling s F table bits) faults turns
+  pub same : c ≡ after (sampling s F table limits bits) faults turns
 
--- A course has come to its end. It follows the ideal run: for all numbers in its cells that run keeps the objects of its entries. Where the tape's bits are told, it is the course over them, and its cells spell the first of them, as many as were used, but for those of a number that was still open. Done comes only where the object is kept, the limit of turns only where a million were made, and a failed read only if a read of the tape failed in the call.
-pub record IsDrawn (s : Spec) (x : Fraction) (F : ℕ) (table : (level node : ℕ) → Bounds) (t : TapeMet) (c : Course) (ending : Ending) : Type 0 where
+-- A course has come to its end. It follows the ideal run: for all numbers in its cells that run keeps the objects of its entries. Where the tape's bits are told, it is the course over them, and its cells spell the first of them, as many as were used, but for those of a number that was still open. Done comes only where as many objects as wanted are kept, the limit of turns only where as many were made, and a failed read only if a read of the tape failed in the call.
+pub record IsDrawn (s : Spec) (x : Fraction) (F : ℕ) (table : (level node : ℕ) → Bounds) (limits : Limits) (t : TapeMet) (c : Course) (ending : Ending) : Type 0 where
   pub ended : c.state.ending ≡ Some ending
-  pub follows : Follows s x usual c
-  pub by_bits : IfSome (bits_of t.source t.contents) (IsCourseOver s F table t c)
+  pub follows : Follows s x limits c
+  pub by_bits : IfSome (bits_of t.source t.contents) (IsCourseOver s F table limits t c)
   pub spells : IfSome (bits_of t.source t.contents) (Spells c)
-  pub kept : ending ≡ Ending.Done → c.state.kept ≡ 1
-  pub out_of_turns : ending ≡ Ending.TurnLimit → c.state.turns ≡ 1000000
+  pub kept : ending ≡ Ending.Done → c.state.kept ≡ limits.count
+  pub out_of_turns : ending ≡ Ending.TurnLimit → c.state.turns ≡ limits.turns
   pub failed : ending ≡ Ending.ReadFault → HasFailed t
 
 -- The lines of an entry tell its number, place and size, its object's text, and its cells.
@@ -76,21 +77,31 @@ ending_status (Ending.Undecided left_open) = Status.Undecided
 ending_status Ending.TurnLimit = Status.TurnLimit
 ending_status Ending.ReadFault = Status.ReadFault
 
--- The line of a number that was left open at a node, with the node's bounds at level 6. Other endings have none.
+-- The line of a number that was left open: at a node, with the node's bounds at level 6, or for a label. Other endings have none.
 abbrev pub open_lines : (table : (level node : ℕ) → Bounds) → Ending → List ℕ
 open_lines table (Ending.Undecided (Open.AtNode node cell)) = open_line node cell (table 6 node)
+open_lines table (Ending.Undecided (Open.AtLabel m cell)) = open_label_line m cell
 open_lines table ending = []
 
--- The text of a drawing: the header, the lines of its entries, and how it ended.
-pub record IsDrawnText (s : Spec) (num den : ℕ) (table : (level node : ℕ) → Bounds) (c : Course) (ending : Ending) (text : List ℕ) : Type 0 where
-  pub entries : List ℕ
-  pub lists : Lists s c.entries entries
-  pub same : text ≡ header_lines num den ++ (entries ++ (open_lines table ending ++ end_line (ending_word ending) c.state.kept c.state.thrown c.state.attempt.used c.state.turns))
+-- The lines before the first object: the header, the window of sizes, and the base.
+abbrev pub drawn_header : Setting → (base : List ℕ) → Limits → List ℕ
+drawn_header t base limits = certified_header t.spec t.num t.den t.bits ++ (window_line limits.min limits.max ++ base_lines t.spec base)
 
--- What a drawing reports: a course that has come to its end, its text, and the answer for that end.
-pub record IsReported (s : Spec) (num den F : ℕ) (table : (level node : ℕ) → Bounds) (t : TapeMet) (status : Status) (text : List ℕ) : Type 0 where
+-- The text of a drawing over the levels of a base: the header, the lines of its entries, and how it ended.
+pub record IsDrawnText (t : Setting) (base : List ℕ) (limits : Limits) (c : Course) (ending : Ending) (text : List ℕ) : Type 0 where
+  pub entries : List ℕ
+  pub lists : Lists t.spec c.entries entries
+  pub same : text ≡ drawn_header t base limits ++ (entries ++ (open_lines (level_bounds t base) ending ++ end_line (ending_word ending) c.state.kept c.state.thrown c.state.attempt.used c.state.turns))
+
+-- What a drawing over the levels of a base reports: a course that has come to its end, its text, and the answer for that end.
+pub record IsReported (t : Setting) (base : List ℕ) (limits : Limits) (tape : TapeMet) (status : Status) (text : List ℕ) : Type 0 where
   pub course : Course
   pub ending : Ending
-  pub drawn : IsDrawn s (ratio num den) F table t course ending
-  pub told : IsDrawnText s num den table course ending text
+  pub drawn : IsDrawn t.spec (ratio t.num t.den) t.bits (level_bounds t base) limits tape course ending
+  pub told : IsDrawnText t base limits course ending text
   pub answer : status ≡ ending_status ending
+
+-- What becomes of a command that draws from a well-founded specification within the limits: where there is a base, a drawing over its levels is reported, and where there is none, the proposals are told.
+pub data Sampled (t : Setting) (limits : Limits) (tape : TapeMet) (status : Status) (text : List ℕ) : Type 0 where
+  drawn : (base : List ℕ) → base_of t ≡ Some base → IsReported t base limits tape status text → Sampled t limits tape status text
+  no_base : (trials : List Trial) → HasNoUpper t trials → status ≡ Status.NoUpper → text ≡ no_upper_text t.spec t.bits trials → Sampled t limits tape status text

@@ -1,5 +1,5 @@
 -- The lines that the program writes, as lists of bytes.
-use Rattle.std.specs.Prelude.{ℕ, zero, suc, List, [], ◌∷◌, ◌++◌, flat_map, decimal, codes, slice_get, unwrap_or}
+use Rattle.std.specs.Prelude.{ℕ, zero, suc, List, [], ◌∷◌, ◌++◌, length, flat_map, decimal, codes, slice_get, slice_index, unwrap_or}
 use Rattle.bz_model.specs.Spec.{Spec}
 use Rattle.bz_model.specs.declared.cell.Cell.{Cell}
 use Rattle.bz_model.specs.declared.cell.Bounds.{Bounds}
@@ -10,13 +10,6 @@ use Rattle.sha2.specs.Sha256.{sha256}
 -- A line feed.
 abbrev pub feed : List ℕ
 feed = 10 ∷ []
-
--- The lines before the first object: the format, the mode, x as it was given, the fraction bits and the window of sizes.
-abbrev pub header_lines : (num den : ℕ) → List ℕ
-header_lines num den =
-    (codes "boltzmann 1" ++ feed ++ codes "mode unlabelled" ++ feed ++ codes "x ")
-    ++ (decimal num ++ (codes "/" ++ (decimal den
-    ++ (feed ++ codes "fraction 48" ++ feed ++ codes "window 0 1000" ++ feed))))
 
 -- The first line of a kept object: its number, the place of its first bit and its size.
 abbrev pub object_line : (number place size : ℕ) → List ℕ
@@ -38,6 +31,10 @@ entry_lines number place size text cells = object_line number place size ++ (cod
 abbrev pub open_line : (node : ℕ) → Cell → Bounds → List ℕ
 open_line node cell bounds = codes "undecided node " ++ (decimal node ++ (codes " cell " ++ (decimal cell.k ++ (codes "/" ++ (decimal cell.b ++ (codes " within " ++ (decimal bounds.lo ++ (codes " " ++ (decimal bounds.hi ++ feed)))))))))
 
+-- The line of a whole number below m that 60 bits leave open, for a label.
+abbrev pub open_label_line : (m : ℕ) → Cell → List ℕ
+open_label_line m cell = codes "undecided label " ++ (decimal m ++ (codes " cell " ++ (decimal cell.k ++ (codes "/" ++ (decimal cell.b ++ feed)))))
+
 -- The last line of a drawing: why it ended, how many objects were kept and attempts thrown away, the bits used and the turns made.
 abbrev pub end_line : (word : List ℕ) → (kept thrown bits turns : ℕ) → List ℕ
 end_line word kept thrown bits turns = codes "end " ++ (word ++ (codes " kept " ++ (decimal kept ++ (codes " thrown " ++ (decimal thrown ++ (codes " bits " ++ (decimal bits ++ (codes " turns " ++ (decimal turns ++ feed)))))))))
@@ -50,7 +47,7 @@ spec_end_line classes nodes = codes "end done classes " ++ (decimal classes ++ (
 abbrev pub class_name : Spec → ℕ → List ℕ
 class_name s c = unwrap_or (slice_get s.names c) []
 
--- The lines before the bases of classes: the format, the mode, the SHA-256 digest of the canonical text in hex digits, x as it was given, and the fraction bits.
+-- The lines before the base, or before the window of a drawing: the format, the mode, the SHA-256 digest of the canonical text in hex digits, x as it was given, and the fraction bits.
 abbrev pub certified_header : Spec → (num den F : ℕ) → List ℕ
 certified_header s num den F =
     (codes "boltzmann 2" ++ feed ++ codes "mode ")
@@ -63,6 +60,14 @@ certified_header s num den F =
 abbrev pub base_line : (name : List ℕ) → (value : ℕ) → List ℕ
 base_line name value = codes "base " ++ (name ++ (codes " " ++ (decimal value ++ feed)))
 
+-- The line of a class in the base.
+abbrev pub class_base : Spec → (base : List ℕ) → (class : ℕ) → List ℕ
+class_base s base c = base_line (class_name s c) (slice_index base c)
+
+-- The line of a window of sizes.
+abbrev pub window_line : (min max : ℕ) → List ℕ
+window_line min max = codes "window " ++ (decimal min ++ (codes " " ++ (decimal max ++ feed)))
+
 -- The line of a class's lower and upper entry at a level.
 abbrev pub level_line : (level : ℕ) → (name : List ℕ) → (lo hi : ℕ) → List ℕ
 level_line level name lo hi = codes "level " ++ (decimal level ++ (codes " " ++ (name ++ (codes " " ++ (decimal lo ++ (codes " " ++ (decimal hi ++ feed)))))))
@@ -71,6 +76,10 @@ level_line level name lo hi = codes "level " ++ (decimal level ++ (codes " " ++ 
 unfoldable pub lines_below : (line : ℕ → List ℕ) → ℕ → List ℕ
 lines_below line zero = []
 lines_below line (suc n) = lines_below line n ++ line n
+
+-- The lines of the base, one for each class.
+abbrev pub base_lines : Spec → (base : List ℕ) → List ℕ
+base_lines s base = lines_below (class_base s base) (length s.bodies)
 
 -- The last line after the levels.
 abbrev pub levels_end_line : List ℕ

@@ -16,10 +16,6 @@ words_line = codes "refused words" ++ feed
 abbrev pub read_line : List ℕ
 read_line = codes "refused read" ++ feed
 
--- What is asked isn't drawn yet.
-abbrev pub not_yet_line : List ℕ
-not_yet_line = codes "refused not yet" ++ feed
-
 -- A place in a text.
 abbrev pub at_place : (line column : ℕ) → List ℕ
 at_place line column = codes " line " ++ (decimal line ++ (codes " column " ++ (decimal column ++ feed)))

@@ -6,61 +6,62 @@ use Rattle.bz_model.specs.declared.cell.Bounds.{Bounds}
 use Rattle.bit_tape.specs.Tape.{TapeState, TapeSource, Belongs, bits_of}
 use Rattle.class_system.specs.Sound.{IsSound}
 use Rattle.size_window.specs.declared.ending.Ending.{Ending}
-use Rattle.size_window.specs.declared.ending.Ending.TheVariants.{Done, TapeEnded, Undecided, TurnLimit, ReadFault}
+use Rattle.size_window.specs.declared.ending.Ending.TheVariants.{Done, Undecided, TurnLimit, ReadFault}
 use Rattle.size_window.specs.declared.ending.Straddle.TheVariants as straddle
-use Rattle.size_window.specs.RunByBits.{Course}
+use Rattle.size_window.specs.RunByBits.{Limits, Course}
 use Rattle.size_window.specs.Drawing.{DrawingState, DrawingBelongs, state_of, ending_of}
 use Rattle.size_window.specs.Follows.{Goes}
-use Rattle.boltz.specs.Drawn.{TapeMet, HasFailed, usual, IsCourseOver, Lists, open_lines}
-use Rattle.boltz.specs.Lines.{open_line}
+use Rattle.boltz.specs.Drawn.{TapeMet, HasFailed, IsCourseOver, Lists, open_lines}
+use Rattle.boltz.specs.Lines.{open_line, open_label_line}
 
 -- A tape over a shelf, in a call in which its counts stood so when it began.
 abbrev pub met : (source : TapeSource) (contents : List ℕ → Option (List ℕ)) (before now : List ℕ → ℕ) → TapeMet
 met source contents before now = record { source = source; contents = contents; before = before; now = now }
 
 -- A course so far: its state is that of a drawing, so many bits being used. It goes as ideal runs do, and where the tape is told it is the course over the tape's bits. The lines of its entries are these.
-pub record IsSoFar (s : Spec) (x : Fraction) (F : ℕ) (table : (level node : ℕ) → Bounds) (t : TapeMet) (d : DrawingState) (used : ℕ) (lines : List ℕ) : Type 0 where
+pub record IsSoFar (s : Spec) (x : Fraction) (F : ℕ) (table : (level node : ℕ) → Bounds) (limits : Limits) (t : TapeMet) (d : DrawingState) (used : ℕ) (lines : List ℕ) : Type 0 where
   pub course : Course
   pub state : course.state ≡ state_of d used
-  pub goes : Goes s x usual course
-  pub by_bits : IfSome (bits_of t.source t.contents) (IsCourseOver s F table t course)
+  pub goes : Goes s x limits course
+  pub by_bits : IfSome (bits_of t.source t.contents) (IsCourseOver s F table limits t course)
   pub lists : Lists s course.entries lines
 
 -- A drawing has a course that goes as ideal runs do, so many bits being used.
-pub record HasCourse (s : Spec) (x : Fraction) (d : DrawingState) (used : ℕ) : Type 0 where
+pub record HasCourse (s : Spec) (x : Fraction) (limits : Limits) (d : DrawingState) (used : ℕ) : Type 0 where
   pub course : Course
   pub state : course.state ≡ state_of d used
-  pub goes : Goes s x usual course
+  pub goes : Goes s x limits course
 
 -- A drawing from a sound specification over a tape can make a turn.
-pub record CanTurn (s : Spec) (x : Fraction) (contents : List ℕ → Option (List ℕ)) (d : DrawingState) (tape : TapeState) : Type 0 where
+pub record CanTurn (s : Spec) (x : Fraction) (contents : List ℕ → Option (List ℕ)) (limits : Limits) (d : DrawingState) (tape : TapeState) : Type 0 where
   pub sound : IsSound s
   pub belongs : DrawingBelongs s x d
-  pub limits : d.limits ≡ usual
+  pub within : d.limits ≡ limits
   pub goes_on : d.ending ≡ None
   pub ahead : Belongs contents tape
-  pub so_far : HasCourse s x d tape.used
+  pub so_far : HasCourse s x limits d tape.used
 
--- The line of a number that was left open, with the bounds that the ending tells. Other endings have none.
+-- The line of a number that was left open, with the bounds that the ending tells of a node. Other endings have none.
 abbrev pub told_open : Ending → List ℕ
 told_open (Undecided (straddle.Node node cell lo hi)) = open_line node.0 cell (record { lo = lo; hi = hi })
+told_open (Undecided (straddle.Label m cell)) = open_label_line m cell
 told_open _ = []
 
 -- A drawing has come to this end, and tells why.
-pub record IsAtEnd (s : Spec) (x : Fraction) (F : ℕ) (table : (level node : ℕ) → Bounds) (t : TapeMet) (d : DrawingState) (used : ℕ) (lines : List ℕ) (ending : Ending) : Type 0 where
-  pub so_far : IsSoFar s x F table t d used lines
+pub record IsAtEnd (s : Spec) (x : Fraction) (F : ℕ) (table : (level node : ℕ) → Bounds) (limits : Limits) (t : TapeMet) (d : DrawingState) (used : ℕ) (lines : List ℕ) (ending : Ending) : Type 0 where
+  pub so_far : IsSoFar s x F table limits t d used lines
   pub ended : d.ending ≡ Some ending
-  pub kept : ending ≡ Done → d.kept ≡ 1
-  pub out_of_turns : ending ≡ TurnLimit → d.turns ≡ 1000000
+  pub kept : ending ≡ Done → d.kept ≡ limits.count
+  pub out_of_turns : ending ≡ TurnLimit → d.turns ≡ limits.turns
   pub failed : ending ≡ ReadFault → HasFailed t
   pub open_is : told_open ending ≡ open_lines table (ending_of ending)
 
 -- What a turn leaves of the course: it goes on, or it has come to its end.
-abbrev pub AfterTurn : (s : Spec) (x : Fraction) (F : ℕ) (table : (level node : ℕ) → Bounds) (t : TapeMet) (d : DrawingState) (tape : TapeState) (lines : List ℕ) → Option Ending → Type 0
-AfterTurn s x F table t d tape lines None = IsSoFar s x F table t d tape.used lines
-AfterTurn s x F table t d tape lines (Some ending) = IsAtEnd s x F table t d tape.used lines ending
+abbrev pub AfterTurn : (s : Spec) (x : Fraction) (F : ℕ) (table : (level node : ℕ) → Bounds) (limits : Limits) (t : TapeMet) (d : DrawingState) (tape : TapeState) (lines : List ℕ) → Option Ending → Type 0
+AfterTurn s x F table limits t d tape lines None = IsSoFar s x F table limits t d tape.used lines
+AfterTurn s x F table limits t d tape lines (Some ending) = IsAtEnd s x F table limits t d tape.used lines ending
 
 -- Where a drawing goes on it can make another turn, and has made one more.
-abbrev pub GoesOn : (s : Spec) (x : Fraction) (contents : List ℕ → Option (List ℕ)) (before d : DrawingState) (tape : TapeState) → Option Ending → Type 0
-GoesOn s x contents before d tape None = CanTurn s x contents d tape × (d.turns ≡ before.turns + 1)
-GoesOn s x contents before d tape (Some ending) = Unit {0}
+abbrev pub GoesOn : (s : Spec) (x : Fraction) (contents : List ℕ → Option (List ℕ)) (limits : Limits) (before d : DrawingState) (tape : TapeState) → Option Ending → Type 0
+GoesOn s x contents limits before d tape None = CanTurn s x contents limits d tape × (d.turns ≡ before.turns + 1)
+GoesOn s x contents limits before d tape (Some ending) = Unit {0}

@@ -1,12 +1,11 @@
 //! Laws of answers. Each function's contract is the law; none does anything.
 ghost use Rattle.std.specs.Prelude.{◌≡◌, ℕ, List};
 ghost use Rattle.bz_model.specs.Spec.{Spec};
-ghost use Rattle.plain_table.specs.PlainTable.{plain_bounds};
 ghost use Rattle.size_window.specs.RunByBits.{Ending};
-ghost use Rattle.boltz.specs.Answers.{World, Answers, spec_text};
-ghost use Rattle.boltz.specs.Complete.{IsPrintable, IsUnfit, IsBeyond, IsDrawable, IsBoundable, IsBaseless, undisturbed};
+ghost use Rattle.boltz.specs.Answers.{World, Answers, spec_text, usual};
+ghost use Rattle.boltz.specs.Complete.{IsPrintable, IsUnfit, IsDrawable, IsBoundable, IsBaseless, undisturbed};
 ghost use Rattle.boltz.specs.Drawn.{IsDrawnText, ending_status};
-ghost use Rattle.boltz.specs.Refusals.{not_yet_line, no_upper_text};
+ghost use Rattle.boltz.specs.Refusals.{no_upper_text};
 ghost use Rattle.boltz.specs.Bounded.{bounded_text};
 ghost use Rattle.newton_upper.specs.BaseRule.{HasNoUpper};
 ghost use Rattle.newton_upper.specs.declared.trials.Trial.{Trial};
@@ -19,8 +18,8 @@ pub fn what_can_be_printed_is_printed()
         → Answers w status text → (status ≡ Status.Done) × (text ≡ spec_text s) }
 {}
 
-/// What has a base has no other answer than the text of the base and the levels, and what has none no
-/// other than the text of the proposals.
+/// What has a base has no other answer than the text of the base and the levels, and what has none,
+/// to be bounded or to be drawn, no other than the text of the proposals.
 pub fn what_can_be_bounded_is_bounded()
     ensures bounded { (w : World) (s : Spec) (num den : ℕ) (base : List ℕ) (status : Status) (text : List ℕ)
         → IsBoundable w s num den base → Answers w status text
@@ -30,19 +29,17 @@ pub fn what_can_be_bounded_is_bounded()
         → (status ≡ Status.NoUpper) × ((trials : List Trial) × HasNoUpper (setting s num den 48) trials × (text ≡ no_upper_text s 48 trials)) }
 {}
 
-/// What can be drawn has no other answer than the text of the drawing over the tape's bits, with the
-/// status of its end.
+/// What can be drawn has no other answer than the text of the drawing over the base's levels and the
+/// tape's bits, with the status of its end.
 pub fn what_can_be_drawn_is_drawn()
-    ensures drawn { (w : World) (s : Spec) (num den turns : ℕ) (bytes : List ℕ) (ending : Ending) (status : Status) (text : List ℕ)
-        → IsDrawable w s num den bytes turns ending → Answers w status text
-        → (status ≡ ending_status ending) × IsDrawnText s num den (plain_bounds s num den) (undisturbed s num den bytes turns) ending text }
+    ensures drawn { (w : World) (s : Spec) (num den turns : ℕ) (base bytes : List ℕ) (ending : Ending) (status : Status) (text : List ℕ)
+        → IsDrawable w s num den base bytes turns ending → Answers w status text
+        → (status ≡ ending_status ending) × IsDrawnText (setting s num den 48) base usual (undisturbed (setting s num den 48) base usual bytes turns) ending text }
 {}
 
-/// What is read of an unfit specification is refused, and what isn't drawn from yet is left.
+/// What is read of an unfit specification is refused.
 #[tactic(auto, using(crate::proofs::Complete::refused))]
 pub fn what_is_unfit_is_refused()
     ensures refused { (w : World) (status : Status) (text : List ℕ) → IsUnfit w → Answers w status text
         → status ≡ Status.SpecRefused }
-    ensures left { (w : World) (status : Status) (text : List ℕ) → IsBeyond w → Answers w status text
-        → (status ≡ Status.SpecRefused) × (text ≡ not_yet_line) }
 {}

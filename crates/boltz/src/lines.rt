@@ -1,6 +1,6 @@
 //! The lines that the program writes.
-ghost use Rattle.std.specs.Prelude.{◌≡◌, ◌++◌, IfOk, string_bytes};
-ghost use Rattle.boltz.specs.Lines.{header_lines, object_line, entry_lines, cells_line, cell_field, open_line, end_line, spec_end_line, class_name, certified_header, base_line, level_line, feed};
+ghost use Rattle.std.specs.Prelude.{◌≡◌, ◌++◌, length, IfOk, OnOk, string_bytes};
+ghost use Rattle.boltz.specs.Lines.{object_line, entry_lines, cells_line, cell_field, open_line, open_label_line, end_line, spec_end_line, class_name, certified_header, window_line, base_line, base_lines, class_base, lines_below, level_line, feed};
 ghost use Rattle.class_system.specs.CanonicalText.{mode_word};
 ghost use Rattle.class_system.specs.Views.{spec_mode};
 
@@ -12,15 +12,6 @@ use class_system::system::System;
 use sha2::{Digest, Sha256};
 use std::alloc::{AllocError, Global};
 use std::fmt::Write;
-
-/// The lines before the first object.
-pub fn header(alloc: Global, x: Fraction) -> Result<String, AllocError>
-    ensures { IfOk result (λ text. string_bytes text ≡ header_lines x.num x.den) }
-{
-    let num = x.num;
-    let den = x.den;
-    format!(in alloc; "boltzmann 1\nmode unlabelled\nx {num}/{den}\nfraction 48\nwindow 0 1000\n")
-}
 
 /// The lines of a kept object with this text.
 pub fn entry(
@@ -70,6 +61,14 @@ pub fn open_number(
     format!(in alloc; "undecided node {node} cell {k}/{b} within {lo} {hi}\n")
 }
 
+/// The line of a whole number below `m` that 60 bits leave open, for a label.
+pub fn open_label(alloc: Global, m: u64, cell: Cell) -> Result<String, AllocError>
+    ensures { IfOk result (λ text. string_bytes text ≡ open_label_line m cell) }
+{
+    let (k, b) = (cell.k, cell.b);
+    format!(in alloc; "undecided label {m} cell {k}/{b}\n")
+}
+
 /// The last line of a drawing that ended with this word.
 pub fn end(
     alloc: Global,
@@ -91,7 +90,7 @@ pub fn spec_end(alloc: Global, classes: u32, nodes: u32) -> Result<String, Alloc
     format!(in alloc; "end done classes {classes} nodes {nodes}\n")
 }
 
-/// The lines before the bases of classes.
+/// The lines before the base, or before the window of a drawing.
 pub fn certified_header<const F: u32>(
     alloc: Global,
     system: &System,
@@ -117,6 +116,32 @@ fn word_of_mode(mode: Mode) -> &'static str
         Mode::Unlabelled => "unlabelled",
         Mode::Labelled => "labelled",
     }
+}
+
+/// The line of a window of sizes.
+pub fn window(alloc: Global, min: u64, max: u64) -> Result<String, AllocError>
+    ensures { IfOk result (λ text. string_bytes text ≡ window_line min max) }
+{
+    format!(in alloc; "window {min} {max}\n")
+}
+
+/// Appends the lines of the base, which has an entry for each class.
+#[tactic(auto, using(crate::proofs::Bounding::below_start, crate::proofs::Bounding::below_more))]
+pub fn append_base(
+    alloc: Global,
+    system: &System,
+    base: &[u64],
+    text: &mut Vec<u8>,
+) -> Result<(), AllocError>
+    requires one_per_class { length base.now ≡ length system.now.bodies }
+    ensures { OnOk result (text.new.items ≡ text.old.items ++ base_lines system.now base.now) }
+{
+    system.known();
+    for class in 0..base.len() {
+        let line = base_of_class(alloc, system, class as u32, base[class])?;
+        text.extend_from_slice(line.as_slice())?;
+    }
+    Ok(())
 }
 
 /// The line of a class's entry in the base.

@@ -1,23 +1,25 @@
 //! What the program writes, and its answer.
-ghost use Rattle.std.specs.Prelude.{◌≡◌, ℕ, ◌≤◌, true, List, IfOk, IsTrue, IsFalse};
-ghost use Rattle.boltz.specs.Answers.{World, IsAsked, IsAccepted, IsNotYet, Answers, Sampled, spec_text};
-ghost use Rattle.plain_table.specs.FirstForm.{is_first_form};
+ghost use Rattle.std.specs.Prelude.{◌≡◌, ℕ, ◌≤◌, List, IfOk, IsTrue, IsFalse};
+ghost use Rattle.boltz.specs.Answers.{World, IsAsked, IsAccepted, Answers, spec_text, usual};
+ghost use Rattle.boltz.specs.Drawn.{Sampled};
 ghost use Rattle.boltz.specs.Reads.{named, IsMet};
+ghost use Rattle.rounded_map.specs.RoundedMap.{setting};
 ghost use Rattle.boltz.specs.UnderWay.{met};
 ghost use Rattle.bit_tape.specs.Tape.{TapeSource};
 
 use crate::bounded::bounded;
-use crate::drawn::drawn;
+use crate::drawn::sampled;
 use crate::lines::spec_end;
 use crate::refusals::{cause_refusal, text_refusal};
 use crate::status::Status;
 use crate::words::{Command, command_of};
+use bit_tape::tape::Tape;
 use bz_model::fraction::Fraction;
 use bz_model::steps::Steps;
 use bz_outside::shelf::{ReadStop, Shelf, read_up_to};
 use bz_outside::word::Word;
 use class_system::system::System;
-use plain_table::first_form::is_first_form;
+use size_window::limits::Limits;
 use spec_reader::fault::SpecFault;
 use spec_reader::reading::read_spec;
 use std::alloc::{AllocError, Global};
@@ -26,6 +28,14 @@ use well_founded::examination::{Founded, Unfounded, examine};
 
 /// The most bytes that are read of a specification: one more than it may have.
 const MOST_READ: u64 = 65_537;
+
+/// One object of at most 1000 atoms, within a million turns.
+const USUAL: Limits = Limits {
+    min: 0,
+    max: 1000,
+    count: 1,
+    turns: 1_000_000,
+};
 
 /// An answer with the whole text that is to be written.
 #[derive(Drop)]
@@ -172,29 +182,12 @@ fn of_sample<S: Shelf, L: Ledger>(
     shelf: &mut S,
     steps: &mut Steps<L>,
 ) -> Result<Report, AllocError>
-    ensures sampled { IfOk result (λ r. Sampled founded.now x.num x.den (met (TapeSource.Named tape.now) (S.content shelf.old) (S.faults shelf.old) (S.faults shelf.new)) r.status r.text.items) }
+    ensures sampled { IfOk result (λ r. Sampled (setting founded.now x.num x.den 48) usual (met (TapeSource.Named tape.now) (S.content shelf.old) (S.faults shelf.old) (S.faults shelf.new)) r.status r.text.items) }
     ensures content { S.content shelf.new ≡ S.content shelf.old }
     ensures counts { (name : List ℕ) → S.faults shelf.old name ≤ S.faults shelf.new name }
 {
-    if !is_drawn_from(founded, x) {
-        let text = line(alloc, "refused not yet\n")?;
-        return Ok(Report {
-            status: Status::SpecRefused,
-            text,
-        });
-    }
-    drawn(alloc, founded, x, tape, shelf, steps)
-}
-
-/// Whether objects are drawn from the specification at this fraction so far.
-fn is_drawn_from(founded: &Founded, x: Fraction) -> bool
-    ensures drawn { IsTrue result → (is_first_form founded.now ≡ true) × (x.num ≤ x.den) }
-    ensures not_yet { IsFalse result → IsNotYet founded.now x.num x.den }
-{
-    if x.num > x.den {
-        return false;
-    }
-    is_first_form(founded.system())
+    let tape = Tape::over(Word::from_bytes(alloc, tape.bytes())?);
+    sampled::<48, S, L>(alloc, founded, x, USUAL, tape, shelf, steps)
 }
 
 /// A specification in its canonical form, and the closing line.

@@ -4,7 +4,7 @@ ghost use Rattle.bz_model.specs.Spec.{Spec};
 ghost use Rattle.bz_outside.specs.Outside.{Rose};
 ghost use Rattle.size_window.specs.RunByBits.{Ending};
 ghost use Rattle.boltz.specs.Answers.{World, Output, Ends};
-ghost use Rattle.boltz.specs.Complete.{IsPrintable, IsUnfit, IsBeyond, IsDrawable, IsBoundable, IsBaseless};
+ghost use Rattle.boltz.specs.Complete.{IsPrintable, IsUnfit, IsDrawable, IsBoundable, IsBaseless};
 ghost use Rattle.boltz.specs.Drawn.{ending_status};
 ghost use Rattle.boltz.specs.declared.status.Status.{Status};
 
@@ -23,7 +23,7 @@ use std::sync::ledger::Ledger;
 /// Where memory is wanting nothing is written. Where a write fails a front of the text is written,
 /// and nothing after it. A well-founded specification within the limits is printed, where no read and
 /// no write fails and memory suffices; any other one is refused then.
-#[tactic(auto, using(crate::proofs::Complete::complete, crate::proofs::Complete::refuses, crate::proofs::Complete::leaves, crate::proofs::Complete::bounds_told, crate::proofs::Complete::lacks_base, crate::proofs::Complete::draws))]
+#[tactic(auto, using(crate::proofs::Complete::complete, crate::proofs::Complete::refuses, crate::proofs::Complete::bounds_told, crate::proofs::Complete::lacks_base, crate::proofs::Complete::draws))]
 pub fn run<S: Shelf, K: Sink, L: Ledger>(
     alloc: Global,
     words: &[Word],
@@ -37,14 +37,12 @@ pub fn run<S: Shelf, K: Sink, L: Ledger>(
         → ¬ (Rose (K.faults out.old) (K.faults out.new)) → (result ≡ Status.Done) ⊎ (result ≡ Status.OutOfMemory) }
     ensures refuses { IsUnfit (record { words = words.now; content = S.content shelf.old; before = S.faults shelf.old; after = S.faults shelf.new })
         → ¬ (Rose (K.faults out.old) (K.faults out.new)) → (result ≡ Status.SpecRefused) ⊎ (result ≡ Status.OutOfMemory) }
-    ensures leaves { IsBeyond (record { words = words.now; content = S.content shelf.old; before = S.faults shelf.old; after = S.faults shelf.new })
-        → ¬ (Rose (K.faults out.old) (K.faults out.new)) → (result ≡ Status.SpecRefused) ⊎ (result ≡ Status.OutOfMemory) }
     ensures bounds { (s : Spec) (num den : ℕ) (base : List ℕ) → IsBoundable (record { words = words.now; content = S.content shelf.old; before = S.faults shelf.old; after = S.faults shelf.new }) s num den base
         → ¬ (Rose (K.faults out.old) (K.faults out.new)) → (result ≡ Status.Done) ⊎ (result ≡ Status.OutOfMemory) }
     ensures no_base { (s : Spec) (num den : ℕ) → IsBaseless (record { words = words.now; content = S.content shelf.old; before = S.faults shelf.old; after = S.faults shelf.new }) s num den
         → ¬ (Rose (K.faults out.old) (K.faults out.new)) → (result ≡ Status.NoUpper) ⊎ (result ≡ Status.OutOfMemory) }
-    ensures draws { (s : Spec) (num den turns : ℕ) (bytes : List ℕ) (ending : Ending)
-        → IsDrawable (record { words = words.now; content = S.content shelf.old; before = S.faults shelf.old; after = S.faults shelf.new }) s num den bytes turns ending
+    ensures draws { (s : Spec) (num den turns : ℕ) (base bytes : List ℕ) (ending : Ending)
+        → IsDrawable (record { words = words.now; content = S.content shelf.old; before = S.faults shelf.old; after = S.faults shelf.new }) s num den base bytes turns ending
         → ¬ (Rose (K.faults out.old) (K.faults out.new)) → (result ≡ ending_status ending) ⊎ (result ≡ Status.OutOfMemory) }
     ensures content { S.content shelf.new ≡ S.content shelf.old }
     ensures counts { (name : List ℕ) → S.faults shelf.old name ≤ S.faults shelf.new name }

@@ -9,7 +9,7 @@ pub enum Status {
     Done,
     /// No command has these words.
     WordsRefused,
-    /// The specification is refused, or isn't drawn from yet.
+    /// The specification is refused.
     SpecRefused,
     /// No base is found for the specification and x.
     NoUpper,

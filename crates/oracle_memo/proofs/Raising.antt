@@ -9,7 +9,7 @@ use Rattle.bz_model.specs.Spec.{Spec}
 use Rattle.bz_model.specs.Oracle.{AreCosts, cost_between}
 use Rattle.fixed_enclosure.specs.UpperValues.{IsNoGreater}
 use Rattle.rounded_map.specs.RoundedMap.{Setting, setting, value_at, lesser, repeated, values_down, values_up, bodies_up, sweep_up, IsPostFixed}
-use Rattle.rounded_map.proofs.Bounding.{length-at_each}
+use Rattle.rounded_map.proofs.Bounding.{length-at_each, length-lower_sweeps}
 use Rattle.rounded_map.proofs.MapMonotone.{sweeps_up-post_fixed}
 use Rattle.kleene_lower.specs.Lower.{Sweeps, AreSweepsOf, swept_from_zero}
 use Rattle.oracle_memo.specs.Levels.{sweeps_at, level_down, level_up, cost_at, costs}
@@ -35,6 +35,10 @@ length-upper_sweeps t base (suc n) same =
 pub length-level_up : (t : Setting) (base : List ℕ) (level : ℕ) → IsPostFixed t base → length (level_up t base level) ≡ length t.spec.bodies
 unfolding level_up
 length-level_up t base level fixed = length-upper_sweeps t base (sweeps_at level) (length-base t base fixed)
+
+pub length-level_down : (t : Setting) (level : ℕ) → length (level_down t level) ≡ length t.spec.bodies
+unfolding level_down
+length-level_down t level = length-lower_sweeps t (sweeps_at level)
 
 -- The vectors of level 0, and of each level from those of the level before.
 pub level_up-start : (t : Setting) (base : List ℕ) → base ≡ level_up t base 0

@@ -105,6 +105,7 @@ impl<'a, const F: u32> Memo<'a, F> {
     /// The lower class values of the highest raised level, and zeros where none is. Takes no memory.
     pub fn lower(&self) -> &[u64]
         ensures vector { result.now ≡ level_down (setting self.now.spec self.now.num self.now.den F) self.now.raised }
+        ensures one_per_class { length result.now ≡ length self.now.spec.bodies }
     {
         self.lower.values()
     }
@@ -112,8 +113,21 @@ impl<'a, const F: u32> Memo<'a, F> {
     /// The upper class values of the highest raised level, and the base where none is. Takes no memory.
     pub fn upper(&self) -> &[u64]
         ensures vector { result.now ≡ level_up (setting self.now.spec self.now.num self.now.den F) self.now.base self.now.raised }
+        ensures one_per_class { length result.now ≡ length self.now.spec.bodies }
     {
         self.upper.as_slice()
+    }
+
+    /// Raises all levels up to this one. Takes no memory.
+    pub fn raise_to<L: Ledger>(&mut self, level: u8, steps: &mut Steps<L>)
+        requires level { level ≤ 6 }
+        ensures raised { self.new ≡ record self.old { raised = max self.old.raised level } }
+        ensures six { self.new.raised ≤ 6 }
+        ensures ticks { steps.new + cost_at self.old.raised ≡ steps.old + cost_at (max self.old.raised level) }
+    {
+        for _level in self.raised..level {
+            self.raise_next(steps);
+        }
     }
 
     /// Raises one level more.
@@ -156,9 +170,7 @@ impl<'a, const F: u32> Oracle<F> for Memo<'a, F> {
     ghost cost = { λ m. costs };
 
     fn raise<L: Ledger>(&mut self, level: u8, steps: &mut Steps<L>) {
-        for _level in self.raised..level {
-            self.raise_next(steps);
-        }
+        self.raise_to(level, steps);
     }
 
     fn bounds(&self, node: u32, level: u8) -> Option<Bounds> {

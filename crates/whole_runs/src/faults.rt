@@ -10,10 +10,11 @@ const DRAWING: &str = "sample s 1/1 --tape t";
 
 const PAIRS: &str = "unlabelled\nA = B*B\nB = E + Z\n";
 
-const HEADER: &str = "boltzmann 1\nmode unlabelled\nx 1/1\nfraction 48\nwindow 0 1000\n";
+const HEADER: &str =
+    "boltzmann 2\nmode unlabelled\nspec 15888b34132ae6303b890110811b136b771aa38b66d784e631f98e5ed1cf75f3\nx 1/1\nfraction 48\nwindow 0 1000\nbase A 1125899906843904\nbase B 562949953421568\n";
 
 const DRAWN: &str =
-    "boltzmann 1\nmode unlabelled\nx 1/1\nfraction 48\nwindow 0 1000\nobject 1 at 0 size 1\ntext (0.E 1.Z)\ncells 0/1 1/1\nend done kept 1 thrown 0 bits 2 turns 8\n";
+    "boltzmann 2\nmode unlabelled\nspec 15888b34132ae6303b890110811b136b771aa38b66d784e631f98e5ed1cf75f3\nx 1/1\nfraction 48\nwindow 0 1000\nbase A 1125899906843904\nbase B 562949953421568\nobject 1 at 0 size 1\ntext (0.E 1.Z)\ncells 0/1 1/1\nend done kept 1 thrown 0 bits 2 turns 8\n";
 
 /// Draws over a shelf that gives a byte a read and fails at one.
 fn with_failed_read<R: AllocGlobal + Abort>(

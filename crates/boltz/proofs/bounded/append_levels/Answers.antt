@@ -1,15 +1,42 @@
-use Rattle.std.proofs.Common.{◌≡◌, ◌∙◌, List, length, ap, subst, sym, arith}
-use Rattle.std.proofs.lemmas.List.{length-map}
-use Rattle.bz_model.specs.Spec.{Node}
-use Rattle.class_system.specs.Views.{spec_node}
-use Rattle.rounded_map.specs.RoundedMap.{setting, IsPostFixed}
+use Rattle.std.proofs.Common.{◌∙◌, ◌+◌, ap, length}
+use Rattle.bz_model.specs.Spec.{Spec}
+use Rattle.oracle_memo.specs.Memos.{Memory}
+use Rattle.rounded_map.specs.RoundedMap.{setting}
+use Rattle.boltz.specs.Bounded.{level_after}
+use Rattle.boltz.proofs.Bounding.{below_start, levels_more, lower_told, upper_told, next_raised, none_raised}
 use Rattle.boltz.proofs.bounded.append_levels.Goals as goal
 
--- the upper class vector is the base, and there is room for the values of all nodes
-pub append_raised-requires : goal.append_raised-requires
-append_raised-requires g c =
-    let t = setting c.args.system.now c.args.x.num c.args.x.den g.row.F in
-    let upper : c.deref_mut.result.now ≡ c.args.base.now = c.deref_mut.ensures.value ∙ c.in_ok-upper.ensures.items_if_clones_equal (λ x y h. h) in
-    let nodes : length c.nodes.result.now ≡ length c.args.system.now.nodes = sym (length-map c.nodes.result.now spec_node) ∙ ap (λ (ns : List Node). length ns) c.nodes.ensures.nodes in
-    let room : length c.in_ok-nodes.nodes.items ≡ length c.args.system.now.nodes = omega (arith, c.in_ok-nodes.ensures.len, nodes, c.in_ok-nodes.nodes.ok.0) in
-    (omega arith, (c.requires.fraction_bits, (c.in_ok-lower.ensures.zero c.args.x.num c.args.x.den, (c.in_ok-lower.ensures.none_done, (subst (IsPostFixed t) (sym upper) c.requires.post_fixed, ap length c.deref_mut-2.ensures.value ∙ room)))))
+-- no level is raised or told
+pub loop-before-init : goal.loop-before-init
+loop-before-init g c =
+    let m = c.args.memo.now in
+    record {
+      same = none_raised m c.requires.none_raised;
+      told = below_start (level_after (setting c.args.system.now m.num m.den g.row.F) m.base) c.args.text.now.items;
+    }
+
+-- the next level is raised and told
+pub loop-before-preserved : goal.loop-before-preserved
+loop-before-preserved g c =
+    let m = c.args.memo.now in
+    let t = setting c.args.system.now m.num m.den g.row.F in
+    let now = next_raised m c.loop-before.memo c.raise_to.new.self c.loop-before.before c.loop-before.invariant.same c.raise_to.ensures.raised in
+    record {
+      same = now;
+      told = levels_more t m.base c.lower.result.now c.upper.result.now c.loop-before.before c.args.text.now.items c.loop-before.text.items c.append_level.new.text.items
+          c.loop-before.invariant.told
+          (lower_told m c.raise_to.new.self c.args.system.now g.row.F (c.loop-before.before + 1) c.lower.result.now now c.requires.same c.lower.ensures.vector)
+          (upper_told m c.raise_to.new.self c.args.system.now g.row.F (c.loop-before.before + 1) c.upper.result.now now c.requires.same c.upper.ensures.vector)
+          c.in_ok-append_level.ensures;
+    }
+
+-- there is an entry for each class
+pub append_level-requires-clause-one_lower_per_class : goal.append_level-requires-clause-one_lower_per_class
+append_level-requires-clause-one_lower_per_class g c =
+    let now = next_raised c.args.memo.now c.loop-before.memo c.raise_to.new.self c.loop-before.before c.loop-before.invariant.same c.raise_to.ensures.raised in
+    c.lower.ensures.one_per_class ∙ ap (λ (k : Memory). length k.spec.bodies) now ∙ ap (λ (s : Spec). length s.bodies) c.requires.same
+
+pub append_level-requires-clause-one_upper_per_class : goal.append_level-requires-clause-one_upper_per_class
+append_level-requires-clause-one_upper_per_class g c =
+    let now = next_raised c.args.memo.now c.loop-before.memo c.raise_to.new.self c.loop-before.before c.loop-before.invariant.same c.raise_to.ensures.raised in
+    c.upper.ensures.one_per_class ∙ ap (λ (k : Memory). length k.spec.bodies) now ∙ ap (λ (s : Spec). length s.bodies) c.requires.same

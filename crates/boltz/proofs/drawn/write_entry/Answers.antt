@@ -1,12 +1,22 @@
-use Rattle.std.proofs.Common.{◌≡◌, ◌++◌, subst, []}
+use Rattle.std.proofs.Common.{◌≡◌, subst, sym}
 use Rattle.bz_model.specs.ObjectText.{object_text}
+use Rattle.bz_model.specs.Spec.{Spec}
 use Rattle.object_store.specs.Tokens.{IsOf}
+use Rattle.object_text.specs.Labels.{HasOneForEach}
+use Rattle.boltz.proofs.KeptLabels.{one-for-each}
 use Rattle.boltz.proofs.drawn.write_entry.Goals as goal
+
+-- there are labels as the mode wants them
+pub print_labelled-requires-clause-labels : goal.print_labelled-requires-clause-labels
+print_labelled-requires-clause-labels c =
+    subst (λ (s : Spec). HasOneForEach s.mode c.args.kept.now.shape.items c.labels_of-labels.result.now) (sym c.system-system.ensures.system)
+    (one-for-each c.args.founded.now.mode c.args.kept.now c.labels_of-labels.result.now c.requires.labels c.labels_of-labels.ensures)
 
 -- the lines are those of the entry
 pub returns : goal.returns
 returns c =
-    let text = subst (λ s. (of : IsOf s 0 c.args.kept.now.shape.items) → c.in_ok-text.text.items ≡ object_text s of.body of.object of.belongs []) c.system-system.ensures.system c.in_ok-text.ensures.text c.requires.is_of in
+    let text = subst (λ s. (of : IsOf s 0 c.args.kept.now.shape.items) → c.in_ok-text.text.items ≡ object_text s of.body of.object of.belongs c.labels_of-labels.result.now) c.system-system.ensures.system c.in_ok-text.ensures.text c.requires.is_of in
+    let labels = c.labels_of-labels.ensures in
     let slice = c.as_slice.ensures.value in
     let size = c.size-size.ensures in
     let cells = c.items-cells.ensures in

@@ -1,6 +1,6 @@
 use Rattle.std.proofs.Common.{inl, subst}
 use Rattle.bz_outside.specs.Outside.{Appends}
-use Rattle.boltz.proofs.Complete.{printed, refused, left, drawn, bounded, baseless, written}
+use Rattle.boltz.proofs.Complete.{printed, refused, drawn, bounded, baseless, written}
 use Rattle.boltz.proofs.run.run.Goals as goal
 
 -- what can be printed has no other answer
@@ -10,10 +10,6 @@ returns-in-Ok-put_all-clause-complete g c = λ s p no_fault. inl (printed _ s c.
 -- what is unfit has no other answer
 pub returns-in-Ok-put_all-clause-refuses : goal.returns-in-Ok-put_all-clause-refuses
 returns-in-Ok-put_all-clause-refuses g c = λ p no_fault. inl (refused _ c.in-Ok.report.status c.in-Ok.report.text.items p c.in-Ok.ensures.answer)
-
--- what isn't drawn from yet has no other answer
-pub returns-in-Ok-put_all-clause-leaves : goal.returns-in-Ok-put_all-clause-leaves
-returns-in-Ok-put_all-clause-leaves g c = λ p no_fault. inl (left _ c.in-Ok.report.status c.in-Ok.report.text.items p c.in-Ok.ensures.answer).0
 
 -- what has a base has no other answer
 pub returns-in-Ok-put_all-clause-bounds : goal.returns-in-Ok-put_all-clause-bounds
@@ -25,7 +21,7 @@ returns-in-Ok-put_all-clause-no_base g c = λ s num den p no_fault. inl (baseles
 
 -- what can be drawn has no other answer
 pub returns-in-Ok-put_all-clause-draws : goal.returns-in-Ok-put_all-clause-draws
-returns-in-Ok-put_all-clause-draws g c = λ s num den turns bytes ending p no_fault. inl (drawn _ s num den turns bytes ending c.in-Ok.report.status c.in-Ok.report.text.items p c.in-Ok.ensures.answer).0
+returns-in-Ok-put_all-clause-draws g c = λ s num den turns base bytes ending p no_fault. inl (drawn _ s num den turns base bytes ending c.in-Ok.report.status c.in-Ok.report.text.items p c.in-Ok.ensures.answer).0
 
 -- the whole text is written
 pub returns-in-Ok-put_all-clause-ends : goal.returns-in-Ok-put_all-clause-ends

@@ -1,1 +1,0 @@
-use Rattle.boltz.proofs.words.command_of.Goals as goal

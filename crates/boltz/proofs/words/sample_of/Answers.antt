@@ -1,4 +1,4 @@
-use Rattle.std.proofs.Common.{◌≡◌, refl, subst}
+use Rattle.std.proofs.Common.{refl, subst}
 use Rattle.std.specs.Prelude.{Err}
 use Rattle.bz_model.specs.FractionRead.{ReadsAs}
 use Rattle.boltz.proofs.Named.{named-sample, no-sample, no-x}

@@ -1,4 +1,4 @@
-use Rattle.std.proofs.Common.{◌≡◌, refl}
+use Rattle.std.proofs.Common.{refl}
 use Rattle.boltz.proofs.Named.{named-spec}
 use Rattle.boltz.proofs.words.spec_of.Goals as goal
 
