@@ -1,5 +1,5 @@
 -- One turn.
-use Rattle.std.proofs.Common.{◌≡◌, ◌<◌, ◌≤◌, length, Some, None, sym, ◌∙◌, ap, subst, arith}
+use Rattle.std.proofs.Common.{◌≡◌, ◌<◌, ◌≤◌, length, Some, sym, ◌∙◌, ap, subst, arith}
 use Rattle.bit_tape.specs.Tape.{bits_of}
 use Rattle.bz_model.specs.Spec.{Spec}
 use Rattle.class_system.specs.Views.{spec_mode}
@@ -8,7 +8,7 @@ use Rattle.size_window.specs.Turn.{outcome_of, IfStraddles, Settles}
 use Rattle.size_window.specs.LabelTurn.{IsLabelTurn}
 use Rattle.size_window.specs.contracts.drawing.Drawing.{the_view}
 use Rattle.size_window.proofs.Turning.{idle-turn}
-use Rattle.size_window.proofs.Belonging.{Visits, IsLeft, left-then, left-on, left-visits, idle-belongs, open-node, six-raised}
+use Rattle.size_window.proofs.Belonging.{Visits, left-then, left-on, left-visits, idle-belongs, open-node, six-raised}
 use Rattle.size_window.proofs.Turns.{may-settle-seen, belongs-then, kept-then, counted-then, turn-then}
 use Rattle.size_window.proofs.LabelTurns.{shape-fits, labels-belong, labels-kept, label-turn}
 use Rattle.size_window.proofs.drawing.Drawing.turn.Goals as goal
