@@ -38,7 +38,7 @@ pub record AreFractionBits (given : Given) (bits : ℕ) : Type 0 where
 pub data Makes (given : Given) : CommandName → Command → Type 0 where
   spec : (file : List ℕ) → given.places ≡ file ∷ [] → Makes given name.Spec (command.Spec file)
   oracle : (file text : List ℕ) (x : Fraction) (bits : ℕ) → given.places ≡ file ∷ text ∷ [] → ReadsAs text (Ok x) → AreFractionBits given bits → Makes given name.Oracle (command.Oracle file x bits)
-  sample : (file text : List ℕ) (x : Fraction) (bits_of : TapeWord) (limits : Limits) (bits : ℕ) → given.places ≡ file ∷ text ∷ [] → ReadsAs text (Ok x) → IsTape given bits_of → AreLimits given limits → AreFractionBits given bits → Makes given name.Sample (command.Sample file x bits_of limits bits)
+  sample : (file text : List ℕ) (x : Fraction) (tape_word : TapeWord) (limits : Limits) (bits : ℕ) → given.places ≡ file ∷ text ∷ [] → ReadsAs text (Ok x) → IsTape given tape_word → AreLimits given limits → AreFractionBits given bits → Makes given name.Sample (command.Sample file x tape_word limits bits)
   pool : (file text schedule : List ℕ) (tapes : List (List ℕ)) (x : Fraction) (limits : Limits) (bits : ℕ) → given.places ≡ file ∷ text ∷ schedule ∷ tapes → ReadsAs text (Ok x) → AreLimits given limits → AreFractionBits given bits → Makes given name.Pool (command.Pool file x schedule tapes limits bits)
   verify : (file cert : List ℕ) → given.places ≡ file ∷ cert ∷ [] → Makes given name.Verify (command.Verify file cert)
   migrate : (file cert : List ℕ) → given.places ≡ file ∷ cert ∷ [] → Makes given name.Migrate (command.Migrate file cert)

@@ -1,8 +1,8 @@
 //! Commands.
-use size_window::limits::Limits;
 use crate::word_list::WordList;
 use bz_model::fraction::Fraction;
 use bz_outside::word::Word;
+use size_window::limits::Limits;
 
 /// Where the bits of a sample come from.
 #[derive(Debug, Drop)]

@@ -26,10 +26,11 @@ pub enum ValueName {
 /// Why words stand for no command.
 #[derive(Clone, Copy, Debug, PartialEq, Eq, Error)]
 pub enum WordsFault {
-    /// The words haven't the form of a command: they don't begin with a command's name, have too few
-    /// or too many positional words, an option that the command doesn't take, takes once and has
-    /// twice, or has without a value, a `sample` with a tape and a seed or with neither, a positional
-    /// word or a value that is empty or begins with `-`, or a byte outside 20 to 7E.
+    /// The words haven't the form of a command. They don't begin with a command's name; or there
+    /// are too few or too many positional words; or an option stands there that the command doesn't
+    /// take, or twice, or without a value; or a `sample` has a tape and a seed, or neither; or a
+    /// positional word or a value is empty or begins with `-`; or a byte is outside 20 to 7E,
+    /// hexadecimal.
     #[error("not a command")]
     NotACommand,
     /// The words have the form of a command, and this is its first value, in the order of

@@ -8,8 +8,16 @@
 //! (`laws`). No clause says when there is memory enough.
 #![tactic(auto)]
 
+mod arguments;
 pub mod command;
 pub mod fault;
+mod form;
+mod given;
+pub mod laws;
 mod names;
 pub mod read;
+mod settings;
+#[cfg(test)]
+mod tests;
+mod values;
 pub mod word_list;

@@ -1,5 +1,5 @@
 //! Lists of words.
-ghost use Rattle.std.specs.Prelude.{◌≡◌, [], ◌∷◌, ◌++◌, OnOk, OnErr};
+ghost use Rattle.std.specs.Prelude.{◌≡◌, ◌<◌, [], ◌∷◌, ◌++◌, length, OnOk, OnErr};
 
 use bz_outside::word::Word;
 use std::alloc::{AllocError, Global};
@@ -43,5 +43,13 @@ impl WordList {
         ensures items { result.now ≡ self.now }
     {
         self.content.as_slice()
+    }
+
+    /// Takes the first word out. Takes no memory.
+    pub(crate) fn take_first(&mut self) -> Word
+        requires some { 0 < length self.old }
+        ensures first { self.old ≡ result ∷ self.new }
+    {
+        self.content.remove(0)
     }
 }
