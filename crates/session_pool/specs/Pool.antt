@@ -1,0 +1,38 @@
+-- What contracts see of a pool: the list of its members.
+use Rattle.std.specs.Prelude.{◌≡◌, ℕ, List, map, slice_get, Option, Some, None}
+use Rattle.std.specs.List.{All}
+use Rattle.bz_model.specs.Fraction.{Fraction}
+use Rattle.bz_model.specs.Spec.{Spec}
+use Rattle.bit_tape.specs.Tape.{TapeState, TapeSource, Belongs}
+use Rattle.size_window.specs.RunByBits.{Limits}
+use Rattle.size_window.specs.Drawing.{DrawingBelongs}
+use Rattle.session_pool.specs.Member.{MemberState, IsNewMember}
+
+-- The tapes of a pool, in order.
+abbrev pub tapes_of : List MemberState → List TapeState
+tapes_of pool = map (λ m. m.tape) pool
+
+-- Where the bits of its tapes come from, in order.
+abbrev pub sources_of : List MemberState → List TapeSource
+sources_of pool = map (λ m. m.tape.source) pool
+
+-- A pool belongs to a specification and x where each of its drawings does.
+pub record PoolBelongs (s : Spec) (x : Fraction) (pool : List MemberState) : Type 0 where
+  pub each : All (λ m. DrawingBelongs s x m.drawing) pool
+
+-- Tapes belong to a shelf with these contents where each of them does.
+pub record TapesBelong (contents : List ℕ → Option (List ℕ)) (tapes : List TapeState) : Type 0 where
+  pub each : All (Belongs contents) tapes
+
+-- A pool before its first turn: it has one drawing per tape, in order, and each is a new one over its tape.
+pub record IsNewPool (limits : Limits) (tapes : List TapeState) (pool : List MemberState) : Type 0 where
+  pub same_tapes : tapes_of pool ≡ tapes
+  pub each : All (λ m. IsNewMember limits m.tape m) pool
+
+abbrev pub bits_used_by : Option MemberState → ℕ
+bits_used_by (Some m) = m.tape.used
+bits_used_by None = 0
+
+-- How many bits the drawing of this number used, and 0 where there is none.
+abbrev pub bits_used : List MemberState → (number : ℕ) → ℕ
+bits_used pool number = bits_used_by (slice_get pool number)
