@@ -11,7 +11,7 @@ use Rattle.shape_sampler.specs.Answer.{ChoosesBy}
 use Rattle.size_window.specs.declared.ending.Ending.{Ending}
 use Rattle.size_window.specs.declared.ending.Ending.TheVariants.{Done, TurnLimit, ReadFault}
 use Rattle.size_window.specs.declared.turned.Turned.TheVariants as turned
-use Rattle.size_window.specs.RunByBits.{Limits, Sampling, Course, after}
+use Rattle.size_window.specs.RunByBits.{Limits, Course, after}
 use Rattle.size_window.specs.Drawing.{DrawingState, state_of}
 use Rattle.size_window.specs.Turn.{TellsOpen, entry_of, turns_of}
 use Rattle.size_window.specs.Follows.{Goes}

@@ -1,5 +1,5 @@
 -- What contracts see of a drawing in a pool.
-use Rattle.std.specs.Prelude.{◌≡◌, ℕ, List, []}
+use Rattle.std.specs.Prelude.{◌≡◌, List, []}
 use Rattle.bit_tape.specs.Tape.{TapeState}
 use Rattle.size_window.specs.declared.limits.Counts.{Counts}
 use Rattle.size_window.specs.declared.turned.Entry.{Entry}

@@ -4,6 +4,7 @@ use Rattle.std.specs.List.{All}
 use Rattle.bz_model.specs.Fraction.{Fraction}
 use Rattle.bz_model.specs.Spec.{Spec}
 use Rattle.bit_tape.specs.Tape.{TapeState, TapeSource, Belongs}
+use Rattle.size_window.specs.declared.ending.Ending.{Ending}
 use Rattle.size_window.specs.RunByBits.{Limits}
 use Rattle.size_window.specs.Drawing.{DrawingBelongs}
 use Rattle.session_pool.specs.Member.{MemberState, IsNewMember}
@@ -36,3 +37,11 @@ bits_used_by None = 0
 -- How many bits the drawing of this number used, and 0 where there is none.
 abbrev pub bits_used : List MemberState → (number : ℕ) → ℕ
 bits_used pool number = bits_used_by (slice_get pool number)
+
+abbrev pub ending_by : Option MemberState → Option Ending
+ending_by (Some m) = m.drawing.ending
+ending_by None = None
+
+-- Why the drawing of this number ended, if it ended.
+abbrev pub ending_at : List MemberState → (number : ℕ) → Option Ending
+ending_at pool number = ending_by (slice_get pool number)

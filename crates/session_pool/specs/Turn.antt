@@ -1,5 +1,5 @@
 -- What one turn of a pool makes of it.
-use Rattle.std.specs.Prelude.{◌≡◌, ◌≢◌, ℕ, ◌↔◌, List, [], ◌∷◌, ◌++◌, slice_get, slice_set, Option, Some, None}
+use Rattle.std.specs.Prelude.{◌≡◌, ◌≢◌, ℕ, ◌↔◌, List, [], ◌∷◌, ◌++◌, slice_get, slice_set, Option, Some, None, IfSome}
 use Rattle.bz_model.specs.declared.cell.Bounds.{Bounds}
 use Rattle.bz_model.specs.Fraction.{Fraction}
 use Rattle.bz_model.specs.Spec.{Spec}
@@ -9,7 +9,6 @@ use Rattle.size_window.specs.declared.ending.Ending.TheVariants.{Done, TurnLimit
 use Rattle.size_window.specs.declared.turned.Entry.{Entry}
 use Rattle.size_window.specs.declared.turned.Turned.{Turned}
 use Rattle.size_window.specs.declared.turned.Turned.TheVariants as turned
-use Rattle.size_window.specs.Drawing.{DrawingState}
 use Rattle.size_window.specs.Turn.{IsTurn, IsCounted, IfKept, IsNext, TellsOpen}
 use Rattle.session_pool.specs.declared.pooled.Pooled.{Pooled}
 use Rattle.session_pool.specs.declared.pooled.Pooled.TheVariants.{Going, Finished}
@@ -32,10 +31,12 @@ pub record AnswersRightly (table : (level node : ℕ) → Bounds) (m : MemberSta
   pub failed : told ≡ turned.Finished ReadFault → HasFault m.tape.source before now
   pub left_open : TellsOpen table told
 
--- A turn of one drawing of a pool: the drawing makes its turn over its tape, and what it kept is appended to its entries. The pool answers whether it goes on.
+-- A turn of one drawing of a pool: the drawing makes its turn over its tape, and what it kept is appended to its entries. One that had ended answers its ending again and is as it was. The pool answers whether the drawing goes on.
 pub record IsMemberTurn (s : Spec) (x : Fraction) (F : ℕ) (table : (level node : ℕ) → Bounds) (contents : List ℕ → Option (List ℕ)) (before now : List ℕ → ℕ) (m : MemberState) (answer : Pooled) (later : MemberState) : Type 0 where
   pub told : Turned
+  pub made : told ≢ turned.OutOfMemory
   pub turn : IsTurn s x F table (bits_of m.tape.source contents) m.drawing m.tape.used told later.drawing later.tape.used
+  pub again : IfSome m.drawing.ending (λ ending. (told ≡ turned.Finished ending) × (later ≡ m))
   pub counted : IsCounted m.drawing told later.drawing
   pub next : IfKept told (IsNext m.drawing.limits m.drawing.kept later.tape.used)
   pub rightly : m.drawing.ending ≡ None → AnswersRightly table m before now told

@@ -86,6 +86,7 @@ impl Member {
             (S.faults shelf.old) (S.faults shelf.new) self.old result self.new }
         ensures drawing { DrawingBelongs founded.now (O.x oracle.old) self.new.drawing }
         ensures tape { Belongs (S.content shelf.new) self.new.tape }
+        ensures source { self.new.tape.source ≡ self.old.tape.source }
 
         ensures spec { O.spec oracle.new ≡ O.spec oracle.old }
         ensures x { O.x oracle.new ≡ O.x oracle.old }

@@ -9,9 +9,9 @@ ghost use Rattle.size_window.specs.RunByBits as run;
 ghost use Rattle.size_window.specs.Drawing.{limits_of, AreLimits};
 ghost use Rattle.bit_tape.specs.Tape.{TapeSource};
 ghost use Rattle.session_pool.specs.Member.{counts_of};
-ghost use Rattle.session_pool.specs.Pool.{IsNewPool, PoolBelongs, TapesBelong, tapes_of, sources_of, bits_used};
-ghost use Rattle.session_pool.specs.Turn.{IsPoolTurn};
-ghost use Rattle.session_pool.specs.Interleaving.{setting, IsPoolAfter};
+ghost use Rattle.session_pool.specs.Pool.{IsNewPool, PoolBelongs, TapesBelong, tapes_of, sources_of, bits_used, ending_at};
+ghost use Rattle.session_pool.specs.Turn.{IsPoolTurn, answer_of};
+ghost use Rattle.session_pool.specs.Interleaving.{Setting, setting, IsPoolAfter};
 
 use crate::member::Member;
 use crate::pooled::{Pooled, Pooling};
@@ -57,6 +57,9 @@ impl Pool {
         requires unused { All (λ tape. tape.used ≡ 0) tapes.items }
         ensures new { IfOk result (IsNewPool (limits_of limits) tapes.items) }
         ensures belongs { IfOk result (λ p. (x : Fraction) → PoolBelongs founded.now x p) }
+        ensures alone { IfOk result (λ p. (w : Setting) (counts : List ℕ → ℕ)
+            → IsPoolAfter w (limits_of limits) (map (λ tape. tape.source) tapes.items)
+            counts counts [] p) }
     {
         let mut members = Vec::with_capacity(alloc, tapes.len())?;
         for tape in tapes {
@@ -89,9 +92,11 @@ impl Pool {
 
         ensures no_memory { result ≡ Pooled.OutOfMemory
             → (self.new ≡ self.old) × (oracle.new ≡ oracle.old) }
-        ensures ended { IfSome (slice_get self.old number) (λ m. IsSome m.drawing.ending
+        ensures ended { IsSome (ending_at self.old number)
             → (result ≡ Pooled.Finished) × (self.new ≡ self.old)
-            × (oracle.new ≡ oracle.old) × (shelf.new ≡ shelf.old)) }
+            × (oracle.new ≡ oracle.old) × (shelf.new ≡ shelf.old) }
+        ensures answers { result ≢ Pooled.OutOfMemory
+            → result ≡ answer_of (ending_at self.new number) }
         ensures turned { result ≢ Pooled.OutOfMemory
             → IsPoolTurn founded.now (O.x oracle.old) F (O.table oracle.old) (S.content shelf.old)
             (S.faults shelf.old) (S.faults shelf.new) self.old number result self.new }
