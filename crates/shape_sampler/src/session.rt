@@ -162,6 +162,7 @@ impl Session {
         ensures again { IfSome self.old.stopped (λ stop. (result ≡ stop) × (self.new ≡ self.old)) }
         ensures stopped { IsSome self.old.stopped → (tape.new ≡ tape.old) × (oracle.new ≡ oracle.old) }
         ensures no_memory { result ≡ Stepped.OutOfMemory → (self.new ≡ self.old) × (tape.new ≡ tape.old) × (oracle.new ≡ oracle.old) }
+        ensures unread { result ≡ Stepped.OutOfMemory → shelf.new ≡ shelf.old }
         ensures leaves { self.old.stopped ≡ None → Leaves result self.old self.new }
         ensures draws { self.old.stopped ≡ None → Draws result self.old self.new tape.old.used tape.new.used }
         ensures exact { self.old.stopped ≡ None → IfSome (bits_of tape.old.source (S.content shelf.old)) (λ bits. (c : Chooser) → ChoosesBy founded.now F (O.table oracle.old) c → IsVisit c bits self.old tape.old.used result self.new tape.new.used) }
@@ -304,6 +305,7 @@ impl Session {
         requires tape { Belongs (S.content shelf.old) tape.old }
 
         ensures no_memory { result ≡ Stepped.OutOfMemory → (self.new ≡ self.old) × (tape.new ≡ tape.old) × (oracle.new ≡ oracle.old) }
+        ensures unread { result ≡ Stepped.OutOfMemory → shelf.new ≡ shelf.old }
         ensures leaves { Leaves result self.old self.new }
         ensures draws { Draws result self.old self.new tape.old.used tape.new.used }
         ensures exact { IfSome (bits_of tape.old.source (S.content shelf.old)) (λ bits. (c : Chooser) → ChoosesBy system.now F (O.table oracle.old) c → IsVisit c bits self.old tape.old.used result self.new tape.new.used) }
@@ -361,6 +363,7 @@ impl Session {
         requires tape { Belongs (S.content shelf.old) tape.old }
 
         ensures no_memory { result ≡ Stepped.OutOfMemory → (self.new ≡ self.old) × (tape.new ≡ tape.old) × (oracle.new ≡ oracle.old) }
+        ensures unread { result ≡ Stepped.OutOfMemory → shelf.new ≡ shelf.old }
         ensures leaves { Leaves result self.old self.new }
         ensures draws { Draws result self.old self.new tape.old.used tape.new.used }
         ensures exact { IfSome (bits_of tape.old.source (S.content shelf.old)) (λ bits. (c : Chooser) → ChoosesBy founded.now F (O.table oracle.old) c → IsVisit c bits self.old tape.old.used result self.new tape.new.used) }

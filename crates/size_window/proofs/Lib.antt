@@ -1,4 +1,3 @@
-pub mod Decided
 pub mod Visiting
 pub mod VisitCells
 pub mod Going
@@ -6,6 +5,7 @@ pub mod Turning
 pub mod Settling
 pub mod Belonging
 pub mod Turns
+pub mod LabelTurns
 pub mod Following
 pub mod UnionsIdeally
 pub mod CountsIdeally

@@ -14,7 +14,7 @@ use Rattle.shape_sampler.specs.Visit.{Chooser, Attempt, Visited, node_visited, a
 use Rattle.shape_sampler.specs.Belonging.{GoesOn, IsIdealOver}
 use Rattle.shape_sampler.proofs.Visits.{goes-on, is-over, empty-turns, atom-turns, atom-over, class-turns, product-turns, union-turns, counted-turns, counted-over}
 use Rattle.size_window.specs.Ideally.{DecidesIdeally}
-use Rattle.size_window.proofs.Decided.{draw-decided}
+use Rattle.labelling.proofs.DrawDecided.{draw-decided}
 
 -- What a visit's outcome means: an attempt that went on goes on as ideal making does, and one that is over is over for all numbers of its cells.
 abbrev pub IsIdeally : Spec → Fraction → (whole : ℕ) → Visited → Type 0

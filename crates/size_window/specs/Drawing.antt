@@ -1,20 +1,32 @@
 -- What contracts see of a drawing.
-use Rattle.std.specs.Prelude.{◌≡◌, ℕ, ◌+◌, ◌*◌, ◌≤◌, false, List, [], ◌∷◌, Option, Some, None, option_map}
+use Rattle.std.specs.Prelude.{◌≡◌, ℕ, ◌+◌, ◌*◌, ◌≤◌, List, [], ◌∷◌, Option, Some, None, IfSome, option_map}
+use Rattle.std.specs.Option.{is_some}
+use Rattle.bz_model.specs.declared.cell.Cell.{Cell}
 use Rattle.bz_model.specs.Fraction.{Fraction}
-use Rattle.bz_model.specs.Spec.{Spec}
+use Rattle.bz_model.specs.Spec.{Spec, Mode}
+use Rattle.object_store.specs.declared.token.Token.{Token}
+use Rattle.object_store.specs.Tokens.{size_of}
 use Rattle.shape_sampler.specs.Visit.{Attempt}
 use Rattle.shape_sampler.specs.State.{SessionState, SessionBelongs, attempt_of, begun_state, emptied}
+use Rattle.shape_sampler.specs.Belonging.{IsIdealShape}
 use Rattle.size_window.specs.declared.ending.Ending.{Ending}
 use Rattle.size_window.specs.declared.ending.Ending.TheVariants as ending
 use Rattle.size_window.specs.declared.ending.Straddle.{Straddle}
 use Rattle.size_window.specs.declared.ending.Straddle.TheVariants as straddle
 use Rattle.size_window.specs.declared.limits.Limits as declared
+use Rattle.size_window.specs.declared.made.Made.{Made}
 use Rattle.size_window.specs.RunByBits as run
 use Rattle.size_window.specs.RunByBits.{Limits, State, no_attempt}
 
--- A drawing has a session, its limits, what it counted, and its ending, if it ended.
+-- A made shape has its tokens, and the cells of its numbers.
+pub record MadeShape : Type 0 where
+  pub tokens : List Token
+  pub cells : List Cell
+
+-- A drawing has a session, the made shape that waits for its labels, if one does, its limits, what it counted, and its ending, if it ended.
 pub record DrawingState : Type 0 where
   pub session : SessionState
+  pub waiting : Option MadeShape
   pub limits : Limits
   pub kept : ℕ
   pub thrown : ℕ
@@ -26,9 +38,18 @@ pub record DrawingState : Type 0 where
 abbrev pub limits_of : declared.Limits → Limits
 limits_of l = record { min = l.min; max = l.max; count = l.count; turns = l.turns }
 
+-- The made shape of the struct.
+abbrev pub shape_of : Made → MadeShape
+shape_of m = record { tokens = m.shape.items; cells = m.cells.items }
+
+-- The tokens and cells of a session.
+abbrev pub shape_in : SessionState → MadeShape
+shape_in st = record { tokens = st.tokens; cells = st.cells }
+
 -- The number that a straddle left open.
 abbrev pub open_of : Straddle → run.Open
 open_of (straddle.Node node cell lo hi) = run.Open.AtNode node.0 cell
+open_of (straddle.Label m cell) = run.Open.AtLabel m cell
 
 -- The ending of the enum.
 abbrev pub ending_of : Ending → run.Ending
@@ -43,11 +64,20 @@ abbrev pub running : SessionState → (pending : List ℕ) → (used : ℕ) → 
 running st [] used = no_attempt used
 running st (e ∷ es) used = attempt_of st used
 
+-- The attempt of a made shape: nothing is pending, and the room is that which its making left.
+abbrev pub attempt_made : MadeShape → (room used : ℕ) → Attempt
+attempt_made shape room used = record { pending = []; tokens = shape.tokens; cells = shape.cells; room = room; used = used }
+
+-- The attempt of a session, unless a made shape waits for its labels: then it is that of the shape.
+abbrev pub attempt_unless : Option MadeShape → SessionState → (used : ℕ) → Attempt
+attempt_unless None st used = running st st.pending used
+attempt_unless (Some shape) st used = attempt_made shape st.room used
+
 -- The state of a drawing, so many bits being used.
 abbrev pub state_of : DrawingState → (used : ℕ) → State
 state_of d used = record {
-  attempt = running d.session d.session.pending used;
-  awaits = false;
+  attempt = attempt_unless d.waiting d.session used;
+  awaits = is_some d.waiting;
   kept = d.kept;
   thrown = d.thrown;
   turns = d.turns;
@@ -63,9 +93,17 @@ pub record AreLimits (l : Limits) : Type 0 where
   pub some_turns : 1 ≤ l.turns
   pub turns : l.turns ≤ 50000000
 
--- A drawing belongs to a specification and x where its session does, the session's whole room is the greatest size, nothing stopped the session while the drawing goes on, and the counts are within the limits.
+-- A shape waits in labelled mode, while the session is at rest; it is the ideal one for all numbers in its cells, and of at least the least size.
+pub record Waits (s : Spec) (x : Fraction) (d : DrawingState) (shape : MadeShape) : Type 0 where
+  pub labelled : s.mode ≡ Mode.Labelled
+  pub rests : d.session.pending ≡ []
+  pub ideal : IsIdealShape s x d.limits.max shape.tokens shape.cells
+  pub least : d.limits.min ≤ size_of shape.tokens
+
+-- A drawing belongs to a specification and x where its session does, a shape that waits for its labels is one that may, the session's whole room is the greatest size, nothing stopped the session while the drawing goes on, and the counts are within the limits.
 pub record DrawingBelongs (s : Spec) (x : Fraction) (d : DrawingState) : Type 0 where
   pub session : SessionBelongs s x d.session
+  pub waits : IfSome d.waiting (Waits s x d)
   pub whole : d.session.whole ≡ d.limits.max
   pub runs : d.ending ≡ None → d.session.stopped ≡ None
   pub limits : AreLimits d.limits
@@ -82,9 +120,20 @@ counted d = record d { turns = d.turns + 1 }
 abbrev pub thrown_one : DrawingState → DrawingState
 thrown_one d = record d { thrown = d.thrown + 1 }
 
--- A drawing that kept its shape, of this size.
-abbrev pub kept_shape : DrawingState → (size : ℕ) → DrawingState
-kept_shape d size = record d { session = emptied d.session; kept = d.kept + 1; atoms = d.atoms + size }
+-- A drawing whose session's shape was taken out.
+abbrev pub taken_out : DrawingState → DrawingState
+taken_out d = record d { session = emptied d.session }
+
+-- A drawing where this shape waits for its labels, and one where none does.
+abbrev pub waiting_with : DrawingState → MadeShape → DrawingState
+waiting_with d shape = record d { waiting = Some shape }
+
+abbrev pub none_waiting : DrawingState → DrawingState
+none_waiting d = record d { waiting = None }
+
+-- A drawing that kept one object more, of this size.
+abbrev pub kept_one_more : DrawingState → (size : ℕ) → DrawingState
+kept_one_more d size = record d { kept = d.kept + 1; atoms = d.atoms + size }
 
 -- A drawing that ended.
 abbrev pub ended_by : DrawingState → Ending → DrawingState

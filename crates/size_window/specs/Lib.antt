@@ -3,3 +3,4 @@ pub mod Ideally
 pub mod Follows
 pub mod Drawing
 pub mod Turn
+pub mod LabelTurn

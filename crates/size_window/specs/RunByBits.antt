@@ -1,14 +1,12 @@
 -- A drawing as a function of the tape's bits: its state, one turn, and the state after any number of turns.
-use Rattle.std.specs.Prelude.{ℕ, zero, suc, ◌+◌, ◌-◌, Bool, true, false, nat_eq, nat_lt, List, [], ◌∷◌, ◌++◌, map, sum, remove, slice_index, Option, Some, None, option_map, option_to_list, if◌then◌else◌}
+use Rattle.std.specs.Prelude.{ℕ, zero, suc, ◌+◌, ◌-◌, Bool, true, false, nat_eq, nat_lt, List, [], ◌∷◌, ◌++◌, Option, Some, None, option_map, option_to_list, if◌then◌else◌}
 use Rattle.bz_model.specs.declared.cell.Cell.{Cell}
 use Rattle.bz_model.specs.Spec.{Mode}
-use Rattle.bz_model.specs.Labels.{numbers_from}
 use Rattle.object_store.specs.declared.token.Token.{Token}
 use Rattle.object_store.specs.Tokens.{size_of}
-use Rattle.choice_draw.specs.Decision.{whole_decision}
-use Rattle.choice_draw.specs.Draw.{Bit, bit_of, draw}
-use Rattle.choice_draw.specs.Draw.Draw.{Decided, Straddled, Ended, Failed}
+use Rattle.choice_draw.specs.Draw.{Bit, bit_of}
 use Rattle.shape_sampler.specs.Visit.{Chooser, Attempt, Visited, visit, begun}
+use Rattle.labelling.specs.LabelsByBits.{Labelling, bits_in, labelling}
 
 -- The number that a draw left open: a node's, or a whole number below m for a label.
 pub data Open : Type 0 where
@@ -60,10 +58,6 @@ pub record Turned : Type 0 where
   pub entry : Option Entry
   pub cells : List Cell
 
--- The number of bits that cells spell.
-abbrev pub bits_in : List Cell → ℕ
-bits_in cells = sum (map (λ c. c.b) cells)
-
 -- No attempt is under way, so many bits being used.
 abbrev pub no_attempt : (used : ℕ) → Attempt
 no_attempt used = record { pending = []; tokens = []; cells = []; room = 0; used = used }
@@ -88,9 +82,13 @@ with_attempt st a = record st { attempt = a }
 abbrev pub thrown_away : State → State
 thrown_away st = record (idle st) { thrown = suc st.thrown }
 
+-- The state with the bits up to the place used.
+abbrev pub at_place : State → (place : ℕ) → State
+at_place st place = record st { attempt = record st.attempt { used = place } }
+
 -- The drawing ends, with the bits up to the place used.
 abbrev pub ended : State → Ending → (place : ℕ) → State
-ended st ending place = record st { attempt = record st.attempt { used = place }; ending = Some ending }
+ended st ending place = record (at_place st place) { ending = Some ending }
 
 -- The entry of the state's shape with these labels, whose cells follow those of the shape. Its first bit stands before all that its cells spell.
 abbrev pub entry_of : State → (labels : List ℕ) → (label_cells : List Cell) → Entry
@@ -143,30 +141,20 @@ abbrev pub shape_turn : Sampling → (bit : ℕ → Bit) → State → (pending 
 shape_turn s bit st [] = quiet (with_attempt st (begun s.chooser.spec s.limits.max st.attempt.used))
 shape_turn s bit st (e ∷ rest) = visited s st (visit s.chooser bit st.attempt)
 
--- What a labelling ends with: all labels, or why it was cut short; the cells of the numbers finished, and the place.
-pub data Labelling : Type 0 where
-  Labelled : (labels : List ℕ) → (cells : List Cell) → (place : ℕ) → Labelling
-  Stopped : Ending → (cells : List Cell) → (place : ℕ) → Labelling
-
--- The labels of n atoms out of the remaining ones, after those given before. The last atom gets the label left.
-abbrev pub labels_from : (bit : ℕ → Bit) → (n : ℕ) → (remaining given : List ℕ) → (cells : List Cell) → (place : ℕ) → Labelling
-labels_from bit zero remaining given cells place = Labelling.Labelled given cells place
-labels_from bit (suc zero) remaining given cells place = Labelling.Labelled (given ++ remaining) cells place
-labels_from bit (suc (suc n)) remaining given cells place = elim (draw (whole_decision (suc (suc n))) bit place) [
-  | Decided i cell ↦ labels_from bit (suc n) (remove remaining i) (given ++ slice_index remaining i ∷ []) (cells ++ cell ∷ []) (place + cell.b)
-  | Straddled cell ↦ Labelling.Stopped (Ending.Undecided (Open.AtLabel (suc (suc n)) cell)) cells (place + cell.b)
-  | Ended end ↦ Labelling.Stopped Ending.TapeEnded cells end
-  | Failed end ↦ Labelling.Stopped Ending.ReadFault cells end
-]
+-- The labelling was cut short and ends the drawing. The cells are those of the numbers that it finished.
+abbrev pub cut_short : State → Ending → (finished : List Cell) → (place : ℕ) → Turned
+cut_short st ending finished place = record { state = ended st ending place; entry = None; cells = finished }
 
 -- What a labelling means for the drawing: the shape is kept with its labels, or the drawing ends.
 abbrev pub labelled_with : State → Labelling → Turned
-labelled_with st (Labelling.Labelled labels cells place) = record { state = kept_one (record st { attempt = record st.attempt { used = place } }); entry = Some (entry_of (record st { attempt = record st.attempt { used = place } }) labels cells); cells = cells }
-labelled_with st (Labelling.Stopped ending cells place) = record { state = ended st ending place; entry = None; cells = cells }
+labelled_with st (Labelling.Given labels cells place) = record { state = kept_one (at_place st place); entry = Some (entry_of (at_place st place) labels cells); cells = cells }
+labelled_with st (Labelling.Straddled m cell finished place) = cut_short st (Ending.Undecided (Open.AtLabel m cell)) finished place
+labelled_with st (Labelling.Ended finished place) = cut_short st Ending.TapeEnded finished place
+labelled_with st (Labelling.Failed finished place) = cut_short st Ending.ReadFault finished place
 
 -- The waiting shape is labelled and kept.
 abbrev pub label_turn : (bit : ℕ → Bit) → State → Turned
-label_turn bit st = labelled_with st (labels_from bit (size_of st.attempt.tokens) (numbers_from 1 (size_of st.attempt.tokens)) [] [] st.attempt.used)
+label_turn bit st = labelled_with st (labelling bit (size_of st.attempt.tokens) st.attempt.used)
 
 -- A turn that was counted.
 abbrev pub counted_turn : Sampling → (bit : ℕ → Bit) → State → Turned

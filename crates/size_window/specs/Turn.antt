@@ -1,9 +1,10 @@
 -- What one turn of a drawing makes of it.
-use Rattle.std.specs.Prelude.{◌≡◌, ◌≢◌, ℕ, ◌+◌, ◌-◌, ◌*◌, ◌<◌, ◌≤◌, ◌⊎◌, Bool, [], Option, Some, None, IfSome}
+use Rattle.std.specs.Prelude.{◌≡◌, ◌≢◌, ℕ, ◌+◌, ◌-◌, ◌*◌, ◌<◌, ◌≤◌, ◌⊎◌, Bool, List, [], Option, Some, None, IfSome}
 use Rattle.bz_model.specs.declared.cell.Bounds.{Bounds}
 use Rattle.bz_model.specs.declared.cell.Cell.{Cell}
 use Rattle.bz_model.specs.Fraction.{Fraction}
-use Rattle.bz_model.specs.Spec.{Spec}
+use Rattle.bz_model.specs.Spec.{Spec, Mode}
+use Rattle.bz_model.specs.Labels.{AreOneTo}
 use Rattle.class_system.specs.declared.ids.ExprId.{ExprId}
 use Rattle.object_store.specs.Tokens.{size_of}
 use Rattle.shape_sampler.specs.declared.stepped.Stepped.{Stepped}
@@ -19,13 +20,19 @@ use Rattle.size_window.specs.declared.turned.Turned.TheVariants.{Going, Kept, Fi
 use Rattle.size_window.specs.declared.turned.Outcome.{Outcome}
 use Rattle.size_window.specs.declared.turned.Outcome.TheVariants as outcome
 use Rattle.size_window.specs.RunByBits as run
-use Rattle.size_window.specs.RunByBits.{Limits, Course, bits_in, followed_by, turn}
+use Rattle.labelling.specs.LabelsByBits.{bits_in}
+use Rattle.size_window.specs.RunByBits.{Limits, Course, followed_by, turn}
 use Rattle.size_window.specs.Follows.{Goes}
-use Rattle.size_window.specs.Drawing.{DrawingState, state_of, counted, thrown_one, kept_shape, ended_by, begun_one}
+use Rattle.size_window.specs.Drawing.{MadeShape, DrawingState, state_of, shape_in, counted, thrown_one, taken_out, waiting_with, kept_one_more, ended_by, begun_one}
 
--- The entry of a struct: its size is that of its tokens, and it has no labels.
+-- The labels of an entry, where it has any.
+abbrev pub labels_of : Option (List ℕ) → List ℕ
+labels_of None = []
+labels_of (Some labels) = labels
+
+-- The entry of a struct: its size is that of its tokens.
 abbrev pub entry_of : Entry → run.Entry
-entry_of e = record { number = e.number; place = e.place; size = size_of e.shape.items; tokens = e.shape.items; labels = []; cells = e.cells.items }
+entry_of e = record { number = e.number; place = e.place; size = size_of e.shape.items; tokens = e.shape.items; labels = labels_of e.labels; cells = e.cells.items }
 
 -- The entry that an answer tells.
 abbrev pub told_entry : Turned → Option run.Entry
@@ -36,6 +43,12 @@ told_entry _ = None
 abbrev pub told_fault : Option Ending → Turned → (given : ℕ) → Option ℕ
 told_fault None (Finished ReadFault) given = Some given
 told_fault _ _ given = None
+
+-- A drawing goes on to a turn that is counted: it hasn't ended, fewer objects than wanted are kept, and fewer turns than the limit were counted.
+pub record GoesOn (d : DrawingState) : Type 0 where
+  pub going : d.ending ≡ None
+  pub fewer : d.kept ≢ d.limits.count
+  pub more : d.turns ≢ d.limits.turns
 
 -- A drawing's turn: there are a state, an entry and finished cells such that the state is that of the drawing now, and the entry is the one told. A course that goes as ideal runs do still does with this turn more. Over bits that are told it is the turn that they fix.
 pub record IsTurn (s : Spec) (x : Fraction) (F : ℕ) (table : (level node : ℕ) → Bounds) (bits : Option (ℕ → Option Bool)) (before : DrawingState) (start : ℕ) (answer : Turned) (now : DrawingState) (used : ℕ) : Type 0 where
@@ -88,6 +101,17 @@ pub record IsNext (limits : Limits) (kept used : ℕ) (e : Entry) : Type 0 where
   pub least : limits.min ≤ size_of e.shape.items
   pub greatest : size_of e.shape.items ≤ limits.max
 
+-- The labels of an entry, in labelled mode: they are there, and are 1 to the number of its atoms in some order.
+pub record AreLabels (atoms : ℕ) (told : Option (List ℕ)) : Type 0 where
+  pub labels : List ℕ
+  pub there : told ≡ Some labels
+  pub one_to : AreOneTo atoms labels
+
+-- An entry has labels in labelled mode, and none in unlabelled mode.
+abbrev pub HasLabels : Mode → Entry → Type 0
+HasLabels Mode.Unlabelled e = e.labels ≡ None
+HasLabels Mode.Labelled e = AreLabels (size_of e.shape.items) e.labels
+
 -- What is said of a kept entry holds.
 abbrev pub IfKept : Turned → (Entry → Type 0) → Type 0
 IfKept (Kept e) P = P e
@@ -99,9 +123,20 @@ pub record AreLevelSix (table : (level node : ℕ) → Bounds) (node : ℕ) (cel
   pub upper : hi ≡ (table 6 node).hi
   pub bits : cell.b ≡ 60
 
+-- The bits that a turn gives to numbers of nodes: none where a shape waits for its labels, else all.
+abbrev pub node_bits : Option MadeShape → (bits : ℕ) → ℕ
+node_bits None bits = bits
+node_bits (Some shape) bits = 0
+
+-- The most bits that a turn takes: those of one number for each atom of a shape that waits for its labels, else those of one number.
+abbrev pub most_bits : Option MadeShape → ℕ
+most_bits None = 60
+most_bits (Some shape) = 60 * size_of shape.tokens
+
 -- What an answer tells of a number left open.
 abbrev pub TellsOpen : (table : (level node : ℕ) → Bounds) → Turned → Type 0
 TellsOpen table (Finished (Undecided (straddle.Node node cell lo hi))) = AreLevelSix table node.0 cell lo hi
+TellsOpen table (Finished (Undecided (straddle.Label m cell))) = (2 ≤ m) × (cell.b ≡ 60)
 TellsOpen table _ = Unit {0}
 
 -- What a visit's answer leaves to do, by a table of bounds.
@@ -119,39 +154,47 @@ abbrev pub IfStraddles : Stepped → (ExprId → Type 0) → Type 0
 IfStraddles (stepped.Straddles node cell) P = P node
 IfStraddles _ P = Unit {0}
 
--- A turn that visits nothing: an ended drawing answers its ending again; the wanted count ends a drawing with Done, the limit of turns with TurnLimit; where nothing is pending an attempt begins, or memory runs out. Else there is no answer, and a node is to be visited.
+-- A turn that needs no bit: an ended drawing answers its ending again; the wanted count ends a drawing with Done, the limit of turns with TurnLimit; where no shape waits and nothing is pending an attempt begins, or memory runs out. Else there is no answer: a shape is to be labelled, or a node to be visited.
 pub data IsIdleTurn (before : DrawingState) (answer : Option Turned) (now : DrawingState) : Type 0 where
   again : (ending : Ending) → before.ending ≡ Some ending → answer ≡ Some (Finished ending) → now ≡ before → IsIdleTurn before answer now
   done : before.ending ≡ None → before.kept ≡ before.limits.count → answer ≡ Some (Finished Done) → now ≡ ended_by before Done → IsIdleTurn before answer now
   turn_limit : before.ending ≡ None → before.kept ≢ before.limits.count → before.turns ≡ before.limits.turns → answer ≡ Some (Finished TurnLimit) → now ≡ ended_by before TurnLimit → IsIdleTurn before answer now
-  begins : before.ending ≡ None → before.kept ≢ before.limits.count → before.turns ≢ before.limits.turns → before.session.pending ≡ [] → answer ≡ Some Going → now ≡ begun_one before → IsIdleTurn before answer now
-  no_memory : before.ending ≡ None → before.kept ≢ before.limits.count → before.turns ≢ before.limits.turns → before.session.pending ≡ [] → answer ≡ Some OutOfMemory → now ≡ before → IsIdleTurn before answer now
-  visits : before.ending ≡ None → before.kept ≢ before.limits.count → before.turns ≢ before.limits.turns → before.session.pending ≢ [] → answer ≡ None → now ≡ before → IsIdleTurn before answer now
+  begins : GoesOn before → before.waiting ≡ None → before.session.pending ≡ [] → answer ≡ Some Going → now ≡ begun_one before → IsIdleTurn before answer now
+  no_memory : GoesOn before → before.waiting ≡ None → before.session.pending ≡ [] → answer ≡ Some OutOfMemory → now ≡ before → IsIdleTurn before answer now
+  labels : GoesOn before → before.waiting ≢ None → answer ≡ None → now ≡ before → IsIdleTurn before answer now
+  visits : GoesOn before → before.waiting ≡ None → before.session.pending ≢ [] → answer ≡ None → now ≡ before → IsIdleTurn before answer now
 
--- A made shape is kept: the answer is its entry, with the session's tokens and cells.
-pub record Keeps (before : DrawingState) (used : ℕ) (answer : Turned) (now : DrawingState) : Type 0 where
+-- A made shape is kept with these labels, so many bits being used now: the answer is its entry, with the shape's tokens and cells.
+pub record Keeps (shape : MadeShape) (labels : Option (List ℕ)) (used : ℕ) (before : DrawingState) (answer : Turned) (now : DrawingState) : Type 0 where
   pub entry : Entry
   pub told : answer ≡ Kept entry
   pub number : entry.number ≡ before.kept + 1
-  pub place : entry.place ≡ used - bits_in before.session.cells
-  pub shape : entry.shape.items ≡ before.session.tokens
-  pub cells : entry.cells.items ≡ before.session.cells
-  pub now_is : now ≡ kept_shape (counted before) (size_of before.session.tokens)
+  pub place : entry.place ≡ used - bits_in shape.cells
+  pub shape_is : entry.shape.items ≡ shape.tokens
+  pub labels_are : entry.labels ≡ labels
+  pub cells : entry.cells.items ≡ shape.cells
+  pub now_is : now ≡ kept_one_more before (size_of shape.tokens)
+
+-- A made shape is kept in unlabelled mode, and waits for its labels in labelled mode.
+abbrev pub KeepsOrWaits : Mode → MadeShape → (used : ℕ) → (before : DrawingState) → Turned → (now : DrawingState) → Type 0
+KeepsOrWaits Mode.Unlabelled shape used before answer now = Keeps shape None used before answer now
+KeepsOrWaits Mode.Labelled shape used before answer now = (answer ≡ Going) × (now ≡ waiting_with before shape)
 
 -- An attempt is thrown away.
 abbrev pub Throws : (before : DrawingState) → Turned → (now : DrawingState) → Type 0
 Throws before answer now = (answer ≡ Going) × (now ≡ thrown_one (counted before))
 
--- What is left to do after a visit is done, so many bits being used. A made shape below the least size is thrown away.
-abbrev pub Settles : Outcome → (used : ℕ) → (before : DrawingState) → Turned → (now : DrawingState) → Type 0
-Settles outcome.Moved used before answer now = (answer ≡ Going) × (now ≡ counted before)
-Settles outcome.Made used before answer now = ((size_of before.session.tokens < before.limits.min) × Throws before answer now) ⊎ ((before.limits.min ≤ size_of before.session.tokens) × Keeps before used answer now)
-Settles outcome.Over used before answer now = Throws before answer now
-Settles (outcome.Stopped ending) used before answer now = (answer ≡ Finished ending) × (now ≡ ended_by (counted before) ending)
-Settles outcome.OutOfMemory used before answer now = (answer ≡ OutOfMemory) × (now ≡ before)
+-- What is left to do after a visit is done, in a mode, so many bits being used. A made shape below the least size is thrown away.
+abbrev pub Settles : Mode → Outcome → (used : ℕ) → (before : DrawingState) → Turned → (now : DrawingState) → Type 0
+Settles mode outcome.Moved used before answer now = (answer ≡ Going) × (now ≡ counted before)
+Settles mode outcome.Made used before answer now = ((size_of before.session.tokens < before.limits.min) × Throws before answer now) ⊎ ((before.limits.min ≤ size_of before.session.tokens) × KeepsOrWaits mode (shape_in before.session) used (counted (taken_out before)) answer now)
+Settles mode outcome.Over used before answer now = Throws before answer now
+Settles mode (outcome.Stopped ending) used before answer now = (answer ≡ Finished ending) × (now ≡ ended_by (counted before) ending)
+Settles mode outcome.OutOfMemory used before answer now = (answer ≡ OutOfMemory) × (now ≡ before)
 
 -- A drawing is able to settle a visit: where a shape was made nothing is pending, and the counts have room.
 pub record MaySettle (o : Outcome) (d : DrawingState) : Type 0 where
+  pub none_waits : d.waiting ≡ None
   pub made : o ≡ outcome.Made → d.session.pending ≡ []
   pub size : o ≡ outcome.Made → size_of d.session.tokens ≤ 1000000
   pub kept : d.kept < 100000

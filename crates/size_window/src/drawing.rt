@@ -1,46 +1,59 @@
 //! Drawings: objects within a window of sizes, one turn at a time.
-ghost use Rattle.std.specs.Prelude.{◌≡◌, ◌≢◌, ℕ, ◌+◌, ◌-◌, ◌*◌, ◌<◌, ◌≤◌, ◌↔◌, max, [], List, length, Option, Some, None, IfSome, IsSome, IfOk, OnOk, OnErr};
+ghost use Rattle.std.specs.Prelude.{◌≡◌, ◌≢◌, ℕ, ◌+◌, ◌-◌, ◌*◌, ◌<◌, ◌≤◌, ◌↔◌, ◌∷◌, ◌++◌, max, [], List, length, Option, Some, None, IfSome, IfNone, IsSome, IfOk, OnOk, OnErr};
 ghost use Rattle.bz_model.specs.Fraction.{Fraction};
-ghost use Rattle.bz_model.specs.Spec.{Mode};
 ghost use Rattle.bz_model.specs.Oracle.{cost_between};
 ghost use Rattle.bit_tape.specs.Tape.{TapeSource, Belongs, bits_of, HasFault};
+ghost use Rattle.class_system.specs.Views.{spec_mode};
 ghost use Rattle.choice_draw.specs.Decision.{level_for};
+ghost use Rattle.labelling.specs.Answer.{OnLabels};
+ghost use Rattle.labelling.specs.LabelsByBits.{bits_in};
 ghost use Rattle.object_store.specs.Tokens.{size_of};
-ghost use Rattle.size_window.specs.RunByBits.{start, bits_in};
-ghost use Rattle.size_window.specs.Drawing.{limits_of, state_of, AreLimits, DrawingBelongs, counted, thrown_one, kept_shape, ended_by, begun_one};
-ghost use Rattle.size_window.specs.Turn.{IsTurn, turns_by, IsCounted, IfKept, IsNext, TellsOpen, outcome_of, IsIdleTurn, IfStraddles, Settles, MaySettle};
+ghost use Rattle.size_window.specs.RunByBits.{start};
+ghost use Rattle.size_window.specs.Drawing.{limits_of, state_of, shape_of, AreLimits, DrawingBelongs, counted, thrown_one, none_waiting, waiting_with, kept_one_more, ended_by, begun_one};
+ghost use Rattle.size_window.specs.Turn.{IsTurn, turns_by, IsCounted, IfKept, IsNext, HasLabels, node_bits, most_bits, TellsOpen, outcome_of, IsIdleTurn, IfStraddles, Settles, KeepsOrWaits, MaySettle};
+ghost use Rattle.size_window.specs.LabelTurn.{IsLabelTurn, SettlesLabels};
 
 use crate::ending::{Ending, Straddle};
 use crate::limits::{Counts, Limits};
+use crate::made::{Made, append, place_before};
 use crate::turned::{Entry, Outcome, Turned};
 use bit_tape::tape::Tape;
-use bz_model::cell::{Bounds, Cell};
+use bz_model::cell::Bounds;
 use bz_model::oracle::Oracle;
 use bz_model::steps::Steps;
 use bz_outside::shelf::Shelf;
+use class_system::draft::Mode;
+use labelling::label::label;
+use labelling::labelled::Labelled;
+use labelling::labels::Labels;
 use shape_sampler::session::Session;
 use shape_sampler::stepped::Stepped;
 use std::alloc::{AllocError, Global};
 use std::marker::Model;
+use std::mem::replace;
 use std::sync::ledger::Ledger;
 use well_founded::examination::Founded;
 
 /// Attempts within a window, what became of them, and why they ended.
 #[derive(Drop)]
 pub struct Drawing {
+    alloc: Global,
     session: Session,
+    waiting: Option<Made>,
     limits: Limits,
     counts: Counts,
     ending: Option<Ending>,
 }
 
 impl Model for Drawing {
-    ghost use Rattle.size_window.specs.Drawing.{DrawingState, limits_of};
+    ghost use Rattle.std.specs.Prelude.{option_map};
+    ghost use Rattle.size_window.specs.Drawing.{DrawingState, limits_of, shape_of};
 
     ghost Value = { DrawingState };
 
     ghost view = { λ d. record {
       session = d.session;
+      waiting = option_map shape_of d.waiting;
       limits = limits_of d.limits;
       kept = d.counts.kept;
       thrown = d.counts.thrown;
@@ -67,7 +80,9 @@ impl Drawing {
             atoms: 0,
         };
         Ok(Drawing {
+            alloc,
             session,
+            waiting: None,
             limits,
             counts,
             ending: None,
@@ -95,12 +110,13 @@ impl Drawing {
     ///
     /// A drawing that ended answers its ending again, and nothing changes. Else it ends with `Done`
     /// exactly where as many objects as wanted are kept, and else with `TurnLimit` exactly where as
-    /// many turns as the limit were counted; both cost no turn. Else a turn is counted: an attempt
-    /// begins, or one node of the attempt under way is visited. A made shape of at least the least
-    /// size is kept; a smaller one, and an attempt over the greatest size, is thrown away. The bits
-    /// of thrown attempts stay used. A cell that straddles, the tape's end and a failed read end the
-    /// drawing. The memory of a turn is taken before its first bit; `OutOfMemory` leaves drawing,
-    /// tape and oracle as they were, and counts no turn.
+    /// many turns as the limit were counted; both cost no turn. Else a turn is counted: a made shape
+    /// that waits gets its labels and is kept; else an attempt begins, or one node of the attempt
+    /// under way is visited. A made shape of at least the least size is kept in unlabelled mode and
+    /// waits for its labels in labelled mode; a smaller one, and an attempt over the greatest size,
+    /// is thrown away. The bits of thrown attempts stay used. A cell that straddles, the tape's end
+    /// and a failed read end the drawing. The memory of a turn is taken before its first bit;
+    /// `OutOfMemory` leaves drawing, tape, oracle and shelf as they were, and counts no turn.
     pub fn turn<const F: u32, O: Oracle<F>, S: Shelf, L: Ledger>(
         &mut self,
         founded: &Founded,
@@ -110,19 +126,18 @@ impl Drawing {
         steps: &mut Steps<L>,
     ) -> Turned
         requires fraction { (24 ≤ F) × (F ≤ 56) }
-        requires unlabelled { founded.now.mode ≡ Mode.Unlabelled }
         requires spec { O.spec oracle.old ≡ founded.now }
         requires drawing { DrawingBelongs founded.now (O.x oracle.old) self.old }
         requires tape { Belongs (S.content shelf.old) tape.old }
 
-        ensures no_memory { result ≡ Turned.OutOfMemory
-            → (self.new ≡ self.old) × (tape.new ≡ tape.old) × (oracle.new ≡ oracle.old) }
+        ensures no_memory { result ≡ Turned.OutOfMemory → (self.new ≡ self.old)
+            × (tape.new ≡ tape.old) × (oracle.new ≡ oracle.old) × (shelf.new ≡ shelf.old) }
         ensures again { IfSome self.old.ending
             (λ ending. (result ≡ Turned.Finished ending) × (self.new ≡ self.old)) }
         ensures ended { IsSome self.old.ending
             → (tape.new ≡ tape.old) × (oracle.new ≡ oracle.old) × (shelf.new ≡ shelf.old) }
         ensures uncounted { turns_by self.old.ending result ≡ 0
-            → (tape.new ≡ tape.old) × (oracle.new ≡ oracle.old) }
+            → (tape.new ≡ tape.old) × (oracle.new ≡ oracle.old) × (shelf.new ≡ shelf.old) }
         ensures turned { result ≢ Turned.OutOfMemory
             → IsTurn founded.now (O.x oracle.old) F (O.table oracle.old)
             (bits_of tape.old.source (S.content shelf.old))
@@ -134,6 +149,7 @@ impl Drawing {
             ↔ ((self.old.kept ≢ self.old.limits.count)
             × (self.old.turns ≡ self.old.limits.turns))) }
         ensures kept { IfKept result (IsNext self.old.limits self.old.kept tape.new.used) }
+        ensures labels { IfKept result (HasLabels founded.now.mode) }
         ensures undecided { self.old.ending ≡ None → TellsOpen (O.table oracle.old) result }
         ensures drawing { DrawingBelongs founded.now (O.x oracle.old) self.new }
 
@@ -141,12 +157,14 @@ impl Drawing {
         ensures x { O.x oracle.new ≡ O.x oracle.old }
         ensures table { O.table oracle.new ≡ O.table oracle.old }
         ensures cost { O.cost oracle.new ≡ O.cost oracle.old }
-        ensures raised { O.raised oracle.new
-            ≡ max (O.raised oracle.old) (level_for (tape.new.used - tape.old.used)) }
+        ensures raised { O.raised oracle.new ≡ max (O.raised oracle.old)
+            (level_for (node_bits self.old.waiting (tape.new.used - tape.old.used))) }
+        ensures node_bits { node_bits self.old.waiting (tape.new.used - tape.old.used) ≤ 60 }
         ensures ticks { steps.new ≤ steps.old
             + cost_between (O.cost oracle.old) (O.raised oracle.old) (O.raised oracle.new) }
 
-        ensures used { (tape.old.used ≤ tape.new.used) × (tape.new.used ≤ tape.old.used + 60) }
+        ensures used { (tape.old.used ≤ tape.new.used)
+            × (tape.new.used ≤ tape.old.used + most_bits self.old.waiting) }
         ensures source { tape.new.source ≡ tape.old.source }
         ensures tape { Belongs (S.content shelf.new) tape.new }
         ensures content { S.content shelf.new ≡ S.content shelf.old }
@@ -159,12 +177,15 @@ impl Drawing {
         if let Some(turned) = self.idle_turn() {
             return turned;
         }
+        if let Some(made) = self.take_waiting() {
+            return self.label(made, tape, shelf);
+        }
         let answer = self.session.step(founded, oracle, tape, shelf, steps);
         let outcome = outcome_by(answer, oracle);
-        self.settle(outcome, tape.used())
+        self.settle(founded.system().mode(), outcome, tape.used())
     }
 
-    /// A turn that visits nothing; `None` where a node is to be visited.
+    /// A turn that needs no bit; `None` where a shape is to be labelled or a node to be visited.
     fn idle_turn(&mut self) -> Option<Turned>
         requires { self.old.turns ≤ 50000000 }
         ensures { IsIdleTurn self.old result self.new }
@@ -177,6 +198,9 @@ impl Drawing {
         }
         if self.counts.turns == self.limits.turns {
             return Some(self.end(Ending::TurnLimit));
+        }
+        if self.waiting.is_some() {
+            return None;
         }
         if self.session.pending() {
             return None;
@@ -207,14 +231,95 @@ impl Drawing {
         Ok(())
     }
 
+    /// Takes out the shape that waits for its labels, if one does.
+    fn take_waiting(&mut self) -> Option<Made>
+        ensures taken { IfSome result (λ made. (self.old.waiting ≡ Some (shape_of made))
+            × (self.new ≡ none_waiting self.old)) }
+        ensures nothing { IfNone result ((self.old.waiting ≡ None) × (self.new ≡ self.old)) }
+    {
+        replace(&mut self.waiting, None)
+    }
+
+    /// Labels a shape that waited and keeps it. Where its labelling is cut short it waits on.
+    fn label<S: Shelf>(&mut self, mut made: Made, tape: &mut Tape, shelf: &mut S) -> Turned
+        requires none_waits { self.old.waiting ≡ None }
+        requires size { size_of made.shape.items ≤ 1000000 }
+        requires kept { self.old.kept < 100000 }
+        requires turns { self.old.turns < 50000000 }
+        requires atoms { self.old.atoms ≤ self.old.kept * 1000000 }
+        requires tape { Belongs (S.content shelf.old) tape.old }
+
+        ensures no_memory { result ≡ Turned.OutOfMemory
+            → (tape.new ≡ tape.old) × (shelf.new ≡ shelf.old) }
+        ensures labelled { IsLabelTurn (bits_of tape.old.source (S.content shelf.old))
+            (shape_of made) self.old tape.old.used result self.new tape.new.used }
+
+        ensures used { (tape.old.used ≤ tape.new.used)
+            × (tape.new.used ≤ tape.old.used + 60 * size_of made.shape.items) }
+        ensures source { tape.new.source ≡ tape.old.source }
+        ensures tape { Belongs (S.content shelf.new) tape.new }
+        ensures content { S.content shelf.new ≡ S.content shelf.old }
+        ensures faults { (other : List ℕ) → S.faults shelf.old other ≤ S.faults shelf.new other }
+        ensures cause { result ≡ Turned.Finished Ending.ReadFault
+            → HasFault tape.old.source (S.faults shelf.old) (S.faults shelf.new) }
+        ensures seeded { (seed : ℕ) → tape.old.source ≡ TapeSource.Seeded seed
+            → shelf.new ≡ shelf.old }
+    {
+        let atoms = made.shape.size();
+        let answer = match made.cells.reserve(atoms as usize) {
+            Ok(()) => label(self.alloc, atoms, tape, shelf),
+            Err(_) => Labelled::OutOfMemory,
+        };
+        self.settle_labels(made, answer, tape.used())
+    }
+
+    /// Does what a labelling left to do, so many tape bits being used.
+    fn settle_labels(&mut self, mut made: Made, answer: Labelled, used: u64) -> Turned
+        requires none_waits { self.old.waiting ≡ None }
+        requires size { size_of made.shape.items ≤ 1000000 }
+        requires kept { self.old.kept < 100000 }
+        requires turns { self.old.turns < 50000000 }
+        requires atoms { self.old.atoms ≤ self.old.kept * 1000000 }
+        requires room { OnLabels answer (λ labels cells. length cells ≤ made.cells.spare) }
+        ensures { SettlesLabels answer (shape_of made) used self.old result self.new }
+    {
+        match answer {
+            Labelled::Labels { labels, cells } => {
+                append(&mut made.cells, cells.items());
+                self.counts.turns += 1;
+                Turned::Kept(self.keep(made, Some(labels), used))
+            }
+            Labelled::Straddles { m, cell } => {
+                self.cut_short(made, Ending::Undecided(Straddle::Label { m, cell }))
+            }
+            Labelled::Ended => self.cut_short(made, Ending::TapeEnded),
+            Labelled::ReadFault => self.cut_short(made, Ending::ReadFault),
+            Labelled::OutOfMemory => {
+                self.waiting = Some(made);
+                Turned::OutOfMemory
+            }
+        }
+    }
+
+    /// Ends the drawing while a shape waits for its labels, in a turn that is counted.
+    fn cut_short(&mut self, made: Made, ending: Ending) -> Turned
+        requires turns { self.old.turns < 50000000 }
+        ensures ended { self.new ≡ ended_by (counted (waiting_with self.old (shape_of made))) ending }
+        ensures told { result ≡ Turned.Finished ending }
+    {
+        self.waiting = Some(made);
+        self.go_on();
+        self.end(ending)
+    }
+
     /// Does what a visit left to do, so many tape bits being used.
-    fn settle(&mut self, outcome: Outcome, used: u64) -> Turned
+    fn settle(&mut self, mode: Mode, outcome: Outcome, used: u64) -> Turned
         requires { MaySettle outcome self.old }
-        ensures { Settles outcome used self.old result self.new }
+        ensures { Settles (spec_mode mode) outcome used self.old result self.new }
     {
         match outcome {
             Outcome::Moved => self.go_on(),
-            Outcome::Made => self.make(used),
+            Outcome::Made => self.make(mode, used),
             Outcome::Over => self.throw_away(),
             Outcome::Stopped(ending) => {
                 self.go_on();
@@ -246,54 +351,67 @@ impl Drawing {
         Turned::Going
     }
 
-    /// Keeps a made shape, or throws it away where it is below the least size.
-    fn make(&mut self, used: u64) -> Turned
+    /// Throws a made shape away where it is below the least size. Else it is kept in unlabelled mode,
+    /// and waits for its labels in labelled mode.
+    fn make(&mut self, mode: Mode, used: u64) -> Turned
         requires { MaySettle Outcome.Made self.old }
-        ensures { Settles Outcome.Made used self.old result self.new }
+        ensures { Settles (spec_mode mode) Outcome.Made used self.old result self.new }
     {
         if self.session.shape().size() < self.limits.min {
             return self.throw_away();
         }
-        Turned::Kept(self.keep(used))
+        let (shape, cells) = self.session.take_made();
+        self.keep_or_wait(mode, Made { shape, cells }, used)
     }
 
-    /// Keeps a made shape, in a turn that is counted.
-    fn keep(&mut self, used: u64) -> Entry
-        requires made { self.old.session.pending ≡ [] }
-        requires size { size_of self.old.session.tokens ≤ 1000000 }
+    /// Keeps a made shape in unlabelled mode; in labelled mode it waits for its labels.
+    fn keep_or_wait(&mut self, mode: Mode, made: Made, used: u64) -> Turned
+        requires none_waits { self.old.waiting ≡ None }
+        requires size { size_of made.shape.items ≤ 1000000 }
         requires kept { self.old.kept < 100000 }
         requires turns { self.old.turns < 50000000 }
         requires atoms { self.old.atoms ≤ self.old.kept * 1000000 }
-        ensures number { result.number ≡ self.old.kept + 1 }
-        ensures place { result.place ≡ used - bits_in self.old.session.cells }
-        ensures shape { result.shape.items ≡ self.old.session.tokens }
-        ensures cells { result.cells.items ≡ self.old.session.cells }
-        ensures kept { self.new ≡ kept_shape (counted self.old) (size_of self.old.session.tokens) }
+        ensures { KeepsOrWaits (spec_mode mode) (shape_of made) used (counted self.old) result self.new }
     {
-        let size = self.session.shape().size();
-        let place = place_before(used, self.session.cells());
-        let (shape, cells) = self.session.take_made();
-        self.counts.turns += 1;
+        self.go_on();
+        match mode {
+            Mode::Unlabelled => Turned::Kept(self.keep(made, None, used)),
+            Mode::Labelled => self.wait(made),
+        }
+    }
+
+    /// Lets a made shape wait for its labels.
+    fn wait(&mut self, made: Made) -> Turned
+        ensures waits { self.new ≡ waiting_with self.old (shape_of made) }
+        ensures told { result ≡ Turned.Going }
+    {
+        self.waiting = Some(made);
+        Turned::Going
+    }
+
+    /// Keeps a made shape with these labels, so many tape bits being used.
+    fn keep(&mut self, made: Made, labels: Option<Labels>, used: u64) -> Entry
+        requires size { size_of made.shape.items ≤ 1000000 }
+        requires kept { self.old.kept < 100000 }
+        requires atoms { self.old.atoms ≤ self.old.kept * 1000000 }
+        ensures number { result.number ≡ self.old.kept + 1 }
+        ensures place { result.place ≡ used - bits_in made.cells.items }
+        ensures shape { result.shape.items ≡ made.shape.items }
+        ensures labels { result.labels ≡ labels }
+        ensures cells { result.cells.items ≡ made.cells.items }
+        ensures kept { self.new ≡ kept_one_more self.old (size_of made.shape.items) }
+    {
+        let Made { shape, cells } = made;
         self.counts.kept += 1;
-        self.counts.atoms += size;
+        self.counts.atoms += shape.size();
         Entry {
             number: self.counts.kept,
-            place,
+            place: place_before(used, cells.items()),
             shape,
+            labels,
             cells,
         }
     }
-}
-
-/// The place before the bits that cells spell, so many being used after them.
-fn place_before(used: u64, cells: &[Cell]) -> u64
-    ensures { result ≡ used - bits_in cells.now }
-{
-    let mut place = used;
-    for cell in cells {
-        place = place.saturating_sub(u64::from(cell.b));
-    }
-    place
 }
 
 /// What a visit's answer leaves to do. Of a cell that straddles it tells the bounds of level 6.

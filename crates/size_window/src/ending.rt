@@ -12,6 +12,11 @@ pub enum Straddle {
         lo: u64,
         hi: u64,
     },
+    /// A whole number below `m`, for the label of an atom.
+    Label {
+        m: u64,
+        cell: Cell,
+    },
 }
 
 /// Why a drawing ended.
@@ -19,12 +24,12 @@ pub enum Straddle {
 pub enum Ending {
     /// As many objects as wanted are kept.
     Done,
-    /// The tape ended before an option was decided.
+    /// The tape ended before a number was decided.
     TapeEnded,
-    /// 60 bits decided no option.
+    /// 60 bits decided no option, or no label.
     Undecided(Straddle),
     /// As many turns as the limit were made, and fewer objects than wanted are kept.
     TurnLimit,
-    /// The tape's shelf failed before an option was decided.
+    /// The tape's shelf failed before a number was decided.
     ReadFault,
 }

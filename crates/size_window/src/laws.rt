@@ -4,7 +4,7 @@ ghost use Rattle.bz_model.specs.Fraction.{Fraction};
 ghost use Rattle.bz_model.specs.declared.cell.Bounds.{Bounds};
 ghost use Rattle.bz_model.specs.Measures.{HasZero};
 ghost use Rattle.bz_model.specs.Oracle as oracle;
-ghost use Rattle.bz_model.specs.Spec.{Mode, Spec};
+ghost use Rattle.bz_model.specs.Spec.{Spec};
 ghost use Rattle.class_system.specs.Sound.{IsSound};
 ghost use Rattle.well_founded.specs.EmptyObjects.{has_empty};
 ghost use Rattle.shape_sampler.specs.Answer.{ChoosesBy};
@@ -12,16 +12,15 @@ ghost use Rattle.size_window.specs.RunByBits.{Limits, Sampling, at_start, after}
 ghost use Rattle.size_window.specs.Ideally.{DecidesIdeally, chooser_of};
 ghost use Rattle.size_window.specs.Follows.{Follows, Goes};
 
-/// A drawing from an unlabelled specification follows the ideal run, after any number of turns and
-/// wherever the shelf fails.
+/// A drawing follows the ideal run, in each mode, after any number of turns and wherever the shelf
+/// fails.
 ///
 /// The cells of its finished attempts are a front of all its cells, and for all numbers in them, and
-/// any further numbers, the ideal run keeps the objects of the entries, in order, throws away as
-/// many attempts, and leaves the further numbers.
-pub fn an_unlabelled_drawing_follows_the_ideal_run()
+/// any further numbers, the ideal run keeps the objects of the entries with their labels, in order,
+/// throws away as many attempts, and leaves the further numbers. Each entry is made of its own cells.
+pub fn a_drawing_follows_the_ideal_run()
     ensures { (s : Sampling) (x : Fraction) → DecidesIdeally s.chooser x → IsSound s.chooser.spec
-        → s.chooser.spec.mode ≡ Mode.Unlabelled → (faults : ℕ → Option ℕ) (n : ℕ)
-        → Follows s.chooser.spec x s.limits (after s faults n) }
+        → (faults : ℕ → Option ℕ) (n : ℕ) → Follows s.chooser.spec x s.limits (after s faults n) }
 {}
 
 /// The chooser by a sound table of bounds decides ideally, where it is told which nodes have an

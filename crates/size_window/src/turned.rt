@@ -1,15 +1,18 @@
 //! What a turn of a drawing answers.
 use crate::ending::Ending;
 use bz_model::cells::Cells;
+use labelling::labels::Labels;
 use object_store::shape::Shape;
 
-/// A kept object: its number from 1, how many tape bits were used before its attempt, its shape, and
-/// the cells of its numbers in the order drawn.
+/// A kept object: its number from 1, how many tape bits were used before its attempt, its shape, in
+/// labelled mode the labels of its atoms in token order, and the cells of its numbers in the order
+/// drawn, those of the shape before those of the labels.
 #[derive(Drop)]
 pub struct Entry {
     pub number: u64,
     pub place: u64,
     pub shape: Shape,
+    pub labels: Option<Labels>,
     pub cells: Cells,
 }
 

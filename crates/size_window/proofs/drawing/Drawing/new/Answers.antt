@@ -5,6 +5,7 @@ use Rattle.size_window.proofs.drawing.Drawing.new.Goals as goal
 pub returns-clause-belongs : goal.returns-clause-belongs
 returns-clause-belongs c = λ x. record {
   session = c.in_ok-session.ensures.belongs x;
+  waits = tt;
   whole = c.in_ok-session.ensures.whole;
   runs = λ going. c.in_ok-session.ensures.idle.3;
   limits = c.requires.limits;

@@ -1,0 +1,115 @@
+-- Each number names a label, and the labelling goes on; where none does, it ends as its bits say.
+use Rattle.std.proofs.Common.{◌≡◌, ◌+◌, ◌-◌, ◌++◌, length, remove, refl, sym, ◌∙◌, ap, subst, arith}
+use Rattle.std.proofs.lemmas.List.Edits.{length-remove}
+use Rattle.std.specs.List.{AllByRecursion}
+use Rattle.std.specs.Prelude.{IfSome}
+use Rattle.bz_model.specs.Cell.{IsCell}
+use Rattle.bit_tape.specs.Tape.{bits_of}
+use Rattle.labelling.specs.Answer.{AreIdealLabels}
+use Rattle.labelling.specs.LabelsByBits.{bits_in}
+use Rattle.labelling.specs.Progress.{one_given}
+use Rattle.labelling.proofs.Numbers.{length-numbers, length-more, bits_in-more, bits_in-few, each-more}
+use Rattle.labelling.proofs.LabelsOn.{LabelsOn}
+use Rattle.labelling.proofs.Naming.{NamesIdeally, names-first, names-on, names-done}
+use Rattle.labelling.proofs.ToldLabels.{told-first, told-on, told-straddles, told-ended, told-failed, told-done}
+use Rattle.labelling.proofs.label.give_all.Goals as goal
+
+pub atoms-init : goal.atoms-init
+atoms-init g c =
+    let begun = c.requires.begun in
+    record {
+      few = omega arith;
+      some = λ any. any;
+      remaining = ap (λ p. length p.remaining) begun ∙ length-numbers 1 c.args.n;
+      cells = ap (λ p. length p.cells) begun ∙ (let e : 0 ≡ c.args.n - c.args.n = omega arith in e);
+      each = subst (λ p. AllByRecursion (λ d. IsCell d.k d.b) p.cells) (sym begun) tt;
+      used = (let e : c.args.tape.now.used ≡ c.args.tape.now.used + 0 = omega arith in e) ∙ ap (λ p. c.args.tape.now.used + bits_in p.cells) (sym begun);
+      names = subst (λ p. NamesIdeally c.args.n p) (sym begun) (names-first c.args.n);
+      goes = subst (λ p. IfSome (bits_of c.args.tape.now.source (g.S.Shelf.content c.args.shelf.now)) (λ bits. LabelsOn bits c.args.n c.args.tape.now.used c.args.n p c.args.tape.now.used)) (sym begun)
+          (told-first (bits_of c.args.tape.now.source (g.S.Shelf.content c.args.shelf.now)) c.args.n c.args.tape.now.used);
+      source = refl;
+      belongs = c.requires.belongs;
+      content = refl;
+      counts = λ other. omega arith;
+      seeded = λ seed is_seed. refl;
+    }
+
+pub returns-in-Straddles-clause-labelled : goal.returns-in-Straddles-clause-labelled
+returns-in-Straddles-clause-labelled g c =
+    let kept = c.atoms.invariant in
+    let told = rw (kept.source, kept.content) at c.in-Straddles.ensures.exact in
+    told-straddles (bits_of c.args.tape.now.source (g.S.Shelf.content c.args.shelf.now)) c.args.n c.args.tape.now.used c.atoms.m c.atoms.progress c.atoms.tape.used kept.goes kept.used c.atoms-test.true c.in-Straddles.cell c.draw_whole.new.tape.used told c.in-Straddles.ensures.used
+
+pub returns-in-Straddles-clause-used : goal.returns-in-Straddles-clause-used
+returns-in-Straddles-clause-used g c =
+    let kept = c.atoms.invariant in
+    let few = bits_in-few c.atoms.progress.cells kept.each in
+    (omega (arith, c.in-Straddles.ensures.used), omega (arith, c.in-Straddles.ensures.used, c.in-Straddles.ensures.cell))
+
+pub returns-in-Ended-clause-labelled : goal.returns-in-Ended-clause-labelled
+returns-in-Ended-clause-labelled g c =
+    let kept = c.atoms.invariant in
+    let told = rw (kept.source, kept.content) at c.in-Ended.ensures.exact in
+    told-ended (bits_of c.args.tape.now.source (g.S.Shelf.content c.args.shelf.now)) c.args.n c.args.tape.now.used c.atoms.m c.atoms.progress c.atoms.tape.used kept.goes kept.used c.atoms-test.true c.draw_whole.new.tape.used told c.in-Ended.ensures.used.0 c.in-Ended.ensures.used.1
+
+pub returns-in-Ended-clause-used : goal.returns-in-Ended-clause-used
+returns-in-Ended-clause-used g c =
+    let kept = c.atoms.invariant in
+    let few = bits_in-few c.atoms.progress.cells kept.each in
+    (omega (arith, c.in-Ended.ensures.used), omega (arith, c.in-Ended.ensures.used))
+
+pub returns-in-ReadFault-clause-labelled : goal.returns-in-ReadFault-clause-labelled
+returns-in-ReadFault-clause-labelled g c =
+    let kept = c.atoms.invariant in
+    let told = rw (kept.source, kept.content) at c.in-ReadFault.ensures.exact in
+    told-failed (bits_of c.args.tape.now.source (g.S.Shelf.content c.args.shelf.now)) c.args.n c.args.tape.now.used c.atoms.m c.atoms.progress c.atoms.tape.used kept.goes kept.used c.atoms-test.true c.draw_whole.new.tape.used told c.in-ReadFault.ensures.used.0 c.in-ReadFault.ensures.used.1
+
+pub returns-in-ReadFault-clause-used : goal.returns-in-ReadFault-clause-used
+returns-in-ReadFault-clause-used g c =
+    let kept = c.atoms.invariant in
+    let few = bits_in-few c.atoms.progress.cells kept.each in
+    (omega (arith, c.in-ReadFault.ensures.used), omega (arith, c.in-ReadFault.ensures.used))
+
+pub atoms-preserved : goal.atoms-preserved
+atoms-preserved g c =
+    let kept = c.atoms.invariant in
+    let told = rw (kept.source, kept.content) at c.in-Value.ensures.exact in
+    let next = one_given c.atoms.progress c.in-Value.value c.in-Value.cell in
+    let now : c.give.new.self ≡ next = c.give.ensures in
+    let below = c.in-Value.ensures.below in
+    let taken = length-remove c.atoms.progress.remaining c.in-Value.value (omega arith) in
+    let more = length-more c.atoms.progress.cells c.in-Value.cell in
+    let bits = bits_in-more c.atoms.progress.cells c.in-Value.cell in
+    record {
+      few = omega arith;
+      some = λ any. omega arith;
+      remaining = ap (λ p. length p.remaining) now ∙ (let e : length (remove c.atoms.progress.remaining c.in-Value.value) ≡ c.atoms.m - 1 = omega arith in e);
+      cells = ap (λ p. length p.cells) now ∙ (let e : length next.cells ≡ c.args.n - (c.atoms.m - 1) = omega arith in e);
+      each = subst (λ p. AllByRecursion (λ d. IsCell d.k d.b) p.cells) (sym now) (each-more (λ d. IsCell d.k d.b) c.atoms.progress.cells c.in-Value.cell kept.each c.in-Value.ensures.cell);
+      used = (let e : c.draw_whole.new.tape.used ≡ c.args.tape.now.used + bits_in next.cells = omega (arith, c.in-Value.ensures.used) in e) ∙ ap (λ p. c.args.tape.now.used + bits_in p.cells) (sym now);
+      names = subst (λ p. NamesIdeally c.args.n p) (sym now) (names-on c.args.n c.atoms.m c.in-Value.value c.atoms.progress c.in-Value.cell kept.names kept.remaining c.atoms-test.true below c.in-Value.ensures.decided);
+      goes = subst (λ p. IfSome (bits_of c.args.tape.now.source (g.S.Shelf.content c.args.shelf.now)) (λ bits. LabelsOn bits c.args.n c.args.tape.now.used (c.atoms.m - 1) p c.draw_whole.new.tape.used)) (sym now)
+          (told-on (bits_of c.args.tape.now.source (g.S.Shelf.content c.args.shelf.now)) c.args.n c.args.tape.now.used c.atoms.m c.atoms.progress c.atoms.tape.used kept.goes kept.used c.atoms-test.true c.in-Value.value c.in-Value.cell c.draw_whole.new.tape.used told c.in-Value.ensures.used);
+      source = c.in-Value.ensures.source ∙ kept.source;
+      belongs = c.in-Value.ensures.belongs;
+      content = c.in-Value.ensures.content ∙ kept.content;
+      counts = λ other. let later = kept.counts other in let once = c.in-Value.ensures.counts other in omega arith;
+      seeded = λ seed is_seed. c.in-Value.ensures.seeded seed (kept.source ∙ is_seed) ∙ kept.seeded seed is_seed;
+    }
+
+pub returns-clause-labelled : goal.returns-clause-labelled
+returns-clause-labelled g c =
+    let kept = c.atoms.invariant in
+    told-done (bits_of c.args.tape.now.source (g.S.Shelf.content c.args.shelf.now)) c.args.n c.args.tape.now.used c.atoms.m c.atoms.progress c.atoms.tape.used kept.goes kept.used (omega arith) kept.remaining c.finish-labels.result.0 c.finish-labels.result.1 c.finish-labels.ensures.labels c.finish-labels.ensures.cells
+
+pub returns-clause-ideal : goal.returns-clause-ideal
+returns-clause-ideal g c =
+    let kept = c.atoms.invariant in
+    let all = names-done c.args.n c.atoms.progress kept.names (omega arith) in
+    subst (λ ls. AreIdealLabels c.args.n ls c.finish-labels.result.1.items) (sym c.finish-labels.ensures.labels) (subst (λ cs. AreIdealLabels c.args.n (c.atoms.progress.given ++ c.atoms.progress.remaining) cs) (sym c.finish-labels.ensures.cells) all)
+
+pub returns-clause-used : goal.returns-clause-used
+returns-clause-used g c =
+    let kept = c.atoms.invariant in
+    let few = bits_in-few c.atoms.progress.cells kept.each in
+    (omega arith, omega arith)

@@ -1,0 +1,4 @@
+pub mod LabelsByBits
+pub mod Answer
+pub mod Tree
+pub mod Progress

@@ -1,0 +1,85 @@
+//! Labellings.
+ghost use Rattle.std.specs.Prelude.{◌≡◌, ◌≢◌, ℕ, ◌+◌, ◌*◌, ◌≤◌, [], List};
+ghost use Rattle.bz_model.specs.Labels.{numbers_from};
+ghost use Rattle.bit_tape.specs.Tape.{TapeSource, Belongs, bits_of, HasFault};
+ghost use Rattle.labelling.specs.Answer.{IsLabelling, OnLabels, AreIdealLabels, AreCellsOf, StraddlesAt};
+
+use crate::labelled::Labelled;
+use crate::progress::Progress;
+use bit_tape::tape::Tape;
+use bz_outside::shelf::Shelf;
+use choice_draw::drawn::Drawn;
+use choice_draw::whole::draw_whole;
+use std::alloc::Global;
+
+/// Labels `n` atoms: a permutation of 1 to `n`, in token order.
+///
+/// For m from `n` down to 2 a whole number below m is drawn, and the next atom gets the remaining
+/// label that has so many remaining labels below it. The last atom gets the label left, and no number
+/// is drawn for it, so that no bit is taken where `n` is 0 or 1. Where the shelf tells its content,
+/// the answer is fixed by the tape's bits. All memory is taken before the first bit: a tree of
+/// counts, the labels and the cells. `OutOfMemory` leaves tape and shelf as they were.
+pub fn label<S: Shelf>(alloc: Global, n: u64, tape: &mut Tape, shelf: &mut S) -> Labelled
+    requires within_limit { n ≤ 1000000 }
+    requires belongs { Belongs (S.content shelf.old) tape.old }
+
+    ensures no_memory { result ≡ Labelled.OutOfMemory
+        → (tape.new ≡ tape.old) × (shelf.new ≡ shelf.old) }
+    ensures labelled { IsLabelling (bits_of tape.old.source (S.content shelf.old)) n
+        tape.old.used result tape.new.used }
+    ensures ideal { OnLabels result (λ labels cells. AreIdealLabels n labels cells) }
+    ensures cells { OnLabels result (λ labels cells. AreCellsOf n cells) }
+    ensures straddles { StraddlesAt n result }
+
+    ensures used { (tape.old.used ≤ tape.new.used) × (tape.new.used ≤ tape.old.used + 60 * n) }
+    ensures source { tape.new.source ≡ tape.old.source }
+    ensures belongs { Belongs (S.content shelf.new) tape.new }
+
+    ensures content { S.content shelf.new ≡ S.content shelf.old }
+    ensures counts { (other : List ℕ) → S.faults shelf.old other ≤ S.faults shelf.new other }
+    ensures cause { result ≡ Labelled.ReadFault
+        → HasFault tape.old.source (S.faults shelf.old) (S.faults shelf.new) }
+    ensures seeded { (seed : ℕ) → tape.old.source ≡ TapeSource.Seeded seed → shelf.new ≡ shelf.old }
+{
+    match Progress::begin(alloc, n) {
+        Ok(progress) => give_all(progress, n, tape, shelf),
+        Err(_) => Labelled::OutOfMemory,
+    }
+}
+
+/// Gives the labels of `n` atoms, of which none was given before.
+fn give_all<S: Shelf>(mut progress: Progress, n: u64, tape: &mut Tape, shelf: &mut S) -> Labelled
+    requires within_limit { n ≤ 1000000 }
+    requires begun { progress ≡ record { remaining = numbers_from 1 n; given = []; cells = [] } }
+    requires belongs { Belongs (S.content shelf.old) tape.old }
+
+    ensures labelled { IsLabelling (bits_of tape.old.source (S.content shelf.old)) n
+        tape.old.used result tape.new.used }
+    ensures some_memory { result ≢ Labelled.OutOfMemory }
+    ensures ideal { OnLabels result (λ labels cells. AreIdealLabels n labels cells) }
+    ensures cells { OnLabels result (λ labels cells. AreCellsOf n cells) }
+    ensures straddles { StraddlesAt n result }
+
+    ensures used { (tape.old.used ≤ tape.new.used) × (tape.new.used ≤ tape.old.used + 60 * n) }
+    ensures source { tape.new.source ≡ tape.old.source }
+    ensures belongs { Belongs (S.content shelf.new) tape.new }
+
+    ensures content { S.content shelf.new ≡ S.content shelf.old }
+    ensures counts { (other : List ℕ) → S.faults shelf.old other ≤ S.faults shelf.new other }
+    ensures cause { result ≡ Labelled.ReadFault
+        → HasFault tape.old.source (S.faults shelf.old) (S.faults shelf.new) }
+    ensures seeded { (seed : ℕ) → tape.old.source ≡ TapeSource.Seeded seed → shelf.new ≡ shelf.old }
+{
+    let mut m = n;
+    'atoms: while m >= 2 {
+        match draw_whole(m, tape, shelf) {
+            Drawn::Value { value, cell } => progress.give(value, cell),
+            Drawn::Straddles { cell } => return Labelled::Straddles { m, cell },
+            Drawn::Ended => return Labelled::Ended,
+            Drawn::ReadFault => return Labelled::ReadFault,
+        }
+        m -= 1;
+    }
+    let (labels, cells) = progress.finish();
+    Labelled::Labels { labels, cells }
+}

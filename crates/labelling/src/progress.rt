@@ -1,0 +1,101 @@
+//! Labellings under way.
+ghost use Rattle.std.specs.Prelude.{◌≡◌, ◌+◌, ◌<◌, ◌≤◌, [], ◌∷◌, ◌++◌, length, vec_len, vec_capacity, IfOk};
+ghost use Rattle.bz_model.specs.Labels.{numbers_from};
+ghost use Rattle.labelling.specs.Progress.{one_given};
+
+use crate::labels::Labels;
+use crate::tree::LabelTree;
+use bz_model::cell::Cell;
+use bz_model::cells::Cells;
+use std::alloc::{AllocError, Global};
+use std::marker::Model;
+
+/// Which labels remain, which were given, and the cells of the numbers drawn for them.
+///
+/// There is spare room for the labels that remain, and for a cell for each of them.
+#[derive(Drop)]
+pub(crate) struct Progress {
+    tree: LabelTree,
+    given: Vec<u64>,
+    cells: Cells,
+}
+
+impl Model for Progress {
+    ghost use Rattle.std.specs.Prelude.{◌+◌, ◌≤◌, length, vec_len, vec_capacity};
+    ghost use Rattle.labelling.specs.Progress.{ProgressState};
+
+    ghost Value = { ProgressState };
+
+    ghost view = { λ p. record { remaining = p.tree; given = p.given.items; cells = p.cells.items } };
+
+    ghost invariant = { λ p. (vec_len p.given + length p.tree ≤ vec_capacity p.given) × (length p.tree ≤ p.cells.spare) };
+}
+
+impl Progress {
+    /// The labelling of `n` atoms before its first number. Takes all its memory.
+    pub(crate) fn begin(alloc: Global, n: u64) -> Result<Progress, AllocError>
+        requires within_limit { n ≤ 1000000 }
+        ensures begun { IfOk result (λ progress. progress
+            ≡ record { remaining = numbers_from 1 n; given = []; cells = [] }) }
+    {
+        let tree = LabelTree::make(alloc, n)?;
+        let given = Vec::with_capacity(alloc, n as usize)?;
+        let mut cells = Cells::new(alloc);
+        cells.reserve(n as usize)?;
+        Ok(Progress { tree, given, cells })
+    }
+
+    /// Gives the next atom the label with `i` remaining labels below it, `cell` being that of the
+    /// number drawn for it. Takes no memory.
+    pub(crate) fn give(&mut self, i: u64, cell: Cell)
+        requires { i < length self.old.remaining }
+        ensures { self.new ≡ one_given self.old i cell }
+    {
+        let label = self.tree.take(i);
+        put_label(&mut self.given, label);
+        put_cell(&mut self.cells, cell);
+    }
+
+    /// Gives the last atom the label left, if there is one, and hands out labels and cells. Takes no
+    /// memory.
+    pub(crate) fn finish(self) -> (Labels, Cells)
+        requires last { length self.remaining ≤ 1 }
+        ensures labels { result.0 ≡ self.given ++ self.remaining }
+        ensures cells { result.1.items ≡ self.cells }
+    {
+        let Progress {
+            mut tree,
+            mut given,
+            cells,
+        } = self;
+        if tree.left() == 1 {
+            let label = tree.take(0);
+            put_label(&mut given, label);
+        }
+        (Labels::of(given), cells)
+    }
+}
+
+/// Appends a label.
+fn put_label(given: &mut Vec<u64>, label: u64)
+    requires { vec_len given.old < vec_capacity given.old }
+    ensures label { given.new.items ≡ given.old.items ++ label ∷ [] }
+    ensures spare { vec_capacity given.old ≤ vec_capacity given.new }
+{
+    match given.push(label) {
+        Ok(()) => {}
+        Err(_) => unreachable!(),
+    }
+}
+
+/// Appends a cell.
+fn put_cell(cells: &mut Cells, cell: Cell)
+    requires { 0 < cells.old.spare }
+    ensures cell { cells.new.items ≡ cells.old.items ++ cell ∷ [] }
+    ensures spare { cells.old.spare ≤ cells.new.spare + 1 }
+{
+    match cells.push(cell) {
+        Ok(()) => {}
+        Err(_) => unreachable!(),
+    }
+}

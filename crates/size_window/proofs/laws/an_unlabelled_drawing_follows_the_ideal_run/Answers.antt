@@ -1,5 +1,0 @@
-use Rattle.size_window.proofs.Following.{after-follows}
-use Rattle.size_window.proofs.laws.an_unlabelled_drawing_follows_the_ideal_run.Goals as goal
-
-pub returns : goal.returns
-returns c = λ s x ideal sound plain faults n. after-follows s x ideal sound plain faults n
