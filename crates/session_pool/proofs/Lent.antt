@@ -1,5 +1,5 @@
 -- The member of a pool that was lent, and the pool with it written back.
-use Rattle.std.proofs.Common.{◌≡◌, ℕ, ◌-◌, ◌<◌, List, length, refl, sym, ◌∙◌, ap, subst}
+use Rattle.std.proofs.Common.{◌≡◌, ℕ, ◌<◌, List, length, refl, sym, ◌∙◌, ap, subst}
 use Rattle.std.specs.Prelude.{Option, Some, option_map, slice_get, slice_set, slice_index_or}
 use Rattle.std.proofs.lemmas.List.{map-set, set-get_or}
 use Rattle.std.proofs.lemmas.List.Elements.{All-set}
@@ -9,12 +9,11 @@ use Rattle.bz_model.specs.declared.cell.Bounds.{Bounds}
 use Rattle.bz_model.specs.Fraction.{Fraction}
 use Rattle.bz_model.specs.Spec.{Spec}
 use Rattle.bit_tape.specs.Tape.{Belongs}
-use Rattle.choice_draw.specs.Decision.{level_for}
 use Rattle.size_window.specs.Drawing.{DrawingBelongs}
 use Rattle.session_pool.specs.declared.pooled.Pooled.{Pooled}
-use Rattle.session_pool.specs.Member.{MemberState}
+use Rattle.session_pool.specs.Member.{MemberState, bits_to_nodes}
 use Rattle.session_pool.specs.Turn.{IsMemberTurn, IsPoolTurn}
-use Rattle.session_pool.specs.Pool.{tapes_of, sources_of, PoolBelongs, TapesBelong, bits_used, bits_used_by, ending_at, ending_by}
+use Rattle.session_pool.specs.Pool.{tapes_of, sources_of, PoolBelongs, TapesBelong, bits_between, bits_to_nodes_at, ending_at, ending_by}
 use Rattle.session_pool.proofs.Replaced.{replaced-here}
 
 -- the tape that was lent belongs as all do
@@ -53,9 +52,9 @@ module _ (items pool : List MemberState) (number : ℕ) (m later : MemberState) 
   pub ending-is : ending_at (slice_set items number later) number ≡ later.drawing.ending
   ending-is = ap ending_by back-at
 
-  -- the bits that it used
-  pub bits-lent : level_for (later.tape.used - m.tape.used) ≡ level_for (bits_used (slice_set items number later) number - bits_used pool number)
-  bits-lent = ap (λ n. level_for (n - m.tape.used)) (sym (ap bits_used_by back-at)) ∙ ap (λ n. level_for (bits_used (slice_set items number later) number - n)) (sym (ap bits_used_by h.at))
+  -- the bits that its turn gave to numbers of nodes
+  pub bits-lent : bits_to_nodes m later ≡ bits_to_nodes_at number pool (slice_set items number later)
+  bits-lent = ap (λ o. bits_between o (Some later)) (sym h.at) ∙ ap (bits_between (slice_get pool number)) (sym back-at)
 
   -- it still belongs
   pub drawings-back : (s : Spec) (x : Fraction) → PoolBelongs s x pool → DrawingBelongs s x later.drawing → PoolBelongs s x (slice_set items number later)

@@ -7,7 +7,7 @@ use Rattle.bit_tape.specs.Tape.{TapeState, TapeSource, Belongs}
 use Rattle.size_window.specs.declared.ending.Ending.{Ending}
 use Rattle.size_window.specs.RunByBits.{Limits}
 use Rattle.size_window.specs.Drawing.{DrawingBelongs}
-use Rattle.session_pool.specs.Member.{MemberState, IsNewMember}
+use Rattle.session_pool.specs.Member.{MemberState, IsNewMember, bits_to_nodes}
 
 -- The tapes of a pool, in order.
 abbrev pub tapes_of : List MemberState → List TapeState
@@ -30,13 +30,13 @@ pub record IsNewPool (limits : Limits) (tapes : List TapeState) (pool : List Mem
   pub same_tapes : tapes_of pool ≡ tapes
   pub each : All (λ m. IsNewMember limits m.tape m) pool
 
-abbrev pub bits_used_by : Option MemberState → ℕ
-bits_used_by (Some m) = m.tape.used
-bits_used_by None = 0
+abbrev pub bits_between : Option MemberState → Option MemberState → ℕ
+bits_between (Some m) (Some later) = bits_to_nodes m later
+bits_between _ _ = 0
 
--- How many bits the drawing of this number used, and 0 where there is none.
-abbrev pub bits_used : List MemberState → (number : ℕ) → ℕ
-bits_used pool number = bits_used_by (slice_get pool number)
+-- How many bits a turn from one pool to another gave to numbers of nodes, in the drawing of this number.
+abbrev pub bits_to_nodes_at : (number : ℕ) → (pool later : List MemberState) → ℕ
+bits_to_nodes_at number pool later = bits_between (slice_get pool number) (slice_get later number)
 
 abbrev pub ending_by : Option MemberState → Option Ending
 ending_by (Some m) = m.drawing.ending

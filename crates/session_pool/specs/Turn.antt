@@ -1,5 +1,5 @@
 -- What one turn of a pool makes of it.
-use Rattle.std.specs.Prelude.{◌≡◌, ◌≢◌, ℕ, ◌↔◌, List, [], ◌∷◌, ◌++◌, slice_get, slice_set, Option, Some, None, IfSome}
+use Rattle.std.specs.Prelude.{◌≡◌, ◌≢◌, ℕ, ◌+◌, ◌≤◌, ◌↔◌, List, [], ◌∷◌, ◌++◌, slice_get, slice_set, Option, Some, None, IfSome}
 use Rattle.bz_model.specs.declared.cell.Bounds.{Bounds}
 use Rattle.bz_model.specs.Fraction.{Fraction}
 use Rattle.bz_model.specs.Spec.{Spec}
@@ -9,7 +9,7 @@ use Rattle.size_window.specs.declared.ending.Ending.TheVariants.{Done, TurnLimit
 use Rattle.size_window.specs.declared.turned.Entry.{Entry}
 use Rattle.size_window.specs.declared.turned.Turned.{Turned}
 use Rattle.size_window.specs.declared.turned.Turned.TheVariants as turned
-use Rattle.size_window.specs.Turn.{IsTurn, IsCounted, IfKept, IsNext, TellsOpen}
+use Rattle.size_window.specs.Turn.{IsTurn, IsCounted, IfKept, IsNext, HasLabels, most_bits, TellsOpen}
 use Rattle.session_pool.specs.declared.pooled.Pooled.{Pooled}
 use Rattle.session_pool.specs.declared.pooled.Pooled.TheVariants.{Going, Finished}
 use Rattle.session_pool.specs.Member.{MemberState}
@@ -40,7 +40,9 @@ pub record IsMemberTurn (s : Spec) (x : Fraction) (F : ℕ) (table : (level node
   pub counted : IsCounted m.drawing told later.drawing
   pub next : IfKept told (IsNext m.drawing.limits m.drawing.kept later.tape.used)
   pub rightly : m.drawing.ending ≡ None → AnswersRightly table m before now told
+  pub labels : IfKept told (HasLabels s.mode)
   pub entries : later.entries ≡ m.entries ++ kept_in told
+  pub used : (m.tape.used ≤ later.tape.used) × (later.tape.used ≤ m.tape.used + most_bits m.drawing.waiting)
   pub source : later.tape.source ≡ m.tape.source
   pub answers : answer ≡ answer_of later.drawing.ending
 

@@ -1,12 +1,11 @@
 //! One drawing of a pool, with its tape and what it kept.
-ghost use Rattle.std.specs.Prelude.{◌≡◌, ◌≢◌, ℕ, ◌+◌, ◌-◌, ◌≤◌, max, [], List, IfOk, IsSome, None};
+ghost use Rattle.std.specs.Prelude.{◌≡◌, ◌≢◌, ℕ, ◌+◌, ◌≤◌, max, [], List, IfOk, IsSome, None};
 ghost use Rattle.bz_model.specs.Fraction.{Fraction};
-ghost use Rattle.bz_model.specs.Spec.{Mode};
 ghost use Rattle.bz_model.specs.Oracle.{cost_between};
 ghost use Rattle.bit_tape.specs.Tape.{Belongs};
 ghost use Rattle.choice_draw.specs.Decision.{level_for};
 ghost use Rattle.size_window.specs.Drawing.{limits_of, AreLimits, DrawingBelongs};
-ghost use Rattle.session_pool.specs.Member.{IsNewMember, counts_of};
+ghost use Rattle.session_pool.specs.Member.{IsNewMember, counts_of, bits_to_nodes};
 ghost use Rattle.session_pool.specs.Turn.{IsMemberTurn};
 
 use crate::pooled::Pooled;
@@ -71,13 +70,12 @@ impl Member {
         steps: &mut Steps<L>,
     ) -> Pooled
         requires fraction { (24 ≤ F) × (F ≤ 56) }
-        requires unlabelled { founded.now.mode ≡ Mode.Unlabelled }
         requires spec { O.spec oracle.old ≡ founded.now }
         requires drawing { DrawingBelongs founded.now (O.x oracle.old) self.old.drawing }
         requires tape { Belongs (S.content shelf.old) self.old.tape }
 
         ensures no_memory { result ≡ Pooled.OutOfMemory
-            → (self.new ≡ self.old) × (oracle.new ≡ oracle.old) }
+            → (self.new ≡ self.old) × (oracle.new ≡ oracle.old) × (shelf.new ≡ shelf.old) }
         ensures ended { IsSome self.old.drawing.ending
             → (result ≡ Pooled.Finished) × (self.new ≡ self.old)
             × (oracle.new ≡ oracle.old) × (shelf.new ≡ shelf.old) }
@@ -93,7 +91,8 @@ impl Member {
         ensures table { O.table oracle.new ≡ O.table oracle.old }
         ensures cost { O.cost oracle.new ≡ O.cost oracle.old }
         ensures raised { O.raised oracle.new
-            ≡ max (O.raised oracle.old) (level_for (self.new.tape.used - self.old.tape.used)) }
+            ≡ max (O.raised oracle.old) (level_for (bits_to_nodes self.old self.new)) }
+        ensures node_bits { bits_to_nodes self.old self.new ≤ 60 }
         ensures ticks { steps.new ≤ steps.old
             + cost_between (O.cost oracle.old) (O.raised oracle.old) (O.raised oracle.new) }
         ensures content { S.content shelf.new ≡ S.content shelf.old }

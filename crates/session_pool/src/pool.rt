@@ -1,15 +1,14 @@
 //! A pool of drawings.
-ghost use Rattle.std.specs.Prelude.{◌≡◌, ◌≢◌, ℕ, ◌+◌, ◌-◌, ◌<◌, ◌≤◌, max, [], ◌∷◌, ◌++◌, List, length, map, slice_get, None, IfOk, IfSome, IsSome};
+ghost use Rattle.std.specs.Prelude.{◌≡◌, ◌≢◌, ℕ, ◌+◌, ◌<◌, ◌≤◌, max, [], ◌∷◌, ◌++◌, List, length, map, slice_get, None, IfOk, IfSome, IsSome};
 ghost use Rattle.std.specs.List.{All};
 ghost use Rattle.bz_model.specs.Fraction.{Fraction};
-ghost use Rattle.bz_model.specs.Spec.{Mode};
 ghost use Rattle.bz_model.specs.Oracle.{cost_between};
 ghost use Rattle.choice_draw.specs.Decision.{level_for};
 ghost use Rattle.size_window.specs.RunByBits as run;
 ghost use Rattle.size_window.specs.Drawing.{limits_of, AreLimits};
 ghost use Rattle.bit_tape.specs.Tape.{TapeSource};
 ghost use Rattle.session_pool.specs.Member.{counts_of};
-ghost use Rattle.session_pool.specs.Pool.{IsNewPool, PoolBelongs, TapesBelong, tapes_of, sources_of, bits_used, ending_at};
+ghost use Rattle.session_pool.specs.Pool.{IsNewPool, PoolBelongs, TapesBelong, tapes_of, sources_of, bits_to_nodes_at, ending_at};
 ghost use Rattle.session_pool.specs.Turn.{IsPoolTurn, answer_of};
 ghost use Rattle.session_pool.specs.Interleaving.{Setting, setting, IsPoolAfter};
 
@@ -74,7 +73,8 @@ impl Pool {
     /// It answers `Going` exactly where that drawing goes on afterwards, and `Finished` exactly where
     /// it has ended. A drawing that had ended isn't touched. The object that a turn keeps is appended
     /// to the drawing's entries. Every other drawing stays as it was, with its tape and its entries.
-    /// All memory is taken before the first bit; `OutOfMemory` leaves pool and oracle as they were.
+    /// All memory is taken before the first bit; `OutOfMemory` leaves pool, oracle and shelf as they
+    /// were.
     pub fn turn<const F: u32, O: Oracle<F>, S: Shelf, L: Ledger>(
         &mut self,
         number: usize,
@@ -85,13 +85,12 @@ impl Pool {
     ) -> Pooled
         requires fraction { (24 ≤ F) × (F ≤ 56) }
         requires number { number < length self.old }
-        requires unlabelled { founded.now.mode ≡ Mode.Unlabelled }
         requires spec { O.spec oracle.old ≡ founded.now }
         requires drawings { PoolBelongs founded.now (O.x oracle.old) self.old }
         requires tapes { TapesBelong (S.content shelf.old) (tapes_of self.old) }
 
         ensures no_memory { result ≡ Pooled.OutOfMemory
-            → (self.new ≡ self.old) × (oracle.new ≡ oracle.old) }
+            → (self.new ≡ self.old) × (oracle.new ≡ oracle.old) × (shelf.new ≡ shelf.old) }
         ensures ended { IsSome (ending_at self.old number)
             → (result ≡ Pooled.Finished) × (self.new ≡ self.old)
             × (oracle.new ≡ oracle.old) × (shelf.new ≡ shelf.old) }
@@ -117,7 +116,8 @@ impl Pool {
         ensures table { O.table oracle.new ≡ O.table oracle.old }
         ensures cost { O.cost oracle.new ≡ O.cost oracle.old }
         ensures raised { O.raised oracle.new ≡ max (O.raised oracle.old)
-            (level_for (bits_used self.new number - bits_used self.old number)) }
+            (level_for (bits_to_nodes_at number self.old self.new)) }
+        ensures node_bits { bits_to_nodes_at number self.old self.new ≤ 60 }
         ensures ticks { steps.new ≤ steps.old
             + cost_between (O.cost oracle.old) (O.raised oracle.old) (O.raised oracle.new) }
         ensures content { S.content shelf.new ≡ S.content shelf.old }

@@ -1,5 +1,6 @@
 -- A member is lent, makes its turn, and is written back.
-use Rattle.std.proofs.Common.{max, sym, ◌∙◌, ap, subst}
+use Rattle.std.proofs.Common.{max, sym, ◌∙◌, ap, subst, arith}
+use Rattle.choice_draw.specs.Decision.{level_for}
 use Rattle.std.specs.Prelude.{slice_set, IsSome}
 use Rattle.bit_tape.specs.Tape.{Belongs}
 use Rattle.session_pool.specs.Pool.{TapesBelong, tapes_of}
@@ -18,7 +19,7 @@ pub returns-clause-no_memory : goal.returns-clause-no_memory
 returns-clause-no_memory g c = λ wanting.
     let lent = is-lent c.self.inside.members.items c.args.self.now c.args.number c.index_mut-member.result.now c.self.view_is c.requires.number c.index_mut-member.ensures.value in
     let same = c.turn.ensures.no_memory wanting in
-    (unchanged c.self.inside.members.items c.args.self.now c.args.number c.index_mut-member.result.now c.turn.new.self lent same.0, same.1)
+    (unchanged c.self.inside.members.items c.args.self.now c.args.number c.index_mut-member.result.now c.turn.new.self lent same.0, same.1, same.2)
 
 pub returns-clause-ended : goal.returns-clause-ended
 returns-clause-ended g c = λ some.
@@ -59,4 +60,11 @@ returns-clause-tapes g c =
 pub returns-clause-raised : goal.returns-clause-raised
 returns-clause-raised g c =
     let lent = is-lent c.self.inside.members.items c.args.self.now c.args.number c.index_mut-member.result.now c.self.view_is c.requires.number c.index_mut-member.ensures.value in
-    c.turn.ensures.raised ∙ ap (max (g.O.Oracle.raised c.args.oracle.now)) (bits-lent c.self.inside.members.items c.args.self.now c.args.number c.index_mut-member.result.now c.turn.new.self lent)
+    c.turn.ensures.raised ∙ ap (max (g.O.Oracle.raised c.args.oracle.now)) (ap level_for (bits-lent c.self.inside.members.items c.args.self.now c.args.number c.index_mut-member.result.now c.turn.new.self lent))
+
+pub returns-clause-node_bits : goal.returns-clause-node_bits
+returns-clause-node_bits g c =
+    let lent = is-lent c.self.inside.members.items c.args.self.now c.args.number c.index_mut-member.result.now c.self.view_is c.requires.number c.index_mut-member.ensures.value in
+    let given = c.turn.ensures.node_bits in
+    let same = bits-lent c.self.inside.members.items c.args.self.now c.args.number c.index_mut-member.result.now c.turn.new.self lent in
+    omega (arith, given, same)
