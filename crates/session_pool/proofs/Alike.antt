@@ -1,17 +1,18 @@
 -- Drawings of two pools that made equally many turns.
-use Rattle.std.proofs.Common.{◌≡◌, ℕ, zero, suc, Bool, true, List, refl, sym, ◌∙◌, ap, subst}
+use Rattle.std.proofs.Common.{◌≡◌, ◌≢◌, ℕ, zero, suc, Bool, true, List, refl, sym, ◌∙◌, ap, subst}
 use Rattle.std.specs.Prelude.{Option, Some, None, IfSome, IsSome, is_some, option_map, map, slice_get}
 use Rattle.std.proofs.lemmas.Option.{slice_get-map, same_Some}
-use Rattle.bit_tape.specs.Tape.{TapeSource, bits_of, HasFault}
+use Rattle.bit_tape.specs.Tape.{TapeSource, bits_of}
 use Rattle.shape_sampler.specs.Answer.{ChoosesBy}
 use Rattle.shape_sampler.specs.Visit.{Chooser}
+use Rattle.size_window.specs.declared.ending.Ending.TheVariants as told
 use Rattle.size_window.specs.RunByBits.{Limits, Sampling, Course, one_turn_on, after}
 use Rattle.session_pool.specs.Member.{MemberState}
 use Rattle.session_pool.specs.Pool.{sources_of}
 use Rattle.session_pool.specs.Interleaving.{Setting, IsMemberAfter, IsPoolAfter, times, AreAlike}
 
--- no turn fails where the count didn't rise
-unfailed : {Failed : Type 0} (o : Option ℕ) → ((given : ℕ) → o ≡ Some given → Failed) → ¬ Failed → o ≡ None
+-- no turn fails where the drawing didn't end so
+unfailed : {Failed : Type 0} (o : Option ℕ) → ((given : ℕ) → o ≡ Some given → Failed) → (Failed → ⊥) → o ≡ None
 unfailed None caused never = refl
 unfailed (Some given) caused never = absurd (never (caused given refl))
 
@@ -28,11 +29,11 @@ same-source sources pool other a b number m n at at_other =
     let two : slice_get (map source-of other) number ≡ Some n.tape.source = slice_get-map source-of other number ∙ ap (option_map source-of) at_other in
     same_Some m.tape.source n.tape.source (sym one ∙ (ap (λ ss. slice_get ss number) (a ∙ sym b) ∙ two))
 
--- a told course that no failed read disturbed is fixed by the number of turns
-undisturbed : (w : Setting) (limits : Limits) (begun counts : List ℕ → ℕ) (turns : ℕ) (m : MemberState) (p : IsMemberAfter w limits begun counts turns m) → ¬ HasFault m.tape.source begun counts → (c : Chooser) → ChoosesBy w.spec w.F w.table c → (tape : ℕ → Option Bool) → bits_of m.tape.source w.contents ≡ Some tape → p.course ≡ after (record { chooser = c; limits = limits; tape = tape }) (λ k. None) turns
+-- a told course that no failed read ended is fixed by the number of turns
+undisturbed : (w : Setting) (limits : Limits) (begun counts : List ℕ → ℕ) (turns : ℕ) (m : MemberState) (p : IsMemberAfter w limits begun counts turns m) → m.drawing.ending ≢ Some told.ReadFault → (c : Chooser) → ChoosesBy w.spec w.F w.table c → (tape : ℕ → Option Bool) → bits_of m.tape.source w.contents ≡ Some tape → p.course ≡ after (record { chooser = c; limits = limits; tape = tape }) (λ k. None) turns
 undisturbed w limits begun counts turns m p never c chooses tape told =
     let alone = subst (λ o. IfSome o (λ bits. (c : Chooser) → ChoosesBy w.spec w.F w.table c → p.course ≡ after (record { chooser = c; limits = limits; tape = bits }) p.faults turns)) told p.alone in
-    alone c chooses ∙ unfailing (record { chooser = c; limits = limits; tape = tape }) p.faults turns (λ k. unfailed (p.faults k) (p.caused k) never)
+    alone c chooses ∙ unfailing (record { chooser = c; limits = limits; tape = tape }) p.faults turns (λ k. unfailed (p.faults k) (p.disturbed k) never)
 
 -- drawings with the same course are alike
 alike-by : (w : Setting) (limits : Limits) (begun counts begun_then counts_then : List ℕ → ℕ) (turns others : ℕ) (m n : MemberState) (p : IsMemberAfter w limits begun counts turns m) (q : IsMemberAfter w limits begun_then counts_then others n) → p.course ≡ q.course → AreAlike m n
@@ -41,7 +42,7 @@ alike-by w limits begun counts begun_then counts_then turns others m n p q same 
   entries = sym p.entries ∙ (ap (λ (c : Course). c.entries) same ∙ q.entries);
 }
 
-pub alike : (w : Setting) (limits : Limits) (sources : List TapeSource) (c : Chooser) → ChoosesBy w.spec w.F w.table c → (begun counts : List ℕ → ℕ) (turns : List ℕ) (pool : List MemberState) → IsPoolAfter w limits sources begun counts turns pool → (begun_then counts_then : List ℕ → ℕ) (others : List ℕ) (other : List MemberState) → IsPoolAfter w limits sources begun_then counts_then others other → (number : ℕ) (m n : MemberState) → slice_get pool number ≡ Some m → slice_get other number ≡ Some n → times number turns ≡ times number others → IsSome (bits_of m.tape.source w.contents) → ¬ HasFault m.tape.source begun counts → ¬ HasFault n.tape.source begun_then counts_then → AreAlike m n
+pub alike : (w : Setting) (limits : Limits) (sources : List TapeSource) (c : Chooser) → ChoosesBy w.spec w.F w.table c → (begun counts : List ℕ → ℕ) (turns : List ℕ) (pool : List MemberState) → IsPoolAfter w limits sources begun counts turns pool → (begun_then counts_then : List ℕ → ℕ) (others : List ℕ) (other : List MemberState) → IsPoolAfter w limits sources begun_then counts_then others other → (number : ℕ) (m n : MemberState) → slice_get pool number ≡ Some m → slice_get other number ≡ Some n → times number turns ≡ times number others → IsSome (bits_of m.tape.source w.contents) → m.drawing.ending ≢ Some told.ReadFault → n.drawing.ending ≢ Some told.ReadFault → AreAlike m n
 alike w limits sources c chooses begun counts turns pool p begun_then counts_then others other q number m n at at_other same told never never_then = go (bits_of m.tape.source w.contents) refl told
   where
     go : (o : Option (ℕ → Option Bool)) → bits_of m.tape.source w.contents ≡ o → is_some o ≡ true → AreAlike m n

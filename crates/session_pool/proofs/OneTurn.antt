@@ -35,10 +35,10 @@ agree s f g zero same = refl
 agree s f g (suc n) same = ap (λ o. one_turn_on s o (after s f n)) (same n (omega arith)) ∙ ap (one_turn_on s (g n)) (agree s f g n (λ k h. same k (omega arith)))
 
 -- the failures of the turns so far, and of one more
-caused-on : (Failed : Type 0) (faults : ℕ → Option ℕ) (n : ℕ) (fault : Option ℕ) → ((k given : ℕ) → faults k ≡ Some given → Failed) → ((given : ℕ) → fault ≡ Some given → Failed) → (k given : ℕ) → extended faults n fault k ≡ Some given → Failed
-caused-on Failed faults n fault old new k given is = go (eqb k n) is
+failures-on : (Ended : Type 0) (faults : ℕ → Option ℕ) (n : ℕ) (fault : Option ℕ) → ((k given : ℕ) → faults k ≡ Some given → Ended) → ((given : ℕ) → fault ≡ Some given → Ended) → (k given : ℕ) → extended faults n fault k ≡ Some given → Ended
+failures-on Ended faults n fault old new k given is = go (eqb k n) is
   where
-    go : (b : Bool) → cond b fault (faults k) ≡ Some given → Failed
+    go : (b : Bool) → cond b fault (faults k) ≡ Some given → Ended
     go true e = new given e
     go false e = old k given e
 
@@ -47,9 +47,9 @@ pub failed-within : (source : TapeSource) (first before now last : List ℕ → 
 failed-within (TapeSource.Named name) first before now last earlier later rose = let e = earlier name in let l = later name in omega (arith, e, l, rose)
 failed-within (TapeSource.Seeded seed) first before now last earlier later never = never
 
--- a turn fails only where its answer is a failed read
-fault-told : (ending : Option Told) (a : Answer) (bits given : ℕ) → told_fault ending a bits ≡ Some given → (ending ≡ None) × (a ≡ turned.Finished told.ReadFault)
-fault-told None (turned.Finished told.ReadFault) bits given e = (refl, refl)
+-- a turn fails only where it ends with a failed read
+fault-told : (ending : Option Told) (a : Answer) (bits given : ℕ) → told_fault ending a bits ≡ Some given → ending_by ending a ≡ Some told.ReadFault
+fault-told None (turned.Finished told.ReadFault) bits given e = refl
 fault-told None (turned.Finished told.Done) bits given e = absurd (cc)
 fault-told None (turned.Finished told.TapeEnded) bits given e = absurd (cc)
 fault-told None (turned.Finished (told.Undecided straddle)) bits given e = absurd (cc)
@@ -107,7 +107,7 @@ module _ (w : Setting) (limits : Limits) (begun before now : List ℕ → ℕ) (
     entries = h.entries;
     goes = h.goes;
     faults = h.faults;
-    caused = λ turn given e. failed-within m.tape.source begun begun before now (λ name. omega arith) grew (h.caused turn given e);
+    disturbed = h.disturbed;
     alone = h.alone;
     asked = h.asked;
     ended = still-ended m.tape.source m.drawing m.drawing.ending h.ended;
@@ -117,18 +117,22 @@ module _ (w : Setting) (limits : Limits) (begun before now : List ℕ → ℕ) (
   fault : Option ℕ
   fault = told_fault m.drawing.ending h.told (later.tape.used - m.tape.used)
 
-  fault-caused : (given : ℕ) → fault ≡ Some given → HasFault m.tape.source begun now
+  fault-ends : (given : ℕ) → fault ≡ Some given → later.drawing.ending ≡ Some told.ReadFault
   unfolding fault
-  fault-caused given e =
-      let (going, is) = fault-told m.drawing.ending h.told (later.tape.used - m.tape.used) given e in
-      failed-within m.tape.source begun before now now rose (λ name. omega arith) ((h.rightly going).failed is)
+  fault-ends given e = h.counted.ending ∙ fault-told m.drawing.ending h.told (later.tape.used - m.tape.used) given e
+
+  -- one that had ended with a failed read ended so still
+  still-failed : m.drawing.ending ≡ Some told.ReadFault → later.drawing.ending ≡ Some told.ReadFault
+  still-failed is =
+      let (told-is, same) = subst (λ o. IfSome o (λ ending. (h.told ≡ turned.Finished ending) × (later ≡ m))) is h.again in
+      ap (λ (k : MemberState). k.drawing.ending) same ∙ is
 
   faults-now : ℕ → Option ℕ
   faults-now = extended p.faults n fault
 
-  caused-now : (turn given : ℕ) → faults-now turn ≡ Some given → HasFault later.tape.source begun now
+  disturbed-now : (turn given : ℕ) → faults-now turn ≡ Some given → later.drawing.ending ≡ Some told.ReadFault
   unfolding faults-now
-  caused-now turn given e = subst (λ source. HasFault source begun now) (sym h.source) (caused-on (HasFault m.tape.source begun now) p.faults n fault (λ k given is. failed-within m.tape.source begun begun before now (λ name. omega arith) grew (p.caused k given is)) fault-caused turn given e)
+  disturbed-now = failures-on (later.drawing.ending ≡ Some told.ReadFault) p.faults n fault (λ k given is. still-failed (p.disturbed k given is)) fault-ends
 
   goes-now : Goes w.spec w.x limits (followed_by p.course h.turn.turned)
   goes-now = subst (λ l. Goes w.spec w.x l (followed_by p.course h.turn.turned)) p.same_limits (h.turn.goes p.course p.state (subst (λ l. Goes w.spec w.x l p.course) (sym p.same_limits) p.goes))
@@ -187,7 +191,7 @@ module _ (w : Setting) (limits : Limits) (begun before now : List ℕ → ℕ) (
     entries = entries-now;
     goes = goes-now;
     faults = faults-now;
-    caused = caused-now;
+    disturbed = disturbed-now;
     alone = subst (λ source. IfSome (bits_of source w.contents) (λ bits. (c : Chooser) → ChoosesBy w.spec w.F w.table c → followed_by p.course h.turn.turned ≡ after (record { chooser = c; limits = limits; tape = bits }) faults-now (suc n))) (sym h.source) (alone-on (bits_of m.tape.source w.contents) p.alone h.turn.exact);
     asked = asked-then m.drawing.ending refl p.asked;
     ended = subst (λ source. IfSome later.drawing.ending (EndedRightly w limits source begun now later.drawing)) (sym h.source) (ended-then m.drawing.ending refl p.ended);

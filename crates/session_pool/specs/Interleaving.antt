@@ -45,7 +45,7 @@ pub record EndedRightly (w : Setting) (limits : Limits) (source : TapeSource) (b
   pub failed : ending ≡ ReadFault → HasFault source begun counts
   pub left_open : TellsOpen w.table (turned.Finished ending)
 
--- A drawing of a pool after so many turns of its own. It has a course: its state is that of the drawing, with the bits that its tape used, and its entries are those that the drawing kept. The course goes as ideal runs do. Where the tape's bits are told, it is the course over them of the drawing alone after so many turns, for each chooser by the table. The shelf failed in a turn only if the count of the tape's name rose since the beginning.
+-- A drawing of a pool after so many turns of its own. It has a course: its state is that of the drawing, with the bits that its tape used, and its entries are those that the drawing kept. The course goes as ideal runs do. Where the tape's bits are told, it is the course over them of the drawing alone after so many turns, for each chooser by the table. The shelf failed in one of its turns only where the drawing ended with a failed read.
 pub record IsMemberAfter (w : Setting) (limits : Limits) (begun counts : List ℕ → ℕ) (turns : ℕ) (m : MemberState) : Type 0 where
   pub same_limits : m.drawing.limits ≡ limits
   pub course : Course
@@ -53,7 +53,7 @@ pub record IsMemberAfter (w : Setting) (limits : Limits) (begun counts : List �
   pub entries : course.entries ≡ map entry_of m.entries
   pub goes : Goes w.spec w.x limits course
   pub faults : ℕ → Option ℕ
-  pub caused : (turn given : ℕ) → faults turn ≡ Some given → HasFault m.tape.source begun counts
+  pub disturbed : (turn given : ℕ) → faults turn ≡ Some given → m.drawing.ending ≡ Some ReadFault
   pub alone : IfSome (bits_of m.tape.source w.contents) (λ bits. (c : Chooser) → ChoosesBy w.spec w.F w.table c → course ≡ after (record { chooser = c; limits = limits; tape = bits }) faults turns)
   pub asked : WasAsked turns m.drawing m.drawing.ending
   pub ended : IfSome m.drawing.ending (EndedRightly w limits m.tape.source begun counts m.drawing)

@@ -1,8 +1,9 @@
 //! Laws of pools. Each function's contract is the law; none does anything.
-ghost use Rattle.std.specs.Prelude.{◌≡◌, ℕ, List, slice_get, Some, IsSome};
-ghost use Rattle.bit_tape.specs.Tape.{TapeSource, bits_of, HasFault};
+ghost use Rattle.std.specs.Prelude.{◌≡◌, ◌≢◌, ℕ, List, slice_get, Some, IsSome};
+ghost use Rattle.bit_tape.specs.Tape.{TapeSource, bits_of};
 ghost use Rattle.shape_sampler.specs.Visit.{Chooser};
 ghost use Rattle.shape_sampler.specs.Answer.{ChoosesBy};
+ghost use Rattle.size_window.specs.declared.ending.Ending.TheVariants as told;
 ghost use Rattle.size_window.specs.RunByBits.{Limits};
 ghost use Rattle.session_pool.specs.Member.{MemberState};
 ghost use Rattle.session_pool.specs.Interleaving.{Setting, IsPoolAfter, times, AreAlike};
@@ -10,8 +11,9 @@ ghost use Rattle.session_pool.specs.Interleaving.{Setting, IsPoolAfter, times, A
 /// The order of turns leaves each drawing alike.
 ///
 /// Two pools over the same tapes made turns, in any two orders that name a drawing equally often. The
-/// tape's bits are told, and no read of it failed since either pool began. Then the drawing of the one
-/// is like that of the other: it has the same state, used as many bits, and kept the same objects.
+/// tape's bits are told, and the drawing ended with a failed read in neither pool. Then the drawing of
+/// the one is like that of the other: it has the same state, used as many bits, and kept the same
+/// objects in the same order.
 pub fn the_order_of_turns_leaves_each_drawing_alike()
     ensures { (w : Setting) (limits : Limits) (sources : List TapeSource) (c : Chooser)
         → ChoosesBy w.spec w.F w.table c
@@ -22,7 +24,7 @@ pub fn the_order_of_turns_leaves_each_drawing_alike()
         → (number : ℕ) (m n : MemberState) → slice_get pool number ≡ Some m
         → slice_get other number ≡ Some n → times number turns ≡ times number others
         → IsSome (bits_of m.tape.source w.contents)
-        → ¬ HasFault m.tape.source begun counts
-        → ¬ HasFault n.tape.source begun_then counts_then
+        → m.drawing.ending ≢ Some told.ReadFault
+        → n.drawing.ending ≢ Some told.ReadFault
         → AreAlike m n }
 {}

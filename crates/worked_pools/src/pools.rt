@@ -175,11 +175,15 @@ fn drawing_text<R: AllocGlobal>(rt: &R, pool: &Pool, number: usize) -> Result<St
     Ok(text)
 }
 
-/// A kept object: number, place, tokens and cells.
+/// A kept object: number, place, tokens, its labels if it has any, and cells.
 fn entry_text<R: AllocGlobal>(rt: &R, entry: &Entry) -> Result<String, AllocError> {
     let tokens = entry.shape.tokens();
     let (number, place) = (entry.number, entry.place);
     let mut text = format!(in rt.alloc(); " {number} at {place} {tokens:?}")?;
+    if let Some(labels) = &entry.labels {
+        let labels = labels.items();
+        text.push_str(&format!(in rt.alloc(); " {labels:?}")?)?;
+    }
     for Cell { k, b } in entry.cells.items() {
         text.push_str(&format!(in rt.alloc(); " {k}/{b}")?)?;
     }

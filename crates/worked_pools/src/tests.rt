@@ -116,3 +116,16 @@ fn each_drawing_ends_by_itself(rt: HostRuntime) -> Result<(), Fail> {
     compare(&rt, text, b"3/16", 1, tapes, &[1, 1, 2, 0, 2], 0, want)?;
     Ok(())
 }
+
+#[test]
+fn shapes_that_wait_for_labels_stay_with_their_drawings(rt: HostRuntime) -> Result<(), Fail> {
+    let text = b"labelled\nC = Z*Z*Z\n";
+    let tapes: [&[u8]; 3] = [b"\xc0", b"\x55", b"\0"];
+    let want = "[1, 0, 2]
+0: 1 at 0 [Dot, Dot, Dot] [3, 1, 2] 3/2 0/1; kept 1 thrown 0 bits 3 turns 6 Some(Done)
+1: kept 0 thrown 0 bits 8 turns 6 Some(TapeEnded)
+2: 1 at 0 [Dot, Dot, Dot] [1, 2, 3] 0/2 0/1; kept 1 thrown 0 bits 3 turns 6 Some(Done)";
+    let schedule = [0, 1, 0, 1, 0, 1, 0, 1, 0, 1, 2, 1];
+    compare(&rt, text, b"1/2", 1, tapes, &schedule, 0, want)?;
+    Ok(())
+}
