@@ -99,6 +99,13 @@ impl Drawing {
         self.counts
     }
 
+    /// Why the drawing ended; `None` while it goes on. Takes no memory.
+    pub fn ending(&self) -> Option<Ending>
+        ensures { result ≡ self.now.ending }
+    {
+        self.ending
+    }
+
     /// Makes one turn.
     ///
     /// A drawing that ended answers its ending again, and nothing changes. Else it ends with `Done`

@@ -1,0 +1,101 @@
+-- How many drawings over a tape ended with a failed read, and the count of its name.
+use Rattle.std.proofs.Common.{◌≡◌, ℕ, ◌+◌, ◌-◌, ◌^◌, ◌≤◌, ◌⊎◌, inl, inr, min, arith, Bool, true, false, cond, List, refl, sym, ◌∙◌, ap, subst}
+use Rattle.std.specs.Prelude.{Option, Some, None, IfSome, slice_get, slice_set}
+use Rattle.std.specs.Str.{bytes_eq}
+use Rattle.std.proofs.lemmas.List.Sums.{sum_by-set}
+use Rattle.std.proofs.lemmas.Option.{slice_get_within, get_or_from_slice_get}
+use Rattle.std.proofs.lemmas.Slice.Eq.{bytes_eq-Decides}
+use Rattle.bz_outside.specs.Outside.{Rose}
+use Rattle.bit_tape.specs.Tape.{TapeSource, HasFault}
+use Rattle.size_window.specs.declared.ending.Ending.{Ending as Told}
+use Rattle.size_window.specs.declared.ending.Ending.TheVariants as told
+use Rattle.size_window.specs.declared.turned.Turned.{Turned as Answer}
+use Rattle.size_window.specs.declared.turned.Turned.TheVariants as turned
+use Rattle.size_window.specs.Turn.{ending_by}
+use Rattle.session_pool.specs.declared.pooled.Pooled.{Pooled}
+use Rattle.session_pool.specs.Member.{MemberState}
+use Rattle.session_pool.specs.Turn.{IsMemberTurn}
+use Rattle.session_pool.specs.Interleaving.{Setting, has_failed, failures, RoseBy}
+
+-- 1 where a test passes
+abbrev pub one-if : Bool → ℕ
+one-if b = cond b 1 0
+
+-- 1 where a drawing over the tape of this name ended with a failed read
+abbrev pub mark : (name : List ℕ) → TapeSource → Option Told → ℕ
+mark name source ending = one-if (has_failed name source ending)
+
+-- a drawing that goes on ended with no failed read
+pub going-mark : (name : List ℕ) (source : TapeSource) → mark name source None ≡ 0
+going-mark name (TapeSource.Named other) = refl
+going-mark name (TapeSource.Seeded seed) = refl
+
+-- nor did one that ended otherwise
+other-mark : (name : List ℕ) (source : TapeSource) (e : Told) → (e ≡ told.ReadFault → ⊥) → mark name source (Some e) ≡ 0
+other-mark name (TapeSource.Named other) told.Done h = refl
+other-mark name (TapeSource.Named other) told.TapeEnded h = refl
+other-mark name (TapeSource.Named other) (told.Undecided straddle) h = refl
+other-mark name (TapeSource.Named other) told.TurnLimit h = refl
+other-mark name (TapeSource.Named other) told.ReadFault h = absurd (h refl)
+other-mark name (TapeSource.Seeded seed) e h = refl
+
+-- where a read of a tape failed, its name's count rose
+failed-mark : (name : List ℕ) (source : TapeSource) (before now : List ℕ → ℕ) → HasFault source before now → (mark name source (Some told.ReadFault) ≡ 0) ⊎ ((mark name source (Some told.ReadFault) ≡ 1) × Rose (before name) (now name))
+failed-mark name (TapeSource.Named other) before now rose = go (bytes_eq name other) refl
+  where
+    go : (b : Bool) → bytes_eq name other ≡ b → (one-if (bytes_eq name other) ≡ 0) ⊎ ((one-if (bytes_eq name other) ≡ 1) × Rose (before name) (now name))
+    go true is = inr (ap one-if is, subst (λ (n : List ℕ). Rose (before n) (now n)) (sym ((bytes_eq-Decides name other).0 is)) rose)
+    go false is = inl (ap one-if is)
+failed-mark name (TapeSource.Seeded seed) before now never = absurd never
+
+-- Marks stay, or one more comes with a count that rose.
+abbrev Marks : (before now old new : ℕ) → Type 0
+Marks before now old new = (new ≡ old) ⊎ ((new ≡ old + 1) × Rose before now)
+
+unmarked : (before now old new : ℕ) → old ≡ 0 → new ≡ 0 → Marks before now old new
+unmarked before now old new a b = inl (b ∙ sym a)
+
+marked-or-not : (before now old new : ℕ) → old ≡ 0 → (new ≡ 0) ⊎ ((new ≡ 1) × Rose before now) → Marks before now old new
+marked-or-not before now old new a (inl b) = inl (b ∙ sym a)
+marked-or-not before now old new a (inr h) = let one = h.0 in inr (omega (arith, one, a), h.1)
+
+-- the mark of a drawing that goes on, after an answer
+answer-marks : (name : List ℕ) (source : TapeSource) (before now : List ℕ → ℕ) (a : Answer) → (a ≡ turned.Finished told.ReadFault → HasFault source before now) → Marks (before name) (now name) (mark name source None) (mark name source (ending_by None a))
+answer-marks name source before now turned.Going h = inl refl
+answer-marks name source before now (turned.Kept entry) h = inl refl
+answer-marks name source before now turned.OutOfMemory h = inl refl
+answer-marks name source before now (turned.Finished told.Done) h = unmarked (before name) (now name) (mark name source None) (mark name source (Some told.Done)) (going-mark name source) (other-mark name source told.Done (λ e. absurd (cc)))
+answer-marks name source before now (turned.Finished told.TapeEnded) h = unmarked (before name) (now name) (mark name source None) (mark name source (Some told.TapeEnded)) (going-mark name source) (other-mark name source told.TapeEnded (λ e. absurd (cc)))
+answer-marks name source before now (turned.Finished (told.Undecided straddle)) h = unmarked (before name) (now name) (mark name source None) (mark name source (Some (told.Undecided straddle))) (going-mark name source) (other-mark name source (told.Undecided straddle) (λ e. absurd (cc)))
+answer-marks name source before now (turned.Finished told.TurnLimit) h = unmarked (before name) (now name) (mark name source None) (mark name source (Some told.TurnLimit)) (going-mark name source) (other-mark name source told.TurnLimit (λ e. absurd (cc)))
+answer-marks name source before now (turned.Finished told.ReadFault) h = marked-or-not (before name) (now name) (mark name source None) (mark name source (Some told.ReadFault)) (going-mark name source) (failed-mark name source before now (h refl))
+
+-- a count that rose once more
+rises : (begun before now old new most : ℕ) → before ≤ now → min (begun + old) most ≤ before → (new ≡ old) ⊎ ((new ≡ old + 1) × (min (before + 1) most ≤ now)) → min (begun + new) most ≤ now
+rises begun before now old new most up rose (inl same) = omega (arith, up, rose, same)
+rises begun before now old new most up rose (inr h) = let more = h.0 in let once = h.1 in omega (arith, up, rose, more, once)
+
+module _ (w : Setting) (before now : List ℕ → ℕ) (m later : MemberState) (answer : Pooled) (h : IsMemberTurn w.spec w.x w.F w.table w.contents before now m answer later) (name : List ℕ) where
+  marks-then : (o : Option Told) → m.drawing.ending ≡ o → Marks (before name) (now name) (mark name m.tape.source m.drawing.ending) (mark name later.tape.source later.drawing.ending)
+  marks-then None is =
+      subst (λ source. Marks (before name) (now name) (mark name m.tape.source m.drawing.ending) (mark name source later.drawing.ending)) (sym h.source)
+      (subst (λ o. Marks (before name) (now name) (mark name m.tape.source m.drawing.ending) (mark name m.tape.source o)) (sym (h.counted.ending ∙ ap (λ o. ending_by o h.told) is))
+      (subst (λ o. Marks (before name) (now name) (mark name m.tape.source o) (mark name m.tape.source (ending_by None h.told))) (sym is)
+      (answer-marks name m.tape.source before now h.told (h.rightly is).failed)))
+  marks-then (Some ending) is =
+      let (told-is, same) = subst (λ o. IfSome o (λ ending. (h.told ≡ turned.Finished ending) × (later ≡ m))) is h.again in
+      inl (ap (λ (k : MemberState). mark name k.tape.source k.drawing.ending) same)
+
+  sums-then : (pool : List MemberState) (number : ℕ) → slice_get pool number ≡ Some m → Marks (before name) (now name) (mark name m.tape.source m.drawing.ending) (mark name later.tape.source later.drawing.ending) → Marks (before name) (now name) (failures name pool) (failures name (slice_set pool number later))
+  sums-then pool number at marks =
+      let sums = sum_by-set (λ (k : MemberState). mark name k.tape.source k.drawing.ending) pool number later m (slice_get_within pool number m at) in
+      let old = ap (λ (k : MemberState). mark name k.tape.source k.drawing.ending) (get_or_from_slice_get pool number m m at) in
+      go sums old marks
+    where
+      go : {all rest a b c : ℕ} → rest + a ≡ all + b → a ≡ c → Marks (before name) (now name) c b → Marks (before name) (now name) all rest
+      go sums old (inl same) = inl (omega (arith, sums, old, same))
+      go sums old (inr h) = let more = h.0 in inr (omega (arith, sums, old, more), h.1)
+
+  -- where drawings over a tape ended with a failed read, the count rose as often
+  pub failures-on : (begun : ℕ) → before name ≤ now name → (pool : List MemberState) (number : ℕ) → slice_get pool number ≡ Some m → RoseBy (failures name pool) begun (before name) → RoseBy (failures name (slice_set pool number later)) begun (now name)
+  failures-on begun up pool number at rose = rises begun (before name) (now name) (failures name pool) (failures name (slice_set pool number later)) (2 ^ 64 - 1) up rose (sums-then pool number at (marks-then m.drawing.ending refl))

@@ -1,0 +1,84 @@
+-- Turns in any order: each drawing of a pool stands where it would stand alone.
+use Rattle.std.specs.Prelude.{◌≡◌, ◌≢◌, ℕ, ◌+◌, ◌-◌, ◌^◌, ◌≤◌, min, nat_eq, Bool, false, List, map, slice_get, Option, Some, None, IfSome}
+use Rattle.std.specs.List.{count_by}
+use Rattle.std.specs.Str.{bytes_eq}
+use Rattle.bz_model.specs.declared.cell.Bounds.{Bounds}
+use Rattle.bz_model.specs.Fraction.{Fraction}
+use Rattle.bz_model.specs.Spec.{Spec}
+use Rattle.bit_tape.specs.Tape.{TapeSource, bits_of, HasFault}
+use Rattle.shape_sampler.specs.Visit.{Chooser}
+use Rattle.shape_sampler.specs.Answer.{ChoosesBy}
+use Rattle.size_window.specs.declared.ending.Ending.{Ending}
+use Rattle.size_window.specs.declared.ending.Ending.TheVariants.{Done, TurnLimit, ReadFault}
+use Rattle.size_window.specs.declared.turned.Turned.TheVariants as turned
+use Rattle.size_window.specs.RunByBits.{Limits, Course, after}
+use Rattle.size_window.specs.Drawing.{DrawingState, state_of}
+use Rattle.size_window.specs.Turn.{TellsOpen, entry_of, turns_of}
+use Rattle.size_window.specs.Follows.{Goes}
+use Rattle.session_pool.specs.Member.{MemberState}
+use Rattle.session_pool.specs.Pool.{sources_of}
+
+-- What the drawings of a pool share: the specification, x, a table of bounds of its nodes in units of 2^-F, and the contents of the files where they are told.
+pub record Setting : Type 0 where
+  pub spec : Spec
+  pub x : Fraction
+  pub F : ℕ
+  pub table : (level node : ℕ) → Bounds
+  pub contents : List ℕ → Option (List ℕ)
+
+abbrev pub setting : Spec → Fraction → (F : ℕ) → (table : (level node : ℕ) → Bounds) → (contents : List ℕ → Option (List ℕ)) → Setting
+setting s x F table contents = record { spec = s; x = x; F = F; table = table; contents = contents }
+
+-- How often a drawing's number stands in a list of turns.
+abbrev pub times : (number : ℕ) → (turns : List ℕ) → ℕ
+times number turns = count_by (nat_eq number) turns
+
+-- A drawing was asked for so many turns. While it goes on all of them were counted. One that ended was asked for those that it counted at least, and for one more where its ending cost no turn.
+abbrev pub WasAsked : (turns : ℕ) → DrawingState → Option Ending → Type 0
+WasAsked turns d None = d.turns ≡ turns
+WasAsked turns d (Some ending) = d.turns + (1 - turns_of ending) ≤ turns
+
+-- Why a drawing ended: Done comes only where as many objects as wanted are kept, the limit of turns only where so many turns were counted and fewer objects are kept, and a failed read only where the count of its tape's name rose. Of a number that was left open the bounds of level 6 are told.
+pub record EndedRightly (w : Setting) (limits : Limits) (source : TapeSource) (begun counts : List ℕ → ℕ) (d : DrawingState) (ending : Ending) : Type 0 where
+  pub kept : ending ≡ Done → d.kept ≡ limits.count
+  pub out_of_turns : ending ≡ TurnLimit → (d.kept ≢ limits.count) × (d.turns ≡ limits.turns)
+  pub failed : ending ≡ ReadFault → HasFault source begun counts
+  pub left_open : TellsOpen w.table (turned.Finished ending)
+
+-- A drawing of a pool after so many turns of its own. It has a course: its state is that of the drawing, with the bits that its tape used, and its entries are those that the drawing kept. The course goes as ideal runs do. Where the tape's bits are told, it is the course over them of the drawing alone after so many turns, for each chooser by the table. The shelf failed in one of its turns only where the drawing ended with a failed read.
+pub record IsMemberAfter (w : Setting) (limits : Limits) (begun counts : List ℕ → ℕ) (turns : ℕ) (m : MemberState) : Type 0 where
+  pub same_limits : m.drawing.limits ≡ limits
+  pub course : Course
+  pub state : course.state ≡ state_of m.drawing m.tape.used
+  pub entries : course.entries ≡ map entry_of m.entries
+  pub goes : Goes w.spec w.x limits course
+  pub faults : ℕ → Option ℕ
+  pub disturbed : (turn given : ℕ) → faults turn ≡ Some given → m.drawing.ending ≡ Some ReadFault
+  pub alone : IfSome (bits_of m.tape.source w.contents) (λ bits. (c : Chooser) → ChoosesBy w.spec w.F w.table c → course ≡ after (record { chooser = c; limits = limits; tape = bits }) faults turns)
+  pub asked : WasAsked turns m.drawing m.drawing.ending
+  pub ended : IfSome m.drawing.ending (EndedRightly w limits m.tape.source begun counts m.drawing)
+
+-- A drawing over the tape of this name ended with a failed read.
+abbrev pub has_failed : (name : List ℕ) → TapeSource → Option Ending → Bool
+has_failed name (TapeSource.Named other) (Some ReadFault) = bytes_eq name other
+has_failed name source ending = false
+
+-- How many drawings over the tape of this name ended with a failed read.
+abbrev pub failures : (name : List ℕ) → List MemberState → ℕ
+failures name pool = count_by (λ m. has_failed name m.tape.source m.drawing.ending) pool
+
+-- The count went up so many times, or stands at its last value.
+abbrev pub RoseBy : (number before now : ℕ) → Type 0
+RoseBy number before now = min (before + number) (2 ^ 64 - 1) ≤ now
+
+-- A pool after these turns, each named by its drawing's number: each drawing stands where it would stand alone after as many turns as the list names it. The counts of failed reads never fell since the beginning, and for each name that count rose at least as often as drawings over its tape ended with a failed read.
+pub record IsPoolAfter (w : Setting) (limits : Limits) (sources : List TapeSource) (begun counts : List ℕ → ℕ) (turns : List ℕ) (pool : List MemberState) : Type 0 where
+  pub same_sources : sources_of pool ≡ sources
+  pub each : (number : ℕ) (m : MemberState) → slice_get pool number ≡ Some m → IsMemberAfter w limits begun counts (times number turns) m
+  pub rose : (name : List ℕ) → begun name ≤ counts name
+  pub failed : (name : List ℕ) → RoseBy (failures name pool) (begun name) (counts name)
+
+-- Two drawings are alike: they have one state, with as many bits used, and kept the same objects in the same order.
+pub record AreAlike (m other : MemberState) : Type 0 where
+  pub state : state_of m.drawing m.tape.used ≡ state_of other.drawing other.tape.used
+  pub entries : map entry_of m.entries ≡ map entry_of other.entries

@@ -1,0 +1,4 @@
+pub mod Member
+pub mod Pool
+pub mod Turn
+pub mod Interleaving

@@ -1,0 +1,47 @@
+-- What contracts see of a pool: the list of its members.
+use Rattle.std.specs.Prelude.{◌≡◌, ℕ, List, map, slice_get, Option, Some, None}
+use Rattle.std.specs.List.{All}
+use Rattle.bz_model.specs.Fraction.{Fraction}
+use Rattle.bz_model.specs.Spec.{Spec}
+use Rattle.bit_tape.specs.Tape.{TapeState, TapeSource, Belongs}
+use Rattle.size_window.specs.declared.ending.Ending.{Ending}
+use Rattle.size_window.specs.RunByBits.{Limits}
+use Rattle.size_window.specs.Drawing.{DrawingBelongs}
+use Rattle.session_pool.specs.Member.{MemberState, IsNewMember, bits_to_nodes}
+
+-- The tapes of a pool, in order.
+abbrev pub tapes_of : List MemberState → List TapeState
+tapes_of pool = map (λ m. m.tape) pool
+
+-- Where the bits of its tapes come from, in order.
+abbrev pub sources_of : List MemberState → List TapeSource
+sources_of pool = map (λ m. m.tape.source) pool
+
+-- A pool belongs to a specification and x where each of its drawings does.
+pub record PoolBelongs (s : Spec) (x : Fraction) (pool : List MemberState) : Type 0 where
+  pub each : All (λ m. DrawingBelongs s x m.drawing) pool
+
+-- Tapes belong to a shelf with these contents where each of them does.
+pub record TapesBelong (contents : List ℕ → Option (List ℕ)) (tapes : List TapeState) : Type 0 where
+  pub each : All (Belongs contents) tapes
+
+-- A pool before its first turn: it has one drawing per tape, in order, and each is a new one over its tape.
+pub record IsNewPool (limits : Limits) (tapes : List TapeState) (pool : List MemberState) : Type 0 where
+  pub same_tapes : tapes_of pool ≡ tapes
+  pub each : All (λ m. IsNewMember limits m.tape m) pool
+
+abbrev pub bits_between : Option MemberState → Option MemberState → ℕ
+bits_between (Some m) (Some later) = bits_to_nodes m later
+bits_between _ _ = 0
+
+-- How many bits a turn from one pool to another gave to numbers of nodes, in the drawing of this number.
+abbrev pub bits_to_nodes_at : (number : ℕ) → (pool later : List MemberState) → ℕ
+bits_to_nodes_at number pool later = bits_between (slice_get pool number) (slice_get later number)
+
+abbrev pub ending_by : Option MemberState → Option Ending
+ending_by (Some m) = m.drawing.ending
+ending_by None = None
+
+-- Why the drawing of this number ended, if it ended.
+abbrev pub ending_at : List MemberState → (number : ℕ) → Option Ending
+ending_at pool number = ending_by (slice_get pool number)
