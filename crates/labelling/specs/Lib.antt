@@ -1,0 +1,2 @@
+pub mod LabelsByBits
+pub mod Answer

@@ -1,0 +1,9 @@
+//! Labels atoms: a uniform permutation of 1 to n, drawn label by label from tape bits.
+//!
+//! For every list of numbers in its cells, `label` gives the labels that ideal labelling gives
+//! (bz_model: `specs/Labels.antt`). Which bits it takes, and how it ends, is a function of the tape's
+//! bits (`specs/LabelsByBits.antt`, `specs/Answer.antt`). No clause says that a number is ever decided.
+#![tactic(auto)]
+
+pub mod labelled;
+pub mod labels;
