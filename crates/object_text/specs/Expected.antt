@@ -31,6 +31,11 @@ list_node Sequence part = Node.Seq part
 list_node Set part = Node.Set part
 list_node Cycle part = Node.Cyc part
 
+-- Objects of some nodes are expected, one after the other.
+abbrev pub expected_parts : List ExprId → List Expected
+expected_parts [] = []
+expected_parts (e ∷ es) = Part e ∷ expected_parts es
+
 -- The text begins with that of an object of the node with labels, and something holds of what follows and of what was read with the object.
 pub record ReadsObject (s : Spec) (e : ℕ) (Later : List ℕ → Taken → Type 0) (text : List ℕ) (taken : Taken) : Type 0 where
   pub object : Object

@@ -35,6 +35,11 @@ pub record DiffersFrom (word text : List ℕ) (left : ℕ) : Type 0 where
   pub count : length back ≡ left
   pub differs : IsOther byte back
 
+-- The first byte is this one.
+abbrev pub BeginsWithByte : ℕ → List ℕ → Type 0
+BeginsWithByte byte [] = ⊥
+BeginsWithByte byte (b ∷ text) = b ≡ byte
+
 -- A byte is a digit.
 pub record IsDigit (byte : ℕ) : Type 0 where
   pub from_0 : 48 ≤ byte
@@ -44,6 +49,15 @@ pub record IsDigit (byte : ℕ) : Type 0 where
 abbrev pub EndsNumber : ℕ → ℕ → List ℕ → Type 0
 EndsNumber most n [] = Unit {0}
 EndsNumber most n (b ∷ text) = IsDigit b → 1 ≤ n → most < 10 * n + (b - 48)
+
+-- The first byte is a further digit of a number of at most `most`, which is this one.
+pub record FurtherDigit (most n : ℕ) (text : List ℕ) (more : ℕ) : Type 0 where
+  pub digit : ℕ
+  pub small : digit ≤ 9
+  pub begins : BeginsWithByte (48 + digit) text
+  pub positive : 1 ≤ n
+  pub value : more ≡ 10 * n + digit
+  pub within : more ≤ most
 
 -- The text begins with the digits of a number from low to most, and with no further digit of such a number.
 pub record BeginsWithNumber (low most : ℕ) (text : List ℕ) (n : ℕ) (rest : List ℕ) : Type 0 where
@@ -56,6 +70,17 @@ pub record BeginsWithNumber (low most : ℕ) (text : List ℕ) (n : ℕ) (rest :
 abbrev pub HasNoNumber : ℕ → ℕ → List ℕ → Type 0
 HasNoNumber low most [] = Unit {0}
 HasNoNumber low most (b ∷ text) = IsDigit b → low ≤ b - 48 → most < b - 48
+
+-- The text begins with a number sign and a label, and with no further digit of a label.
+pub record IsLabel (text : List ℕ) (label : ℕ) (rest : List ℕ) : Type 0 where
+  pub digits : List ℕ
+  pub split : text ≡ 35 ∷ digits
+  pub number : BeginsWithNumber 1 1000000 digits label rest
+
+-- With so many bytes left, the number sign is missing or no label begins behind it.
+pub data HasNoLabel (text : List ℕ) (left : ℕ) : Type 0 where
+  no_sign : left ≡ length text → IsOther 35 text → HasNoLabel text left
+  no_digits : (digits : List ℕ) → text ≡ 35 ∷ digits → left ≡ length digits → HasNoNumber 1 1000000 digits → HasNoLabel text left
 
 -- Nothing follows, or the same first byte.
 abbrev pub BeginsLike : List ℕ → List ℕ → Type 0

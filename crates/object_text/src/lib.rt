@@ -6,8 +6,15 @@
 //! takes or that memory suffices.
 #![tactic(auto)]
 
+mod expected;
+pub mod fault;
+mod one_to;
 mod output;
 pub mod print;
+pub mod read;
+mod reader;
+mod scan;
+mod taken;
 #[cfg(test)]
 mod tests;
 mod todo;
