@@ -5,3 +5,8 @@ pub mod Tokens
 pub mod PartTexts
 pub mod StableOrder
 pub mod LabelParts
+mod Digits
+mod Scans
+mod Marks
+mod OpenLists
+mod Stops

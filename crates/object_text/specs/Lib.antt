@@ -7,3 +7,6 @@ pub mod Taken
 pub mod Slots
 pub mod Scanning
 pub mod Expected
+pub mod Marks
+pub mod Pieces
+pub mod States

@@ -87,12 +87,12 @@ impl Stack {
 pub(crate) fn is_within(parts: u32, range: Range) -> bool
     ensures { IsTrue result ↔ IsInRange parts (Some (spec_range range)) }
 {
-    range.low <= parts && may_have(parts, range)
+    range.low <= parts && range.high.is_none_or(|high| parts <= high)
 }
 
-/// Whether a list may have so many parts or more.
-pub(crate) fn may_have(parts: u32, range: Range) -> bool
-    ensures { IsTrue result ↔ IsWithinHigh parts range.high }
+/// Whether a list may have more than so many parts.
+pub(crate) fn may_grow(parts: u32, range: Range) -> bool
+    ensures { IsTrue result ↔ IsWithinHigh (parts + 1) range.high }
 {
-    range.high.is_none_or(|high| parts <= high)
+    range.high.is_none_or(|high| parts < high)
 }

@@ -1,6 +1,7 @@
 //! Whether labels are 1 to their number, each once.
 ghost use Rattle.std.specs.Prelude.{◌↔◌, length, IsTrue, IfOk};
 ghost use Rattle.bz_model.specs.Labels.{AreOneTo};
+ghost use Rattle.object_text.specs.Marks.{MarksIf};
 
 use std::alloc::{AllocError, Global};
 
@@ -18,7 +19,9 @@ pub(crate) fn are_one_to(alloc: Global, labels: &[u64]) -> Result<bool, AllocErr
 }
 
 /// Marks a label, the first place being that of label 1. False where it has no place or was marked.
-fn mark(seen: &mut [bool], label: u64) -> bool {
+fn mark(seen: &mut Vec<bool>, label: u64) -> bool
+    ensures { MarksIf seen.old.items label seen.new.items result }
+{
     if label == 0 || label > seen.len() as u64 {
         return false;
     }

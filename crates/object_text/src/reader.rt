@@ -1,8 +1,15 @@
 //! The reader of an object: node after node, with a stack of what is expected behind each object.
-ghost use Rattle.std.specs.Prelude.{◌≡◌, ◌≤◌, ◌<◌, ◌^◌, ◌∷◌, [], ◌++◌, map, length, Some, IfOk, IfErr, OnOk};
+ghost use Rattle.std.specs.Prelude.{◌≡◌, ◌≤◌, ◌<◌, ◌+◌, ◌^◌, length, codes, IfOk, IfErr};
+ghost use Rattle.bz_model.specs.ObjectText.{leaf_text};
+ghost use Rattle.object_text.specs.Scanning.{DiffersFrom, StopsAt};
+ghost use Rattle.object_text.specs.Expected.{opener, closer};
+ghost use Rattle.object_text.specs.Pieces.{IsNeutral, IsAtom, IsNoAtom, IsOption, IsNoOption, IsProduct, IsNoByte, IsList, IsFurther, IsNoFurther};
+ghost use Rattle.object_text.specs.States.{state};
 
-use crate::expected::{Counted, Expected, Stack, is_within, may_have};
-use crate::scan::{Stop, begins_with, leaf_word, read_byte, read_label, read_number, read_word};
+use crate::expected::{Counted, Expected, Stack, is_within, may_grow};
+use crate::scan::{
+    Stop, begins_with, behind_first, leaf_word, read_byte, read_label, read_number, read_word,
+};
 use crate::taken::{Kind, Partial};
 use class_system::draft::Mode;
 use class_system::expr::Expr;
@@ -86,7 +93,10 @@ impl Reader {
         &mut self,
         word: &[u8],
         text: &'a [u8],
-    ) -> Result<(Option<ExprId>, &'a [u8]), Stop> {
+    ) -> Result<(Option<ExprId>, &'a [u8]), Stop>
+        ensures ok { IfOk result (λ x. IsNeutral word.now text.now (state self.old) x.0 (state self.new) x.1.now) }
+        ensures stop { IfErr result (StopsAt (DiffersFrom (leaf_text (codes "E") word.now) text.now)) }
+    {
         let rest = read_word(leaf_word(b"E", word), text)?;
         self.taken.push_token(Token::Unit)?;
         Ok((None, rest))
@@ -98,7 +108,10 @@ impl Reader {
         mode: Mode,
         word: &[u8],
         text: &'a [u8],
-    ) -> Result<(Option<ExprId>, &'a [u8]), Stop> {
+    ) -> Result<(Option<ExprId>, &'a [u8]), Stop>
+        ensures ok { IfOk result (λ x. IsAtom mode word.now text.now (state self.old) x.0 (state self.new) x.1.now) }
+        ensures stop { IfErr result (StopsAt (IsNoAtom mode word.now text.now)) }
+    {
         let behind = read_word(leaf_word(b"Z", word), text)?;
         self.taken.push_token(Token::Dot)?;
         match mode {
@@ -116,7 +129,12 @@ impl Reader {
         &mut self,
         parts: &[ExprId],
         text: &'a [u8],
-    ) -> Result<(Option<ExprId>, &'a [u8]), Stop> {
+    ) -> Result<(Option<ExprId>, &'a [u8]), Stop>
+        requires some { 1 ≤ length parts.now }
+        requires few { length parts.now ≤ 64 }
+        ensures ok { IfOk result (λ x. IsOption parts.now text.now (state self.old) x.0 (state self.new) x.1.now) }
+        ensures stop { IfErr result (StopsAt (IsNoOption parts.now text.now)) }
+    {
         let (option, dot) = read_number(0, parts.len() as u64 - 1, text)?;
         let rest = read_byte(b'.', dot)?;
         self.taken.push_token(Token::Pick(option as u32))?;
@@ -128,7 +146,11 @@ impl Reader {
         &mut self,
         parts: &[ExprId],
         text: &'a [u8],
-    ) -> Result<(Option<ExprId>, &'a [u8]), Stop> {
+    ) -> Result<(Option<ExprId>, &'a [u8]), Stop>
+        requires some { 1 ≤ length parts.now }
+        ensures ok { IfOk result (λ x. IsProduct parts.now text.now (state self.old) x.0 (state self.new) x.1.now) }
+        ensures stop { IfErr result (StopsAt (IsNoByte 40 text.now)) }
+    {
         let rest = read_byte(b'(', text)?;
         self.stack.push(Expected::Close)?;
         self.stack.push_parts(&parts[1..])?;
@@ -142,12 +164,15 @@ impl Reader {
         part: ExprId,
         range: Range,
         text: &'a [u8],
-    ) -> Result<(Option<ExprId>, &'a [u8]), Stop> {
+    ) -> Result<(Option<ExprId>, &'a [u8]), Stop>
+        ensures ok { IfOk result (λ x. IsList kind part range text.now (state self.old) x.0 (state self.new) x.1.now) }
+        ensures stop { IfErr result (StopsAt (IsNoByte (opener kind) text.now)) }
+    {
         let rest = read_byte(opener(kind), text)?;
         self.taken.open(kind)?;
         if is_within(0, range) && begins_with(closer(kind), rest) {
             self.taken.close(0);
-            return Ok((None, &rest[1..]));
+            return Ok((None, behind_first(rest)));
         }
         let parts = 0;
         let counted = Counted {
@@ -178,7 +203,11 @@ impl Reader {
         &mut self,
         counted: Counted,
         text: &'a [u8],
-    ) -> Result<(Option<ExprId>, &'a [u8]), Stop> {
+    ) -> Result<(Option<ExprId>, &'a [u8]), Stop>
+        requires few { counted.parts + 1 < 2 ^ 32 }
+        ensures ok { IfOk result (λ x. IsFurther counted text.now (state self.old) x.0 (state self.new) x.1.now) }
+        ensures stop { IfErr result (StopsAt (IsNoFurther counted text.now)) }
+    {
         let Counted {
             kind,
             part,
@@ -189,9 +218,9 @@ impl Reader {
         self.taken.end_part();
         if is_within(parts, range) && begins_with(closer(kind), text) {
             self.taken.close(parts);
-            return Ok((None, &text[1..]));
+            return Ok((None, behind_first(text)));
         }
-        if may_have(parts + 1, range) && begins_with(b' ', text) {
+        if may_grow(parts, range) && begins_with(b' ', text) {
             let counted = Counted {
                 kind,
                 part,
@@ -199,7 +228,7 @@ impl Reader {
                 parts,
             };
             self.stack.push(Expected::Further(counted))?;
-            return Ok((Some(part), &text[1..]));
+            return Ok((Some(part), behind_first(text)));
         }
         Err(Stop::At(text.len()))
     }
@@ -217,7 +246,9 @@ fn resolved(system: &System, e: ExprId) -> ExprId {
 }
 
 /// The byte before the parts of a list.
-fn opener(kind: Kind) -> u8 {
+fn opener(kind: Kind) -> u8
+    ensures { result ≡ opener kind }
+{
     match kind {
         Kind::Sequence => b'[',
         Kind::Set => b'{',
@@ -226,7 +257,9 @@ fn opener(kind: Kind) -> u8 {
 }
 
 /// The byte behind the parts of a list.
-fn closer(kind: Kind) -> u8 {
+fn closer(kind: Kind) -> u8
+    ensures { result ≡ closer kind }
+{
     match kind {
         Kind::Sequence => b']',
         Kind::Set => b'}',

@@ -1,5 +1,5 @@
 //! Words and numbers at the front of a text.
-ghost use Rattle.std.specs.Prelude.{◌≡◌, ◌++◌, ◌∷◌, [], ◌+◌, ◌*◌, ◌-◌, ◌≤◌, ◌<◌, ◌↔◌, length, decimal, IsTrue, IfOk, IfErr, IfSome, IfNone};
+ghost use Rattle.std.specs.Prelude.{◌≡◌, ◌++◌, ◌∷◌, [], ◌+◌, ◌*◌, ◌-◌, ◌≤◌, ◌<◌, ◌↔◌, length, drop, decimal, IsTrue, IfOk, IfErr, IfSome, IfNone};
 ghost use Rattle.bz_model.specs.ObjectText.{leaf_text};
 ghost use Rattle.object_text.specs.Scanning.{IsOther, IsDigit, DiffersFrom, BeginsWithByte, EndsNumber, FurtherDigit, BeginsWithNumber, HasNoNumber, IsLabel, HasNoLabel, StopsAt};
 
@@ -45,13 +45,23 @@ pub(crate) fn begins_with(byte: u8, text: &[u8]) -> bool
     }
 }
 
+/// The text behind its first byte.
+pub(crate) fn behind_first(text: &[u8]) -> &[u8]
+    ensures { result.now ≡ drop 1 text.now }
+{
+    match text {
+        [_, rest @ ..] => rest,
+        [] => text,
+    }
+}
+
 /// What follows a byte at the front of the text.
 pub(crate) fn read_byte(byte: u8, text: &[u8]) -> Result<&[u8], Stop>
     ensures ok { IfOk result (λ rest. text.now ≡ byte ∷ rest.now) }
     ensures stop { IfErr result (StopsAt (λ left. (left ≡ length text.now) × IsOther byte text.now)) }
 {
     if begins_with(byte, text) {
-        Ok(&text[1..])
+        Ok(behind_first(text))
     } else {
         Err(Stop::At(text.len()))
     }
@@ -111,10 +121,10 @@ pub(crate) fn read_number(low: u64, most: u64, text: &[u8]) -> Result<(u64, &[u8
         return Err(Stop::At(text.len()));
     }
     let mut n = first;
-    let mut rest = &text[1..];
+    let mut rest = behind_first(text);
     while let Some(more) = longer(n, most, rest) {
         n = more;
-        rest = &rest[1..];
+        rest = behind_first(rest);
     }
     Ok((n, rest))
 }
