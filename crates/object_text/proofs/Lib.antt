@@ -10,3 +10,6 @@ mod Scans
 mod Marks
 mod OpenLists
 mod Stops
+mod ObjectTexts
+mod TakenParts
+mod Chains
