@@ -126,15 +126,15 @@ one-number most n m rest r q small few less ends like none e = go (compared (dec
     go (Compared.right_longer b bs a c) = absurd (longer b bs a c n refl)
 
 -- a number begins with a digit, which is the number itself or less
-record HasDigit (low most : ℕ) (text : List ℕ) : Type 0 where
-  byte : ℕ
-  back : List ℕ
-  is : text ≡ byte ∷ back
-  digit : IsDigit byte
-  least : low ≤ byte - 48
-  greatest : byte - 48 ≤ most
+pub record HasDigit (low most : ℕ) (text : List ℕ) : Type 0 where
+  pub byte : ℕ
+  pub back : List ℕ
+  pub is : text ≡ byte ∷ back
+  pub digit : IsDigit byte
+  pub least : low ≤ byte - 48
+  pub greatest : byte - 48 ≤ most
 
-has-digit : (low most n : ℕ) → low ≤ 1 → low ≤ n → n ≤ most → most ≤ 1000000 → (q : List ℕ) → HasDigit low most (decimal n ++ q)
+pub has-digit : (low most n : ℕ) → low ≤ 1 → low ≤ n → n ≤ most → most ≤ 1000000 → (q : List ℕ) → HasDigit low most (decimal n ++ q)
 has-digit low most n one least greatest small q = go (decimal n) refl (decimal_is_IsNumeral n (omega arith)).0.0 (decimal_is_IsNumeral n (omega arith)).0.1
   where
     value : (b : ℕ) (bs : List ℕ) → decimal n ≡ b ∷ bs → IsDigit b → b - 48 ≤ n

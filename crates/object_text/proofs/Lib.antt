@@ -13,3 +13,7 @@ mod Stops
 mod ObjectTexts
 mod TakenParts
 mod Chains
+mod FirstBytes
+mod Beginnings
+mod Living
+mod Moving
