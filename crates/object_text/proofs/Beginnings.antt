@@ -23,6 +23,31 @@ closing : (texts : List ℕ) (b : ℕ) (rest : List ℕ) → (texts ++ b ∷ [])
 closing [] b rest = refl
 closing (t ∷ texts) b rest = ap (λ u. t ∷ u) (closing texts b rest)
 
+-- Behind an option and its full stop an object of the part comes.
+pub record PartReads (s : Spec) (Later : List ℕ → Taken → Type 0) (taken : Taken) (parts : List ℕ) (option : ℕ) (rest : List ℕ) : Type 0 where
+  pub part : ℕ
+  pub is_part : slice_get parts option ≡ Some part
+  pub reads : ReadsObject s part Later rest (with_token taken (token.Pick option))
+
+-- A closing parenthesis comes.
+abbrev pub Closing : (List ℕ → Taken → Type 0) → List ℕ → Taken → Type 0
+Closing Later rest taken = Word (41 ∷ []) (λ rest. Later rest taken) rest
+
+-- The end of a list of n parts comes.
+abbrev pub Ends : (List ℕ → Taken → Type 0) → Kind → ℕ → List ℕ → Taken → Type 0
+Ends Later kind n rest taken = Word (closer kind ∷ []) (λ rest. Later rest (closed n taken)) rest
+
+-- Exactly n parts of a list come, and its end.
+abbrev pub ReadsSome : Spec → (List ℕ → Taken → Type 0) → Kind → ℕ → ℕ → List ℕ → Taken → Type 0
+ReadsSome s Later kind part zero rest taken = Ends Later kind 0 rest taken
+ReadsSome s Later kind part (suc n) rest taken = ReadsObject s part (λ rest taken. ReadsEach s parted (Ends Later kind (suc n)) (replicate n part) rest (parted taken)) rest taken
+
+-- As many parts come as a range allows.
+pub record ListReads (s : Spec) (Later : List ℕ → Taken → Type 0) (taken : Taken) (kind : Kind) (part : ℕ) (range : Option Range) (rest : List ℕ) : Type 0 where
+  pub parts : ℕ
+  pub in_range : IsInRange parts range
+  pub reads : ReadsSome s Later kind part parts rest (opened kind taken)
+
 module _ (s : Spec) (e : ℕ) (Later : List ℕ → Taken → Type 0) (text : List ℕ) (taken : Taken) where
   abbrev Here : Type 0
   Here = ReadsObject s e Later text taken
@@ -135,13 +160,8 @@ module _ (s : Spec) (e : ℕ) (Later : List ℕ → Taken → Type 0) (text : Li
       go _ l k later = elim k.has [ ]
 
   -- A union's object: its option, a full stop, and an object of that part.
-  pub record PartReads (parts : List ℕ) (option : ℕ) (rest : List ℕ) : Type 0 where
-    pub part : ℕ
-    pub is_part : slice_get parts option ≡ Some part
-    pub reads : ReadsObject s part Later rest (with_token taken (token.Pick option))
-
   abbrev pub Optional : List ℕ → Type 0
-  Optional parts = Number 0 (length parts - 1) (λ option dot. Word (46 ∷ []) (PartReads parts option) dot) text
+  Optional parts = Number 0 (length parts - 1) (λ option dot. Word (46 ∷ []) (PartReads s Later taken parts option) dot) text
 
   pub union-reads : (parts : List ℕ) → node_at s e ≡ Some (Node.Union parts) → Optional parts → Here
   union-reads parts at h =
@@ -180,19 +200,16 @@ module _ (s : Spec) (e : ℕ) (Later : List ℕ → Taken → Type 0) (text : Li
       }
 
   -- A product's object: its parts between parentheses.
-  abbrev pub Closing : List ℕ → Taken → Type 0
-  Closing = λ rest taken. Word (41 ∷ []) (λ rest. Later rest taken) rest
-
   abbrev pub Tuples : ℕ → List ℕ → Type 0
-  Tuples part parts = Word (40 ∷ []) (λ rest. ReadsObject s part (λ rest taken. ReadsEach s same Closing parts rest taken) rest taken) text
+  Tuples part parts = Word (40 ∷ []) (λ rest. ReadsObject s part (λ rest taken. ReadsEach s same (Closing Later) parts rest taken) rest taken) text
 
   pub product-reads : (part : ℕ) (parts : List ℕ) → node_at s e ≡ Some (Node.Product (part ∷ parts)) → Tuples part parts → Here
   product-reads part parts at h =
       let first = h.later in
-      let r = each-out s same Closing (part ∷ parts) (32 ∷ h.rest) taken (record { rest = h.rest; split = refl; later = first }) in
+      let r = each-out s same (Closing Later) (part ∷ parts) (32 ∷ h.rest) taken (record { rest = h.rest; split = refl; later = first }) in
       go r.texts r.objects r.labels r.each r.split r.later
     where
-      go : (texts : List (List ℕ)) (os : Objects) (l : List ℕ) → AreTexts s (part ∷ parts) texts os l → {rest : List ℕ} → 32 ∷ h.rest ≡ spaces texts ++ rest → Closing rest (through same taken os l) → Here
+      go : (texts : List (List ℕ)) (os : Objects) (l : List ℕ) → AreTexts s (part ∷ parts) texts os l → {rest : List ℕ} → 32 ∷ h.rest ≡ spaces texts ++ rest → Closing Later rest (through same taken os l) → Here
       go _ os l (AreTexts.one_more {text = t} {texts = texts} {o = o} {os = os'} first each) {rest} split k =
           let spelled : List ℕ = 40 ∷ (join_with_byte 32 (t ∷ texts) ++ 41 ∷ []) in
           let all : AreTexts s (part ∷ parts) (t ∷ texts) (more o os') l = AreTexts.one_more first each in
@@ -218,8 +235,8 @@ module _ (s : Spec) (e : ℕ) (Later : List ℕ → Taken → Type 0) (text : Li
       go : (texts : List (List ℕ)) (os : Objects) (l : List ℕ) → AreTexts s (part ∷ parts) texts os l → h.own ≡ 40 ∷ (join_with_byte 32 texts ++ 41 ∷ []) → Later h.rest (with_object taken (Tuple os) l) → Tuples part parts
       go _ _ _ (AreTexts.one_more {text = t} {texts = texts} {o = o} {os = os'} {l = l} first each) spelled k =
           let all : AreTexts s (part ∷ parts) (t ∷ texts) (more o os') l = AreTexts.one_more first each in
-          let end : Closing (41 ∷ h.rest) (through same taken (more o os') l) = record { rest = h.rest; split = refl; later = subst (Later h.rest) (sym (through-tuple s.mode (more o os') l taken (texts-labels s (part ∷ parts) (t ∷ texts) (more o os') l all))) k } in
-          let r = each-in s same Closing (part ∷ parts) (t ∷ texts) (more o os') l (41 ∷ h.rest) taken all end in
+          let end : Closing Later (41 ∷ h.rest) (through same taken (more o os') l) = record { rest = h.rest; split = refl; later = subst (Later h.rest) (sym (through-tuple s.mode (more o os') l taken (texts-labels s (part ∷ parts) (t ∷ texts) (more o os') l all))) k } in
+          let r = each-in s same (Closing Later) (part ∷ parts) (t ∷ texts) (more o os') l (41 ∷ h.rest) taken all end in
           record {
             rest = r.rest;
             split = h.split ∙ ap (λ u. u ++ h.rest) spelled ∙ ap (λ u. 40 ∷ u) (closing (join_with_byte 32 (t ∷ texts)) 41 h.rest ∙ ap (λ u. u ++ 41 ∷ h.rest) (join-first t texts) ∙ tail-same r.split);
@@ -230,20 +247,8 @@ module _ (s : Spec) (e : ℕ) (Later : List ℕ → Taken → Type 0) (text : Li
           tail-same q = cc
 
   -- A list's object: as many parts as its range allows between brackets.
-  abbrev pub Ends : Kind → ℕ → List ℕ → Taken → Type 0
-  Ends kind n = λ rest taken. Word (closer kind ∷ []) (λ rest. Later rest (closed n taken)) rest
-
-  abbrev pub ReadsSome : Kind → ℕ → ℕ → List ℕ → Taken → Type 0
-  ReadsSome kind part zero rest taken = Ends kind 0 rest taken
-  ReadsSome kind part (suc n) rest taken = ReadsObject s part (λ rest taken. ReadsEach s parted (Ends kind (suc n)) (replicate n part) rest (parted taken)) rest taken
-
-  pub record ListReads (kind : Kind) (part : ℕ) (range : Option Range) (rest : List ℕ) : Type 0 where
-    pub parts : ℕ
-    pub in_range : IsInRange parts range
-    pub reads : ReadsSome kind part parts rest (opened kind taken)
-
   abbrev pub Lists : Kind → ℕ → Type 0
-  Lists kind part = Word (opener kind ∷ []) (ListReads kind part (range_at s e)) text
+  Lists kind part = Word (opener kind ∷ []) (ListReads s Later taken kind part (range_at s e)) text
 
   list-object : (kind : Kind) (part n : ℕ) → node_at s e ≡ Some (list_node kind part) → (texts : List (List ℕ)) (os : Objects) (l : List ℕ) → AreTexts s (replicate n part) texts os l → IsInRange n (range_at s e) → (rest : List ℕ) → text ≡ opener kind ∷ (join_with_byte 32 texts ++ closer kind ∷ rest) → Later rest (closed n (through parted (opened kind taken) os l)) → Here
   list-object kind part n at texts os l each r rest split k =
@@ -262,16 +267,16 @@ module _ (s : Spec) (e : ℕ) (Later : List ℕ → Taken → Type 0) (text : Li
   pub list-reads : (kind : Kind) (part : ℕ) → node_at s e ≡ Some (list_node kind part) → Lists kind part → Here
   list-reads kind part at h = go h.later.parts h.later.in_range h.later.reads
     where
-      go : (n : ℕ) → IsInRange n (range_at s e) → ReadsSome kind part n h.rest (opened kind taken) → Here
+      go : (n : ℕ) → IsInRange n (range_at s e) → ReadsSome s Later kind part n h.rest (opened kind taken) → Here
       go zero r k = list-object kind part 0 at [] none [] AreTexts.no_text r k.rest (h.split ∙ ap (λ u. opener kind ∷ u) k.split) k.later
       go (suc n) r k =
-          let c = each-out s parted (Ends kind (suc n)) (replicate (suc n) part) (32 ∷ h.rest) (opened kind taken) (record { rest = h.rest; split = refl; later = k }) in
+          let c = each-out s parted (Ends Later kind (suc n)) (replicate (suc n) part) (32 ∷ h.rest) (opened kind taken) (record { rest = h.rest; split = refl; later = k }) in
           last c.texts c.objects c.labels c.each c.split c.later
         where
           tail-same : {xs ys : List ℕ} → 32 ∷ xs ≡ 32 ∷ ys → xs ≡ ys
           tail-same q = cc
 
-          last : (texts : List (List ℕ)) (os : Objects) (l : List ℕ) → AreTexts s (part ∷ replicate n part) texts os l → {rest : List ℕ} → 32 ∷ h.rest ≡ spaces texts ++ rest → Ends kind (suc n) rest (through parted (opened kind taken) os l) → Here
+          last : (texts : List (List ℕ)) (os : Objects) (l : List ℕ) → AreTexts s (part ∷ replicate n part) texts os l → {rest : List ℕ} → 32 ∷ h.rest ≡ spaces texts ++ rest → Ends Later kind (suc n) rest (through parted (opened kind taken) os l) → Here
           last _ os l (AreTexts.one_more {text = t} {texts = texts} {o = o} {os = os'} first each) {rest} split m =
               list-object kind part (suc n) at (t ∷ texts) (more o os') l (AreTexts.one_more first each) r m.rest
               (h.split ∙ ap (λ u. opener kind ∷ u) (tail-same split ∙ ap (λ u. (t ++ spaces texts) ++ u) m.split ∙ ap (λ u. u ++ closer kind ∷ m.rest) (sym (join-first t texts))))
@@ -291,12 +296,12 @@ module _ (s : Spec) (e : ℕ) (Later : List ℕ → Taken → Type 0) (text : Li
         };
       }
     where
-      go : (texts : List (List ℕ)) (os : Objects) (n : ℕ) (l : List ℕ) → AreTexts s (replicate n part) texts os l → Later h.rest (closed n (through parted (opened kind taken) os l)) → ReadsSome kind part n (join_with_byte 32 texts ++ closer kind ∷ h.rest) (opened kind taken)
+      go : (texts : List (List ℕ)) (os : Objects) (n : ℕ) (l : List ℕ) → AreTexts s (replicate n part) texts os l → Later h.rest (closed n (through parted (opened kind taken) os l)) → ReadsSome s Later kind part n (join_with_byte 32 texts ++ closer kind ∷ h.rest) (opened kind taken)
       go _ _ zero _ AreTexts.no_text k = record { rest = h.rest; split = refl; later = k }
       go _ _ (suc n) _ (AreTexts.one_more {text = t} {texts = texts} {o = o} {os = os'} {l = l} first each) k =
           let all : AreTexts s (part ∷ replicate n part) (t ∷ texts) (more o os') l = AreTexts.one_more first each in
-          let r = each-in s parted (Ends kind (suc n)) (part ∷ replicate n part) (t ∷ texts) (more o os') l (closer kind ∷ h.rest) (opened kind taken) all (record { rest = h.rest; split = refl; later = k }) in
-          subst (λ u. ReadsSome kind part (suc n) u (opened kind taken)) (sym (ap (λ u. u ++ closer kind ∷ h.rest) (join-first t texts) ∙ tail-same r.split)) r.later
+          let r = each-in s parted (Ends Later kind (suc n)) (part ∷ replicate n part) (t ∷ texts) (more o os') l (closer kind ∷ h.rest) (opened kind taken) all (record { rest = h.rest; split = refl; later = k }) in
+          subst (λ u. ReadsSome s Later kind part (suc n) u (opened kind taken)) (sym (ap (λ u. u ++ closer kind ∷ h.rest) (join-first t texts) ∙ tail-same r.split)) r.later
         where
           tail-same : {xs ys : List ℕ} → 32 ∷ xs ≡ 32 ∷ ys → xs ≡ ys
           tail-same q = cc

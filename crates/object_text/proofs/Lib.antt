@@ -17,3 +17,7 @@ mod FirstBytes
 mod Beginnings
 mod Living
 mod Moving
+mod MovingParts
+mod MovingLists
+mod InOrderTests
+mod Resolving

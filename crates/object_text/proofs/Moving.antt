@@ -33,73 +33,34 @@ use Rattle.object_text.proofs.Living.{Lives, lives-object, lives-stack, lives-li
 use Rattle.object_text.proofs.FirstBytes.{starts}
 
 -- Where what is next and what was read are given by equations.
-moves-by : (s : Spec) (Before : Taken → List ℕ → Type 0) (text rest : List ℕ) {n next : Option ExprId} {t taken : Taken} {k stack : List Expected} → next ≡ n → taken ≡ t → stack ≡ k → Moves s Before text n k t rest → Moves s Before text next stack taken rest
+pub moves-by : (s : Spec) (Before : Taken → List ℕ → Type 0) (text rest : List ℕ) {n next : Option ExprId} {t taken : Taken} {k stack : List Expected} → next ≡ n → taken ≡ t → stack ≡ k → Moves s Before text n k t rest → Moves s Before text next stack taken rest
 moves-by s Before text rest {n} {next} {t} {taken} {k} {stack} e f g h =
     subst (λ z. Moves s Before text z stack taken rest) (sym e)
     (subst (λ z. Moves s Before text n z taken rest) (sym g)
     (subst (λ z. Moves s Before text n k z rest) (sym f) h))
 
 -- Where the same can be read, steps and faults are the same.
-steps-by : (A B C : Taken → List ℕ → Type 0) (text rest : List ℕ) → ((whole : Taken) (other : List ℕ) → B whole other → A whole other) → ((whole : Taken) (other : List ℕ) → A whole other → B whole other) → Steps B C text rest → Steps A C text rest
+pub steps-by : (A B C : Taken → List ℕ → Type 0) (text rest : List ℕ) → ((whole : Taken) (other : List ℕ) → B whole other → A whole other) → ((whole : Taken) (other : List ℕ) → A whole other → B whole other) → Steps B C text rest → Steps A C text rest
 steps-by A B C text rest back forth h = steps-then A B C text text rest (steps-same A B text back forth) h
 
-faults-by : (A B : Taken → List ℕ → Type 0) (text : List ℕ) (left : ℕ) → ((whole : Taken) (other : List ℕ) → B whole other → A whole other) → ((whole : Taken) (other : List ℕ) → A whole other → B whole other) → Faults B text left → Faults A text left
+pub faults-by : (A B : Taken → List ℕ → Type 0) (text : List ℕ) (left : ℕ) → ((whole : Taken) (other : List ℕ) → B whole other → A whole other) → ((whole : Taken) (other : List ℕ) → A whole other → B whole other) → Faults B text left → Faults A text left
 faults-by A B text left back forth f = faults-through A B text text left (steps-same A B text back forth) f
 
-shorter : (word text rest : List ℕ) → text ≡ word ++ rest → 0 < length word → length rest < length text
+pub shorter : (word text rest : List ℕ) → text ≡ word ++ rest → 0 < length word → length rest < length text
 shorter word text rest e some = omega (arith, ap length e, length-append word rest)
 
-mapped-get : (es : List ExprId) (i : ℕ) (p : ExprId) → slice_get es i ≡ Some p → slice_get (map number es) i ≡ Some p.0
-mapped-get [] zero p e = absurd (cc)
-mapped-get [] (suc i) p e = absurd (cc)
-mapped-get (x ∷ es) zero p e = ap (λ (o : ExprId). Some o.0) (some-same x p e)
-  where
-    some-same : (x p : ExprId) → Some x ≡ Some p → x ≡ p
-    some-same x p e = cc
-mapped-get (x ∷ es) (suc i) p e = mapped-get es i p e
-
-record Listed (es : List ExprId) (i n : ℕ) : Type 0 where
-  part : ExprId
-  there : slice_get es i ≡ Some part
-  is : part.0 ≡ n
-
-mapped-from : (es : List ExprId) (i n : ℕ) → slice_get (map number es) i ≡ Some n → Listed es i n
-mapped-from [] zero n e = absurd (cc)
-mapped-from [] (suc i) n e = absurd (cc)
-mapped-from (x ∷ es) zero n e = record { part = x; there = refl; is = number-same x.0 n e }
-  where
-    number-same : (a b : ℕ) → Some a ≡ Some b → a ≡ b
-    number-same a b e = cc
-mapped-from (x ∷ es) (suc i) n e = let h = mapped-from es i n e in record { part = h.part; there = h.there; is = h.is }
-
-byte-first : (b : ℕ) (text : List ℕ) (c : ℕ) (rest : List ℕ) → text ≡ c ∷ rest → BeginsWithByte b text → c ≡ b
+pub byte-first : (b : ℕ) (text : List ℕ) (c : ℕ) (rest : List ℕ) → text ≡ c ∷ rest → BeginsWithByte b text → c ≡ b
 byte-first b [] c rest e h = elim h [ ]
 byte-first b (d ∷ text) c rest e h = (cons-same c d rest text (sym e)).0 ∙ h
 
-byte-there : (b : ℕ) (text rest : List ℕ) → text ≡ b ∷ rest → BeginsWithByte b text
+pub byte-there : (b : ℕ) (text rest : List ℕ) → text ≡ b ∷ rest → BeginsWithByte b text
 byte-there b [] rest e = absurd (cc)
 byte-there b (d ∷ text) rest e = (cons-same d b text rest e).0
 
 -- texts that go on likewise begin with the same byte
-like-byte : (b : ℕ) (text other rest : List ℕ) → BeginsLike text other → other ≡ b ∷ rest → BeginsWithByte b text
+pub like-byte : (b : ℕ) (text other rest : List ℕ) → BeginsLike text other → other ≡ b ∷ rest → BeginsWithByte b text
 like-byte b [] other rest h e = absurd (let f = h in cc)
 like-byte b (d ∷ text) other rest h e = (cons-same d b h.0 rest (sym h.1 ∙ e)).0
-
-expected-in : (s : Spec) (whole : Taken) (stack : List Expected) (es : List ExprId) (text : List ℕ) (t : Taken) → ReadsEach s same (λ rest taken. Word (41 ∷ []) (λ rest. Reads s whole stack rest taken) rest) (map number es) text t → Reads s whole (expected_parts es ++ Close ∷ stack) text t
-expected-in s whole stack [] text t h = h
-expected-in s whole stack (e ∷ es) text t h =
-    let k = h.later in
-    record { rest = h.rest; split = h.split; later = record { object = k.object; labels = k.labels; own = k.own; rest = k.rest; is_text = k.is_text; split = k.split; later = expected-in s whole stack es k.rest (with_object t k.object k.labels) k.later } }
-
-expected-out : (s : Spec) (whole : Taken) (stack : List Expected) (es : List ExprId) (text : List ℕ) (t : Taken) → Reads s whole (expected_parts es ++ Close ∷ stack) text t → ReadsEach s same (λ rest taken. Word (41 ∷ []) (λ rest. Reads s whole stack rest taken) rest) (map number es) text t
-expected-out s whole stack [] text t h = h
-expected-out s whole stack (e ∷ es) text t h =
-    let k = h.later in
-    record { rest = h.rest; split = h.split; later = record { object = k.object; labels = k.labels; own = k.own; rest = k.rest; is_text = k.is_text; split = k.split; later = expected-out s whole stack es k.rest (with_object t k.object k.labels) k.later } }
-
-expected-come : (s : Spec) (left : ℕ) (es : List ExprId) (stack : List Expected) → AllBelow (length s.nodes) (map number es) → AllCanCome s left stack → AllCanCome s left (expected_parts es ++ Close ∷ stack)
-expected-come s left [] stack below can = (tt, can)
-expected-come s left (e ∷ es) stack below can = (below.0, expected-come s left es stack below.1 can)
 
 module _ (s : Spec) (sound : IsSound s) (limits : IsWithinLimits s) (have : HasObjects s) (e : ExprId) (text rest : List ℕ) (old : State) (can : AllCanCome s (length text) old.stack) where
   abbrev Before : Taken → List ℕ → Type 0

@@ -1,7 +1,7 @@
 -- What is expected of the rest of a text.
 use Rattle.std.specs.Prelude.{◌≡◌, ℕ, ◌+◌, ◌<◌, ◌^◌, List, [], ◌∷◌, ◌++◌, length, replicate, Option, Some, None}
 use Rattle.std.specs.List.{AllByRecursion}
-use Rattle.bz_model.specs.Spec.{Spec, Node, Range, IsInRange, IsWithinHigh}
+use Rattle.bz_model.specs.Spec.{Spec, Node, Range, node_at, IsInRange, IsWithinHigh}
 use Rattle.bz_model.specs.Object.{Object, Belongs}
 use Rattle.bz_model.specs.ObjectText.{IsTextOf}
 use Rattle.class_system.specs.Views.{spec_range}
@@ -100,3 +100,25 @@ pub record Moves (s : Spec) (Before : Taken → List ℕ → Type 0) (text : Lis
   pub next_below : IsNodeIf s next
   pub can_come : AllCanCome s (length rest) stack
   pub steps : Steps Before (Comes s next stack taken) text rest
+
+-- The node is none of a class.
+pub record NoClass (s : Spec) (e : ℕ) : Type 0 where
+  pub no_class : (c : ℕ) → ¬ (node_at s e ≡ Some (Node.Class c))
+
+-- Two nodes have the same texts.
+pub record SameTexts (s : Spec) (e f : ℕ) : Type 0 where
+  pub to : (text : List ℕ) (o : Object) (l : List ℕ) → IsTextOf s e text o l → IsTextOf s f text o l
+  pub from : (text : List ℕ) (o : Object) (l : List ℕ) → IsTextOf s f text o l → IsTextOf s e text o l
+
+-- The first node on the way through bodies of classes that is none of a class.
+pub record IsResolved (s : Spec) (e f : ℕ) : Type 0 where
+  pub below : f < length s.nodes
+  pub no_class : NoClass s f
+  pub same : SameTexts s e f
+
+-- Nothing comes any more, and all was read.
+pub record IsOver (next : Option ExprId) (stack : List Expected) (text : List ℕ) (stack_now : List Expected) (taken taken_now : Taken) : Type 0 where
+  pub no_next : next ≡ None
+  pub no_stack : stack ≡ []
+  pub no_text : text ≡ []
+  pub same : taken_now ≡ taken

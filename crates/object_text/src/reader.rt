@@ -1,8 +1,9 @@
 //! The reader of an object: node after node, with a stack of what is expected behind each object.
-ghost use Rattle.std.specs.Prelude.{◌≡◌, ◌≤◌, ◌<◌, ◌+◌, ◌^◌, length, codes, IfOk, IfErr};
+ghost use Rattle.std.specs.Prelude.{◌≡◌, ◌≤◌, ◌<◌, ◌+◌, ◌^◌, ◌∷◌, [], length, codes, Some, None, IfOk, IfErr, IfSome, IfNone, OnOk};
 ghost use Rattle.bz_model.specs.ObjectText.{leaf_text};
-ghost use Rattle.object_text.specs.Scanning.{DiffersFrom, StopsAt};
-ghost use Rattle.object_text.specs.Expected.{opener, closer};
+ghost use Rattle.object_text.specs.Scanning.{DiffersFrom, Faults, StopsAt};
+ghost use Rattle.object_text.specs.Taken.{nothing};
+ghost use Rattle.object_text.specs.Expected.{opener, closer, Comes, Moves, AllCanCome, IsNodeIf, HasObjects, NoClass, IsResolved, IsOver};
 ghost use Rattle.object_text.specs.Pieces.{IsNeutral, IsAtom, IsNoAtom, IsOption, IsNoOption, IsProduct, IsNoByte, IsList, IsFurther, IsNoFurther};
 ghost use Rattle.object_text.specs.States.{state};
 
@@ -28,7 +29,10 @@ pub(crate) struct Reader {
 
 impl Reader {
     /// Nothing was read, and nothing is expected.
-    pub(crate) fn new(alloc: Global) -> Reader {
+    pub(crate) fn new(alloc: Global) -> Reader
+        ensures taken { result.taken ≡ nothing }
+        ensures stack { result.stack ≡ [] }
+    {
         Reader {
             taken: Partial::new(alloc),
             stack: Stack::new(alloc),
@@ -41,7 +45,14 @@ impl Reader {
         system: &System,
         root: ExprId,
         text: &[u8],
-    ) -> Result<(), Stop> {
+    ) -> Result<(), Stop>
+        requires objects { HasObjects system.now }
+        requires in_range { root.0 < length system.now.nodes }
+        requires small { length text.now < 2 ^ 32 }
+        requires nothing { self.old.stack ≡ [] }
+        ensures ok { OnOk result (Comes system.now (Some root) [] self.old.taken self.new.taken text.now) }
+        ensures stop { IfErr result (StopsAt (Faults (Comes system.now (Some root) [] self.old.taken) text.now)) }
+    {
         let mut rest = text;
         let mut next = Some(root);
         while let Some((node, after)) = self.read_some(system, next, rest)? {
@@ -58,12 +69,20 @@ impl Reader {
         system: &System,
         next: Option<ExprId>,
         text: &'a [u8],
-    ) -> Result<Option<(Option<ExprId>, &'a [u8])>, Stop> {
+    ) -> Result<Option<(Option<ExprId>, &'a [u8])>, Stop>
+        requires objects { HasObjects system.now }
+        requires next_below { IsNodeIf system.now next }
+        requires can_come { AllCanCome system.now (length text.now) self.old.stack }
+        requires small { length text.now < 2 ^ 32 }
+        ensures more { IfOk result (λ read. IfSome read (λ x. Moves system.now (Comes system.now next self.old.stack self.old.taken) text.now x.0 self.new.stack self.new.taken x.1.now)) }
+        ensures over { IfOk result (λ read. IfNone read (IsOver next self.old.stack text.now self.new.stack self.old.taken self.new.taken)) }
+        ensures stop { IfErr result (StopsAt (Faults (Comes system.now next self.old.stack self.old.taken) text.now)) }
+    {
         if let Some(e) = next {
             return Ok(Some(self.begin(system, resolved(system, e), text)?));
         }
         match self.stack.pop() {
-            Some(expected) => Ok(Some(self.go_on(expected, text)?)),
+            Some(expected) => Ok(Some(self.go_on(system, expected, text)?)),
             None if text.is_empty() => Ok(None),
             None => Err(Stop::At(text.len())),
         }
@@ -75,7 +94,16 @@ impl Reader {
         system: &System,
         e: ExprId,
         text: &'a [u8],
-    ) -> Result<(Option<ExprId>, &'a [u8]), Stop> {
+    ) -> Result<(Option<ExprId>, &'a [u8]), Stop>
+        requires in_range { e.0 < length system.now.nodes }
+        requires no_class { NoClass system.now e.0 }
+        requires objects { HasObjects system.now }
+        requires can_come { AllCanCome system.now (length text.now) self.old.stack }
+        requires small { length text.now < 2 ^ 32 }
+        ensures ok { IfOk result (λ x. Moves system.now (Comes system.now (Some e) self.old.stack self.old.taken) text.now x.0 self.new.stack self.new.taken x.1.now) }
+        ensures stop { IfErr result (StopsAt (Faults (Comes system.now (Some e) self.old.stack self.old.taken) text.now)) }
+    {
+        system.known();
         match system.node(e) {
             Expr::Empty(word) => self.neutral(word.bytes(), text),
             Expr::Atom(word) => self.atom(system.mode(), word.bytes(), text),
@@ -188,9 +216,16 @@ impl Reader {
     /// Reads what is expected behind an object.
     fn go_on<'a>(
         &mut self,
+        system: &System,
         expected: Expected,
         text: &'a [u8],
-    ) -> Result<(Option<ExprId>, &'a [u8]), Stop> {
+    ) -> Result<(Option<ExprId>, &'a [u8]), Stop>
+        requires objects { HasObjects system.now }
+        requires can_come { AllCanCome system.now (length text.now) (expected ∷ self.old.stack) }
+        requires small { length text.now < 2 ^ 32 }
+        ensures ok { IfOk result (λ x. Moves system.now (Comes system.now None (expected ∷ self.old.stack) self.old.taken) text.now x.0 self.new.stack self.new.taken x.1.now) }
+        ensures stop { IfErr result (StopsAt (Faults (Comes system.now None (expected ∷ self.old.stack) self.old.taken) text.now)) }
+    {
         match expected {
             Expected::Close => Ok((None, read_byte(b')', text)?)),
             Expected::Part(e) => Ok((Some(e), read_byte(b' ', text)?)),
@@ -235,7 +270,12 @@ impl Reader {
 }
 
 /// The first node on the way through bodies of classes that is no class.
-fn resolved(system: &System, e: ExprId) -> ExprId {
+fn resolved(system: &System, e: ExprId) -> ExprId
+    requires in_range { e.0 < length system.now.nodes }
+    requires objects { HasObjects system.now }
+    ensures resolved { IsResolved system.now e.0 result.0 }
+{
+    system.known();
     let mut e = e;
     let mut left = system.node_count();
     while let Expr::Class(c) = system.node(e) {
