@@ -21,3 +21,4 @@ mod MovingParts
 mod MovingLists
 mod InOrderTests
 mod Resolving
+mod MovingOn

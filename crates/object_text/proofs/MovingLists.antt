@@ -175,7 +175,7 @@ module _ (s : Spec) (sound : IsSound s) (limits : IsWithinLimits s) (have : HasO
         (word-faults (opener kind ∷ []) Opened text k.more left (byte-differs (opener kind) text left h.count h.other) (record { whole = k.accepts.whole; reads = first-in k.accepts.whole k.more k.accepts.reads }))
 
   -- behind a part of a list
-  module _ (c : Counted) (part_below : c.part.0 < length s.nodes) (few : c.parts + length text < 2 ^ 32) (some : IsWithinHigh c.range.low c.range.high) (within : IsWithinHigh (c.parts + 1) c.range.high) where
+  module _ (c : Counted) (part_below : c.part.0 < length s.nodes) (few : c.parts + 1 + length text < 2 ^ 32) (some : IsWithinHigh c.range.low c.range.high) (within : IsWithinHigh (c.parts + 1) c.range.high) where
     abbrev List' : Taken → List ℕ → Type 0
     List' = λ whole other. Reads s whole (Further c ∷ old.stack) other old.taken
 

@@ -220,3 +220,14 @@ module _ (s : Spec) (sound : IsSound s) (limits : IsWithinLimits s) (have : HasO
         faults-by Before (WordThen (40 ∷ []) Firsts) text left
         (λ whole other. product-reads s e.0 (Reads s whole old.stack) other old.taken first.0 (map number later) at) (λ whole other. reads-product s e.0 (Reads s whole old.stack) other old.taken first.0 (map number later) at)
         (word-faults (40 ∷ []) Firsts text k.more left (byte-differs 40 text left h.count h.other) (record { whole = k.accepts.whole; reads = firsts-in k.accepts.whole k.more k.accepts.reads }))
+
+  pub product-faults-of : (es : List ExprId) → node_at s e.0 ≡ Some (Node.Product (map number es)) → (left : ℕ) → IsNoByte 40 text left → Faults (Comes s (Some e) old.stack old.taken) text left
+  product-faults-of [] at left h = absurd (let two = sound.parts.at e.0 (Node.Product []) at in omega arith)
+  product-faults-of (first ∷ later) at left h = product-faults first later at left h
+
+-- the numbers of parts of a union
+pub some-parts : (es : List ExprId) → 2 ≤ length (map number es) → 1 ≤ length es
+some-parts es h = omega (arith, length-map es number)
+
+pub few-parts : (es : List ExprId) → length (map number es) ≤ 64 → length es ≤ 64
+few-parts es h = omega (arith, length-map es number)

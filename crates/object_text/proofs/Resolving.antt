@@ -7,7 +7,11 @@ use Rattle.class_system.specs.Sound.{IsSound}
 use Rattle.object_store.specs.Tokens.{AreOf, tokens_all}
 use Rattle.object_store.specs.Walk.{Expands}
 use Rattle.object_store.proofs.Descent.{Descent, descent-start, descent-expand, too_long}
-use Rattle.object_text.specs.Expected.{HasObjects, SameTexts}
+use Rattle.class_system.specs.Views.{spec_node}
+use Rattle.class_system.specs.declared.expr.Expr.{Expr}
+use Rattle.class_system.specs.declared.expr.Expr.TheVariants as expr
+use Rattle.class_system.specs.declared.ids.ClassId.{ClassId}
+use Rattle.object_text.specs.Expected.{HasObjects, NoClass, SameTexts}
 use Rattle.object_text.proofs.ObjectTexts.{class-in, class-out}
 
 pub same-start : (s : Spec) (e : ℕ) → SameTexts s e e
@@ -33,3 +37,20 @@ way-on s sound start e c body left at b some d less eq = descent-expand s sound 
   where
     same : Descent s (start ∷ []) (e ∷ []) left → Descent s (start ∷ []) (e ∷ []) (suc less)
     same d = subst (λ n. Descent s (start ∷ []) (e ∷ []) n) eq d
+
+-- a node that is seen as a class's is one
+pub class-of : (n : Expr) (c : ℕ) → spec_node n ≡ Node.Class c → (x : ClassId) × (n ≡ expr.Class x)
+class-of (expr.Class x) c e = (x, refl)
+class-of (expr.Empty w) c e = absurd (cc)
+class-of (expr.Atom w) c e = absurd (cc)
+class-of (expr.Union ps) c e = absurd (cc)
+class-of (expr.Product ps) c e = absurd (cc)
+class-of (expr.Seq p) c e = absurd (cc)
+class-of (expr.Set p) c e = absurd (cc)
+class-of (expr.Cyc p) c e = absurd (cc)
+
+pub no-class : (s : Spec) (e : ℕ) (n : Expr) → node_at s e ≡ Some (spec_node n) → ((x : ClassId) → n ≡ expr.Class x → ⊥) → NoClass s e
+no-class s e n at never = record { no_class = λ c is. let k = class-of n c (some-same (spec_node n) (Node.Class c) (sym at ∙ is)) in never k.0 k.1 }
+  where
+    some-same : (a b : Node) → Some a ≡ Some b → a ≡ b
+    some-same a b e = cc

@@ -72,7 +72,7 @@ Comes s (Some e) stack taken = λ whole text. ReadsObject s e.0 (Reads s whole s
 -- A list may have another part: its range is not used up, and its number of parts is small.
 pub record IsOpen (s : Spec) (left : ℕ) (c : Counted) : Type 0 where
   pub part_below : c.part.0 < length s.nodes
-  pub few : c.parts + left < 2 ^ 32
+  pub few : c.parts + 1 + left < 2 ^ 32
   pub range_some : IsWithinHigh c.range.low c.range.high
   pub below_high : IsWithinHigh (c.parts + 1) c.range.high
 

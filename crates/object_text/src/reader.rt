@@ -226,6 +226,7 @@ impl Reader {
         ensures ok { IfOk result (λ x. Moves system.now (Comes system.now None (expected ∷ self.old.stack) self.old.taken) text.now x.0 self.new.stack self.new.taken x.1.now) }
         ensures stop { IfErr result (StopsAt (Faults (Comes system.now None (expected ∷ self.old.stack) self.old.taken) text.now)) }
     {
+        system.known();
         match expected {
             Expected::Close => Ok((None, read_byte(b')', text)?)),
             Expected::Part(e) => Ok((Some(e), read_byte(b' ', text)?)),
