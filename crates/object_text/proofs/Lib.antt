@@ -22,3 +22,6 @@ mod MovingLists
 mod InOrderTests
 mod Resolving
 mod MovingOn
+mod Resuming
+mod Answering
+mod Agreeing

@@ -10,3 +10,4 @@ pub mod Expected
 pub mod Marks
 pub mod Pieces
 pub mod States
+pub mod BothWays

@@ -8,6 +8,7 @@
 
 mod expected;
 pub mod fault;
+pub mod laws;
 mod one_to;
 mod output;
 pub mod print;

@@ -1,6 +1,9 @@
 //! Reading the text of an object.
-ghost use Rattle.std.specs.Prelude.{◌<◌, ◌^◌, length, IfOk, IfErr};
+ghost use Rattle.std.specs.Prelude.{◌≡◌, ◌≤◌, ◌<◌, ◌^◌, [], length, IfOk, IfErr};
+ghost use Rattle.class_system.specs.Views.{spec_mode};
 ghost use Rattle.object_text.specs.Reading.{IsRead, TellsFault};
+ghost use Rattle.object_text.specs.Scanning.{StopsAt};
+ghost use Rattle.object_text.specs.States.{IsFinished, IsRefused, stop_fault};
 
 use crate::fault::TextFault;
 use crate::one_to::are_one_to;
@@ -39,23 +42,43 @@ pub fn read(
         IsRead founded.now c.0 text.now object.shape.items object.labels) }
     ensures fault { IfErr result (TellsFault founded.now c.0 text.now) }
 {
+    founded.known();
     let system = founded.system();
+    system.known();
     let mut reader = Reader::new(alloc);
     match reader.read_all(system, system.body(c), text) {
         Ok(()) => {}
-        Err(Stop::At(left)) => {
-            let place = (text.len() - left) as u64;
-            return Err(TextFault::NotObject { place });
-        }
-        Err(Stop::OutOfMemory) => return Err(TextFault::OutOfMemory),
+        Err(stop) => return Err(stop_fault(text, stop)),
     }
     let Reader { taken, stack: _ } = reader;
     finish(alloc, system.mode(), taken)
 }
 
+/// The fault of a text where reading it stopped.
+fn stop_fault(text: &[u8], stop: Stop) -> TextFault
+    requires within { StopsAt (λ left. left ≤ length text.now) stop }
+    ensures exact { result ≡ stop_fault (length text.now) stop }
+{
+    match stop {
+        Stop::At(left) => {
+            let place = (text.len() - left) as u64;
+            TextFault::NotObject { place }
+        }
+        Stop::OutOfMemory => TextFault::OutOfMemory,
+    }
+}
+
 /// The object that was read, where it is canonical.
-fn finish(alloc: Global, mode: Mode, taken: Partial) -> Result<ReadObject, TextFault> {
-    if !taken.is_ordered() || !are_one_to(alloc, taken.labels())? {
+fn finish(alloc: Global, mode: Mode, taken: Partial) -> Result<ReadObject, TextFault>
+    requires whole { taken.lists ≡ [] }
+    ensures ok { IfOk result (λ object.
+        IsFinished (spec_mode mode) taken object.shape.items object.labels) }
+    ensures fault { IfErr result (IsRefused taken) }
+{
+    if !taken.is_ordered() {
+        return Err(TextFault::NotCanonical);
+    }
+    if !are_one_to(alloc, taken.labels())? {
         return Err(TextFault::NotCanonical);
     }
     let shape = taken.shape(alloc)?;

@@ -38,3 +38,6 @@ returns c = record {
     same = c.loop-c.invariant.same;
   };
 }
+
+pub body-e-requires : goal.body-e-requires
+body-e-requires c = record { in_range = class-known c.args.system.now c.known.ensures.sound c.loop-c.e.0 c.in-Class.c.0 (c.node.ensures.node ∙ ap (λ n. Some (spec_node n)) c.in-Class.is) }
