@@ -5,3 +5,23 @@ pub mod Tokens
 pub mod PartTexts
 pub mod StableOrder
 pub mod LabelParts
+mod Digits
+mod Scans
+mod Marks
+mod OpenLists
+mod Stops
+mod ObjectTexts
+mod TakenParts
+mod Chains
+mod FirstBytes
+mod Beginnings
+mod Living
+mod Moving
+mod MovingParts
+mod MovingLists
+mod InOrderTests
+mod Resolving
+mod MovingOn
+mod Resuming
+mod Answering
+mod Agreeing

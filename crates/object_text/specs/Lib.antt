@@ -2,3 +2,12 @@ pub mod Todos
 pub mod Printing
 pub mod Output
 pub mod Labels
+pub mod Reading
+pub mod Taken
+pub mod Slots
+pub mod Scanning
+pub mod Expected
+pub mod Marks
+pub mod Pieces
+pub mod States
+pub mod BothWays

@@ -6,8 +6,16 @@
 //! takes or that memory suffices.
 #![tactic(auto)]
 
+mod expected;
+pub mod fault;
+pub mod laws;
+mod one_to;
 mod output;
 pub mod print;
+pub mod read;
+mod reader;
+mod scan;
+mod taken;
 #[cfg(test)]
 mod tests;
 mod todo;

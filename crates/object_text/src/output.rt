@@ -252,7 +252,7 @@ fn least_label(parts: &[Part]) -> u64
 }
 
 /// The lesser of two labels, where 0 stands for none.
-fn lesser(a: u64, b: u64) -> u64
+pub(crate) fn lesser(a: u64, b: u64) -> u64
     ensures { result ≡ lesser_label a b }
 {
     if a == 0 {
