@@ -14,13 +14,15 @@ use choice_draw::union::draw_union;
 use class_system::expr::Expr;
 use class_system::ids::{ClassId, ExprId};
 use class_system::system::System;
-use count_draw::count::draw_count;
+use count_draw::count::{draw_count, draw_count_kept};
+use count_draw::kept::KeptTables;
 use std::io;
 use std::sync::ledger::Ledger;
-use std::time::CpuClock;
+use std::time::{CpuClock, Duration};
 use well_founded::examination::Founded;
 
-/// Prints the nanoseconds per draw and per bit, and nothing where the body takes no number.
+/// Prints the nanoseconds per draw and per bit, and nothing where the body takes no number. For numbers
+/// of parts it prints the same again for draws that keep values for later ones.
 pub fn print_draws<R: CpuClock + Print + AllocGlobal, O: Oracle<48>, L: Ledger>(
     rt: &R,
     times: u32,
@@ -33,55 +35,88 @@ pub fn print_draws<R: CpuClock + Print + AllocGlobal, O: Oracle<48>, L: Ledger>(
     requires spec { O.spec oracle.old ≡ founded.now }
     ensures spec { O.spec oracle.new ≡ O.spec oracle.old }
 {
-    let mut tape = Tape::seeded(1);
-    let mut shelf = MemoryShelf::new(rt.alloc(), 1);
-    let start = rt.process_cpu_time()?;
-    draw_at_root(
-        times,
-        founded.system(),
-        room,
-        oracle,
-        &mut tape,
-        &mut shelf,
-        steps,
-    );
-    let end = rt.process_cpu_time()?;
-    let bits = tape.used();
-    if bits == 0 {
-        return Ok(());
-    }
-    print!(rt;
-        ", {:.1} ns per draw, {:.1} per bit",
-        per_call(start, end, u64::from(times)),
-        per_call(start, end, bits)
-    )
-}
-
-/// Draws so often at the body of class 0, where it takes a number.
-fn draw_at_root<O: Oracle<48>, S: Shelf, L: Ledger>(
-    times: u32,
-    system: &System,
-    room: u64,
-    oracle: &mut O,
-    tape: &mut Tape,
-    shelf: &mut S,
-    steps: &mut Steps<L>,
-)
-    requires room { room ≤ 1000000 }
-    requires spec { O.spec oracle.old ≡ system.now }
-    requires tape { Belongs (S.content shelf.old) tape.old }
-    ensures spec { O.spec oracle.new ≡ O.spec oracle.old }
-{
+    let system = founded.system();
     system.known();
     let root = system.body(ClassId(0));
     if root.0 as usize >= system.nodes().len() {
-        return;
+        return Ok(());
     }
     if is_union(system, root) {
-        draw_unions(times, system, root, oracle, tape, shelf, steps);
-    } else if is_counted(system, root) {
-        draw_counts(times, system, root, room, oracle, tape, shelf, steps);
+        return print_unions(rt, times, system, root, oracle, steps);
     }
+    if !is_counted(system, root) {
+        return Ok(());
+    }
+    print_counts(rt, times, system, root, room, oracle, steps)
+}
+
+fn print_unions<R: CpuClock + Print + AllocGlobal, O: Oracle<48>, L: Ledger>(
+    rt: &R,
+    times: u32,
+    system: &System,
+    node: ExprId,
+    oracle: &mut O,
+    steps: &mut Steps<L>,
+) -> io::Result<()>
+    requires union { IsUnion system.now node.0 }
+    requires spec { O.spec oracle.old ≡ system.now }
+    ensures spec { O.spec oracle.new ≡ O.spec oracle.old }
+{
+    let mut tape = Tape::seeded(1);
+    let mut shelf = MemoryShelf::new(rt.alloc(), 1);
+    let start = rt.process_cpu_time()?;
+    draw_unions(times, system, node, oracle, &mut tape, &mut shelf, steps);
+    let end = rt.process_cpu_time()?;
+    print!(rt; ", ")?;
+    print_time(rt, start, end, times, tape.used())
+}
+
+fn print_counts<R: CpuClock + Print + AllocGlobal, O: Oracle<48>, L: Ledger>(
+    rt: &R,
+    times: u32,
+    system: &System,
+    node: ExprId,
+    room: u64,
+    oracle: &mut O,
+    steps: &mut Steps<L>,
+) -> io::Result<()>
+    requires counted { IsCountedNode system.now node.0 }
+    requires room { room ≤ 1000000 }
+    requires spec { O.spec oracle.old ≡ system.now }
+    ensures spec { O.spec oracle.new ≡ O.spec oracle.old }
+{
+    let mut tape = Tape::seeded(1);
+    let mut shelf = MemoryShelf::new(rt.alloc(), 1);
+    let start = rt.process_cpu_time()?;
+    draw_counts(
+        times, system, node, room, oracle, &mut tape, &mut shelf, steps,
+    );
+    let end = rt.process_cpu_time()?;
+    print!(rt; ", ")?;
+    print_time(rt, start, end, times, tape.used())?;
+    let mut kept = KeptTables::make(rt.alloc(), system)?;
+    let mut tape = Tape::seeded(1);
+    let start = rt.process_cpu_time()?;
+    draw_counts_kept(
+        times, system, node, room, &mut kept, oracle, &mut tape, &mut shelf, steps,
+    );
+    let end = rt.process_cpu_time()?;
+    print!(rt; ", with values kept ")?;
+    print_time(rt, start, end, times, tape.used())
+}
+
+fn print_time<R: Print>(
+    rt: &R,
+    start: Duration,
+    end: Duration,
+    times: u32,
+    bits: u64,
+) -> io::Result<()> {
+    print!(rt;
+        "{:.1} ns per draw, {:.1} per bit",
+        per_call(start, end, u64::from(times)),
+        per_call(start, end, bits)
+    )
 }
 
 fn is_union(system: &System, node: ExprId) -> bool
@@ -143,5 +178,30 @@ fn draw_counts<O: Oracle<48>, S: Shelf, L: Ledger>(
 {
     'draws: for _draw in 0..times {
         let _ = draw_count::<48, O, S, L>(system, node, room, oracle, tape, shelf, steps);
+    }
+}
+
+/// Draws numbers of parts up to a room so often, and keeps values for later draws.
+fn draw_counts_kept<O: Oracle<48>, S: Shelf, L: Ledger>(
+    times: u32,
+    system: &System,
+    node: ExprId,
+    room: u64,
+    kept: &mut KeptTables,
+    oracle: &mut O,
+    tape: &mut Tape,
+    shelf: &mut S,
+    steps: &mut Steps<L>,
+)
+    requires counted { IsCountedNode system.now node.0 }
+    requires room { room ≤ 1000000 }
+    requires spec { O.spec oracle.old ≡ system.now }
+    requires tape { Belongs (S.content shelf.old) tape.old }
+    ensures spec { O.spec oracle.new ≡ O.spec oracle.old }
+{
+    'draws: for _draw in 0..times {
+        let _ = draw_count_kept::<48, O, S, L>(
+            system, node, room, kept, oracle, tape, shelf, steps,
+        );
     }
 }

@@ -3,8 +3,9 @@
 //! With no words it prints how it is called. With a number, a file, x as a fraction and a room it
 //! prints the milliseconds of processor time that it takes to read the specification, to find a base
 //! and to raise six levels; then, for so many draws at the body of class 0, where that is a union, a
-//! sequence, a set or a cycle, the nanoseconds per draw and per bit; and then the nanoseconds per
-//! step of a session, over so many steps. The bits are those of the tape of seed 1. What it prints
+//! sequence, a set or a cycle, the nanoseconds per draw and per bit, for numbers of parts once more with
+//! values that are kept from draw to draw; and then the nanoseconds per step of a session, over so
+//! many steps. The bits are those of the tape of seed 1. What it prints
 //! after a number differs from run to run, and no clause speaks of it.
 #![tactic(auto)]
 

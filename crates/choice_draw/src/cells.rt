@@ -6,9 +6,9 @@ ghost use Rattle.choice_draw.specs.Draw.{halved};
 
 use bz_model::cell::Cell;
 
-/// The level that a cell of `b` bits is looked at on, one for each ten bits begun.
+/// The level that a cell of `b` bits is looked at on, one for each ten bits begun. Takes no memory.
 #[inline]
-pub(crate) fn level_at(b: u32) -> u8
+pub fn level_at(b: u32) -> u8
     requires some_bits { 1 ≤ b }
     requires few_bits { b ≤ 60 }
     ensures exact { result ≡ level_for b }
@@ -27,9 +27,9 @@ pub(crate) fn power_of_two(b: u32) -> u128
     1_u128 << b
 }
 
-/// The half of a cell that one more bit names.
+/// The half of a cell that one more bit names. Takes no memory.
 #[inline]
-pub(crate) fn half_of(cell: Cell, bit: bool) -> Cell
+pub fn half_of(cell: Cell, bit: bool) -> Cell
     requires few_bits { cell.b < 60 }
     requires below { cell.k < 2 ^ cell.b }
     ensures exact { result ≡ halved cell bit }

@@ -6,7 +6,7 @@
 //! clause says that a cell is ever decided, nor what a tape's bits are where its shelf doesn't tell.
 #![tactic(auto)]
 
-mod cells;
+pub mod cells;
 pub mod drawn;
 pub mod union;
 pub mod whole;

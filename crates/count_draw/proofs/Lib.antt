@@ -2,6 +2,7 @@ pub mod SmallTerms
 pub mod NextValues
 pub mod PartialValues
 pub mod Runs
+pub mod KeptRows
 pub mod LeastOptions
 pub mod CountedNodes
 pub mod CountsSound

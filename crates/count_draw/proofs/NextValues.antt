@@ -1,4 +1,4 @@
--- The partial value up to one part more, where the part's value is at most 1: one term is added.
+-- The partial value up to one part more, where the terms have 64 bits: one term is added.
 use Rattle.std.proofs.Common.{◌≡◌, ℕ, zero, suc, ◌+◌, ◌-◌, ◌*◌, ◌/◌, ◌^◌, ◌≤◌, ◌&&◌, min, true, false, List, [], ◌∷◌, ◌++◌, length, drop, cond, arith, refl, sym, ◌∙◌, ap, subst, ⊎_elim}
 use Rattle.std.specs.Prelude.{sum}
 use Rattle.std.specs.List.{list_all}
@@ -7,13 +7,13 @@ use Rattle.std.proofs.lemmas.Bool.{cases_lt, lt-ltb, le-ltb}
 use Rattle.std.proofs.lemmas.List.{drop-append-le, length-append}
 use Rattle.std.proofs.lemmas.List.Folds.{list_all-append}
 use Rattle.std.proofs.lemmas.List.Sums.{sum_by-append, sum_by-cons}
-use Rattle.fixed_enclosure.specs.Rounded.{greatest, saturated, fits, Side}
+use Rattle.fixed_enclosure.specs.Rounded.{saturated, fits, Side}
 use Rattle.series_bounds.specs.Series.{Kind, divisor, carried_on, carried, term, terms, sum_capped, part_down, part_up}
 use Rattle.series_bounds.specs.Running.{kept}
 use Rattle.series_bounds.proofs.Running.{kept-before, kept-after}
 use Rattle.series_bounds.proofs.PartsGrow.{OneMore, terms_from-more, drop-short}
 use Rattle.series_bounds.proofs.Fitting.{part_down-fits}
-use Rattle.count_draw.proofs.SmallTerms.{term-fits, all-fit, first-fit, length-terms, terms-next}
+use Rattle.count_draw.proofs.SmallTerms.{term-small, one-small, length-terms, terms-next, fits-take, AllFit, fitting-first, fitting-next}
 
 sum-last : (ts : List ℕ) (t : ℕ) → sum (ts ++ t ∷ []) ≡ sum ts + t
 sum-last ts t = sum_by-append (λ n. n) ts (t ∷ []) ∙ ap (λ n. sum ts + n) (sum_by-cons (λ n. n) t [] ∙ omega arith)
@@ -44,80 +44,88 @@ module _ (kind : Kind) (f a low : ℕ) where
   nothing_summed : (side : Side) → summed side 0 ≡ 0
   nothing_summed side = ap sum (drop-short low [] (omega arith))
 
-  module _ (small : a ≤ 2 ^ f) (bits : f ≤ 56) where
-    down-is : (i : ℕ) → part_down kind f a low i ≡ saturated (summed Side.Down (suc i))
-    down-is i = ap (λ b. cond b (saturated (summed Side.Down (suc i))) 0) (first-fit Side.Down kind f a small bits low (suc i) 0)
+  down-is : (i : ℕ) → AllFit Side.Down kind f a i → part_down kind f a low i ≡ saturated (summed Side.Down (suc i))
+  down-is i fit = ap (λ b. cond b (saturated (summed Side.Down (suc i))) 0) (fits-take low (terms Side.Down kind f a (suc i)) fit)
 
-    pub part_down-first : (t : ℕ) → t ≡ term Side.Down kind 0 (2 ^ f) → part_down kind f a low 0 ≡ kept low 0 t
-    part_down-first t is =
-        let fit : t ≤ greatest = let h = term-fits Side.Down kind f a small bits 0 in omega (arith, is) in
-        let here : summed Side.Down 1 ≡ summed Side.Down 0 + kept low 0 t = summed-next Side.Down 0 ∙ ap (λ n. summed Side.Down 0 + kept low 0 n) (sym is) in
-        let less : kept low 0 t ≤ t = kept-le low 0 t in
-        omega (arith, down-is 0, here, nothing_summed Side.Down)
-      where
-        kept-le : (low j t : ℕ) → kept low j t ≤ t
-        kept-le low j t = ⊎_elim (λ b. omega (arith, kept-before low j t b)) (λ a. omega (arith, kept-after low j t a)) (cases_lt j low)
+  pub part_down-first : (t : ℕ) → t ≡ term Side.Down kind 0 (2 ^ f) → f ≤ 56 → part_down kind f a low 0 ≡ kept low 0 t
+  part_down-first t is bits =
+      let fit : t ≤ 2 ^ 63 = let h = term-small Side.Down kind 0 (2 ^ f) (2 ^ f) (omega arith) in omega (arith, is, h, one-small f bits) in
+      let here : summed Side.Down 1 ≡ summed Side.Down 0 + kept low 0 t = summed-next Side.Down 0 ∙ ap (λ n. summed Side.Down 0 + kept low 0 n) (sym is) in
+      let less : kept low 0 t ≤ t = kept-le low 0 t in
+      omega (arith, down-is 0 (fitting-first Side.Down kind f a bits), here, nothing_summed Side.Down)
+    where
+      kept-le : (low j t : ℕ) → kept low j t ≤ t
+      kept-le low j t = ⊎_elim (λ b. omega (arith, kept-before low j t b)) (λ a. omega (arith, kept-after low j t a)) (cases_lt j low)
 
-    pub part_down-next : (i next t : ℕ) → next ≡ i + 1 → t ≡ term Side.Down kind next (carried Side.Down kind f a next) → part_down kind f a low next ≡ saturated (part_down kind f a low i + kept low next t)
-    part_down-next i next t same is =
-        let one_more : suc i ≡ next = omega arith in
-        let step : summed Side.Down (suc next) ≡ summed Side.Down next + kept low next t = summed-next Side.Down next ∙ ap (λ n. summed Side.Down next + kept low next n) (sym is) in
-        let before : part_down kind f a low i ≡ saturated (summed Side.Down next) = down-is i ∙ ap (λ n. saturated (summed Side.Down n)) one_more in
-        omega (arith, down-is next, step, before)
+  pub part_down-next : (i next t : ℕ) → next ≡ i + 1 → t ≡ term Side.Down kind next (carried Side.Down kind f a next) → AllFit Side.Down kind f a i → AllFit Side.Down kind f a next → part_down kind f a low next ≡ saturated (part_down kind f a low i + kept low next t)
+  part_down-next i next t same is fit fit_next =
+      let one_more : suc i ≡ next = omega arith in
+      let step : summed Side.Down (suc next) ≡ summed Side.Down next + kept low next t = summed-next Side.Down next ∙ ap (λ n. summed Side.Down next + kept low next n) (sym is) in
+      let before : part_down kind f a low i ≡ saturated (summed Side.Down next) = down-is i fit ∙ ap (λ n. saturated (summed Side.Down n)) one_more in
+      omega (arith, down-is next fit_next, step, before)
 
-    up-is : (i cap : ℕ) → part_up kind f a low i cap ≡ min (summed Side.Up (suc i)) cap
-    up-is i cap = ⊎_elim
-        (λ less. let nothing : summed Side.Up (suc i) ≡ 0 = ap sum (drop-short low (terms Side.Up kind f a (suc i)) (omega (arith, length-terms Side.Up kind f a (suc i) 0 (2 ^ f)))) in
-        ap (λ b. cond b 0 (sum_capped low (terms Side.Up kind f a (suc i)) cap)) (lt-ltb i low less) ∙ omega (arith, nothing))
-        (λ later. ap (λ b. cond b 0 (sum_capped low (terms Side.Up kind f a (suc i)) cap)) (le-ltb i low later)
-        ∙ ap (λ b. cond b (min (summed Side.Up (suc i)) cap) cap) (all-fit Side.Up kind f a small bits (suc i) 0))
-        (cases_lt i low)
+  up-is : (i cap : ℕ) → AllFit Side.Up kind f a i → part_up kind f a low i cap ≡ min (summed Side.Up (suc i)) cap
+  up-is i cap fit = ⊎_elim
+      (λ less. let nothing : summed Side.Up (suc i) ≡ 0 = ap sum (drop-short low (terms Side.Up kind f a (suc i)) (omega (arith, length-terms Side.Up kind f a (suc i) 0 (2 ^ f)))) in
+      ap (λ b. cond b 0 (sum_capped low (terms Side.Up kind f a (suc i)) cap)) (lt-ltb i low less) ∙ omega (arith, nothing))
+      (λ later. ap (λ b. cond b 0 (sum_capped low (terms Side.Up kind f a (suc i)) cap)) (le-ltb i low later)
+      ∙ ap (λ b. cond b (min (summed Side.Up (suc i)) cap) cap) fit)
+      (cases_lt i low)
 
-    pub part_up-first : (t cap : ℕ) → t ≡ term Side.Up kind 0 (2 ^ f) → part_up kind f a low 0 cap ≡ min (kept low 0 t) cap
-    part_up-first t cap is =
-        let here : summed Side.Up 1 ≡ summed Side.Up 0 + kept low 0 t = summed-next Side.Up 0 ∙ ap (λ n. summed Side.Up 0 + kept low 0 n) (sym is) in
-        omega (arith, up-is 0 cap, here, nothing_summed Side.Up)
+  pub part_up-first : (t cap : ℕ) → t ≡ term Side.Up kind 0 (2 ^ f) → f ≤ 56 → part_up kind f a low 0 cap ≡ min (kept low 0 t) cap
+  part_up-first t cap is bits =
+      let here : summed Side.Up 1 ≡ summed Side.Up 0 + kept low 0 t = summed-next Side.Up 0 ∙ ap (λ n. summed Side.Up 0 + kept low 0 n) (sym is) in
+      omega (arith, up-is 0 cap (fitting-first Side.Up kind f a bits), here, nothing_summed Side.Up)
 
-    pub part_up-next : (i next t cap : ℕ) → next ≡ i + 1 → t ≡ term Side.Up kind next (carried Side.Up kind f a next) → part_up kind f a low next cap ≡ min (part_up kind f a low i cap + kept low next t) cap
-    part_up-next i next t cap same is =
-        let one_more : suc i ≡ next = omega arith in
-        let step : summed Side.Up (suc next) ≡ summed Side.Up next + kept low next t = summed-next Side.Up next ∙ ap (λ n. summed Side.Up next + kept low next n) (sym is) in
-        let before : part_up kind f a low i cap ≡ min (summed Side.Up next) cap = up-is i cap ∙ ap (λ n. min (summed Side.Up n) cap) one_more in
-        omega (arith, up-is next cap, step, before)
+  pub part_up-next : (i next t cap : ℕ) → next ≡ i + 1 → t ≡ term Side.Up kind next (carried Side.Up kind f a next) → AllFit Side.Up kind f a i → AllFit Side.Up kind f a next → part_up kind f a low next cap ≡ min (part_up kind f a low i cap + kept low next t) cap
+  part_up-next i next t cap same is fit fit_next =
+      let one_more : suc i ≡ next = omega arith in
+      let step : summed Side.Up (suc next) ≡ summed Side.Up next + kept low next t = summed-next Side.Up next ∙ ap (λ n. summed Side.Up next + kept low next n) (sym is) in
+      let before : part_up kind f a low i cap ≡ min (summed Side.Up next) cap = up-is i cap fit ∙ ap (λ n. min (summed Side.Up n) cap) one_more in
+      omega (arith, up-is next cap fit_next, step, before)
 
-    -- after a number carried of 0 the lower value stays
-    none_carried : (j d : ℕ) → carried Side.Down kind f a j ≡ 0 → carried Side.Down kind f a (j + d) ≡ 0
-    none_carried j zero here = let same : j ≡ j + 0 = omega arith in subst (λ n. carried Side.Down kind f a n ≡ 0) same here
-    none_carried j (suc d) here =
-        let before = none_carried j d here in
-        let same : suc (j + d) ≡ j + suc d = omega arith in
-        subst (λ n. carried Side.Down kind f a n ≡ 0) same (ap (λ c. carried_on Side.Down kind f a (j + d) c) before ∙ zero_on (j + d))
-      where
-        zero_on : (i : ℕ) → carried_on Side.Down kind f a i 0 ≡ 0
-        zero_on i = let none : 0 * a ≡ 0 = omega arith in ap (λ n. n / (divisor kind (suc i) * 2 ^ f)) none ∙ zero-div (divisor kind (suc i) * 2 ^ f)
+  zero_on : (i : ℕ) → carried_on Side.Down kind f a i 0 ≡ 0
+  zero_on i = let none : 0 * a ≡ 0 = omega arith in ap (λ n. n / (divisor kind (suc i) * 2 ^ f)) none ∙ zero-div (divisor kind (suc i) * 2 ^ f)
 
-    none_added : (i : ℕ) → carried Side.Down kind f a (i + 1) ≡ 0 → part_down kind f a low (i + 1) ≡ part_down kind f a low i
-    none_added i none =
-        let term_is : 0 ≡ term Side.Down kind (i + 1) (carried Side.Down kind f a (i + 1)) = sym (ap (term Side.Down kind (i + 1)) none ∙ no_term kind (i + 1)) in
-        let next = part_down-next i (i + 1) 0 refl term_is in
-        let nothing : kept low (i + 1) 0 ≡ 0 = ⊎_elim (λ b. kept-before low (i + 1) 0 b) (λ l. kept-after low (i + 1) 0 l) (cases_lt (i + 1) low) in
-        omega (arith, next, nothing, part_down-fits kind f a low i)
-      where
-        no_term : (k : Kind) (j : ℕ) → term Side.Down k j 0 ≡ 0
-        no_term Kind.Seq j = refl
-        no_term Kind.Set j = refl
-        no_term Kind.Cyc zero = refl
-        no_term Kind.Cyc (suc j) = zero-div (suc j)
+  none_carried : (i : ℕ) → carried Side.Down kind f a i ≡ 0 → carried Side.Down kind f a (i + 1) ≡ 0
+  none_carried i here = let same : suc i ≡ i + 1 = omega arith in subst (λ n. carried Side.Down kind f a n ≡ 0) same (ap (λ c. carried_on Side.Down kind f a i c) here ∙ zero_on i)
 
-    stays_by : (j d : ℕ) → carried Side.Down kind f a j ≡ 0 → part_down kind f a low (j + d) ≡ part_down kind f a low j
-    stays_by j zero here = let same : j ≡ j + 0 = omega arith in sym (ap (part_down kind f a low) same)
-    stays_by j (suc d) here =
-        let same : j + d + 1 ≡ j + suc d = omega arith in
-        let none : carried Side.Down kind f a (j + d + 1) ≡ 0 = subst (λ n. carried Side.Down kind f a n ≡ 0) (sym same) (none_carried j (suc d) here) in
-        subst (λ n. part_down kind f a low n ≡ part_down kind f a low j) same (none_added (j + d) none ∙ stays_by j d here)
+  -- at a place the terms up to it have 64 bits, and the number carried to it is 0
+  record IsSpent (i : ℕ) : Type 0 where
+    pub none : carried Side.Down kind f a i ≡ 0
+    pub fit : AllFit Side.Down kind f a i
 
-    pub part_down-stays : (i j : ℕ) → i ≤ j → carried Side.Down kind f a i ≡ 0 → part_down kind f a low j ≡ part_down kind f a low i
-    part_down-stays i j h here = let same : i + (j - i) ≡ j = omega arith in subst (λ n. part_down kind f a low n ≡ part_down kind f a low i) same (stays_by i (j - i) here)
+  spent-on : (i : ℕ) → IsSpent i → IsSpent (i + 1)
+  spent-on i here = record { none = none_carried i here.none; fit = fitting-next Side.Down kind f a i (i + 1) 0 refl (sym (none_carried i here.none)) (omega arith) here.fit }
+
+  none_added : (i : ℕ) → IsSpent i → part_down kind f a low (i + 1) ≡ part_down kind f a low i
+  none_added i here =
+      let after = spent-on i here in
+      let term_is : 0 ≡ term Side.Down kind (i + 1) (carried Side.Down kind f a (i + 1)) = sym (ap (term Side.Down kind (i + 1)) after.none ∙ no_term kind (i + 1)) in
+      let next = part_down-next i (i + 1) 0 refl term_is here.fit after.fit in
+      let nothing : kept low (i + 1) 0 ≡ 0 = ⊎_elim (λ b. kept-before low (i + 1) 0 b) (λ l. kept-after low (i + 1) 0 l) (cases_lt (i + 1) low) in
+      omega (arith, next, nothing, part_down-fits kind f a low i)
+    where
+      no_term : (k : Kind) (j : ℕ) → term Side.Down k j 0 ≡ 0
+      no_term Kind.Seq j = refl
+      no_term Kind.Set j = refl
+      no_term Kind.Cyc zero = refl
+      no_term Kind.Cyc (suc j) = zero-div (suc j)
+
+  -- after a number carried of 0 the lower value stays
+  record Stays (i j : ℕ) : Type 0 where
+    pub spent : IsSpent j
+    pub same : part_down kind f a low j ≡ part_down kind f a low i
+
+  stays_by : (j d : ℕ) → IsSpent j → Stays j (j + d)
+  stays_by j zero here = let same : j ≡ j + 0 = omega arith in subst (Stays j) same (record { spent = here; same = refl })
+  stays_by j (suc d) here =
+      let before = stays_by j d here in
+      let same : j + d + 1 ≡ j + suc d = omega arith in
+      subst (Stays j) same (record { spent = spent-on (j + d) before.spent; same = none_added (j + d) before.spent ∙ before.same })
+
+  pub part_down-stays : (i j : ℕ) → i ≤ j → carried Side.Down kind f a i ≡ 0 → AllFit Side.Down kind f a i → part_down kind f a low j ≡ part_down kind f a low i
+  part_down-stays i j h none fit = let same : i + (j - i) ≡ j = omega arith in subst (λ n. part_down kind f a low n ≡ part_down kind f a low i) same (stays_by i (j - i) (record { none = none; fit = fit })).same
 
 -- the upper value up to a later option is at least as great, whatever the part's value
 capped-grows : (low cap t : ℕ) (ts : List ℕ) → sum_capped low ts cap ≤ sum_capped low (ts ++ t ∷ []) cap

@@ -2,3 +2,4 @@ pub mod Kinds
 pub mod Decision
 pub mod Table
 pub mod Answer
+pub mod Row

@@ -1,9 +1,10 @@
--- Tables of the partial values of one choice among numbers of parts.
-use Rattle.std.specs.Prelude.{◌≡◌, ℕ, suc, ◌-◌, ◌*◌, ◌^◌, ◌<◌, ◌≤◌, Bool, true, false, nat_le, List, length, slice_index, Option}
+-- The partial values of one choice among numbers of parts, and which options they pass.
+use Rattle.std.specs.Prelude.{◌≡◌, ℕ, suc, ◌-◌, ◌*◌, ◌/◌, ◌^◌, ◌<◌, ◌≤◌, Bool, true, false, nat_le, Option}
+use Rattle.std.specs.List.{list_all}
 use Rattle.bz_model.specs.declared.cell.Cell.{Cell}
 use Rattle.bz_model.specs.declared.cell.Bounds.{Bounds}
-use Rattle.series_bounds.specs.Series.{Kind, carried, part_down, part_up}
-use Rattle.fixed_enclosure.specs.Rounded.{Side}
+use Rattle.series_bounds.specs.Series.{Kind, carried, terms, part_down, part_up}
+use Rattle.fixed_enclosure.specs.Rounded.{fits, Side, quotient_up}
 use Rattle.fixed_enclosure.specs.Rounded.Side.{Down, Up}
 use Rattle.series_bounds.specs.ExactSums.{first_term}
 use Rattle.choice_draw.specs.Decision.{Options, least_passing}
@@ -47,17 +48,33 @@ passed_at f t cell i = nat_le (2 ^ cell.b * upper_at f t i) (cell.k * t.whole.lo
 abbrev pub options_of : (f : ℕ) → Filling → (high : Option ℕ) → (room : ℕ) → Options
 options_of f t high room = counted_options t.kind f (record { low = t.low; high = high }) t.part t.whole room
 
--- The least option that passes lies between two options: those before the one fail, and the other passes.
-pub record IsBracket (f : ℕ) (t : Filling) (cell : Cell) (from to : ℕ) : Type 0 where
+-- The value at a cell's end, rounded up: the least lower value of an option that ends at or after every number of the cell.
+abbrev pub end_value : Cell → (hi : ℕ) → ℕ
+end_value cell hi = quotient_up (suc cell.k * hi) (2 ^ cell.b)
+
+-- The value at a cell's begin, rounded down: the greatest upper value of an option that ends at or before every number of the cell.
+abbrev pub begin_value : Cell → (lo : ℕ) → ℕ
+begin_value cell lo = cell.k * lo / 2 ^ cell.b
+
+-- The lower value of option i is at least v.
+abbrev pub reaches_at : (f : ℕ) → Filling → (v i : ℕ) → Bool
+reaches_at f t v i = nat_le v (lower_at f t i)
+
+-- The least option up to the room whose lower value is at least v.
+abbrev pub least_reaching : (f : ℕ) → Filling → (v : ℕ) → Option ℕ
+least_reaching f t v = least_passing (reaches_at f t v) (suc t.room - t.low) t.low
+
+-- The least option that reaches v lies between two options: those before the one don't, and the other does.
+pub record IsBracket (f : ℕ) (t : Filling) (v from to : ℕ) : Type 0 where
   pub low : t.low ≤ from
   pub order : from ≤ to
   pub room : to ≤ t.room
-  pub before : (j : ℕ) → t.low ≤ j → j < from → passes_at f t cell j ≡ false
-  pub passing : passes_at f t cell to ≡ true
+  pub before : (j : ℕ) → t.low ≤ j → j < from → reaches_at f t v j ≡ false
+  pub reaching : reaches_at f t v to ≡ true
 
--- No option before the place passes.
-pub record NonePasses (f : ℕ) (t : Filling) (cell : Cell) (place : ℕ) : Type 0 where
-  pub before : (j : ℕ) → t.low ≤ j → j < place → passes_at f t cell j ≡ false
+-- No option before the place reaches v.
+pub record NoneReaches (f : ℕ) (t : Filling) (v place : ℕ) : Type 0 where
+  pub before : (j : ℕ) → t.low ≤ j → j < place → reaches_at f t v j ≡ false
 
 -- The part's bound of a side.
 abbrev pub bound_of : Side → Filling → ℕ
@@ -69,24 +86,9 @@ abbrev pub value_at : Side → (f : ℕ) → Filling → (i : ℕ) → ℕ
 value_at Down f t i = lower_at f t i
 value_at Up f t i = upper_at f t i
 
--- A run of the terms of a side stands at a place: the power is the number carried to it, and the sum is the value up to it.
+-- A run of the terms of a side stands at a place: the power is the number carried to it, at most 2^63, each term up to it has 64 bits, and the sum is the value up to it.
 pub record IsRun (side : Side) (f : ℕ) (t : Filling) (place power sum : ℕ) : Type 0 where
   pub carried_to : power ≡ carried side t.kind f (bound_of side t) place
+  pub small : power ≤ 2 ^ 63
+  pub fitting : list_all fits (terms side t.kind f (bound_of side t) (suc place)) ≡ true
   pub summed : sum ≡ value_at side f t place
-
--- These are the lower values up to the first options.
-pub record AreLower (f : ℕ) (t : Filling) (values : List ℕ) : Type 0 where
-  pub at : (i : ℕ) → i < length values → slice_index values i ≡ lower_at f t i
-
--- These are the upper values up to the first options.
-pub record AreUpper (f : ℕ) (t : Filling) (values : List ℕ) : Type 0 where
-  pub at : (i : ℕ) → i < length values → slice_index values i ≡ upper_at f t i
-
--- A table keeps the values up to the first 256 options, and the run of the lower terms at the last of them.
-pub record IsKept (f : ℕ) (t : Filling) (lower upper : List ℕ) (place power sum : ℕ) : Type 0 where
-  pub small : t.part.lo ≤ 2 ^ f
-  pub lower_count : length lower ≡ 256
-  pub upper_count : length upper ≡ 256
-  pub lower_kept : AreLower f t lower
-  pub upper_kept : AreUpper f t upper
-  pub run : IsRun Down f t place power sum

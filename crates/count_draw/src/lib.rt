@@ -6,15 +6,19 @@
 //! a room is passed over. A number decided is the ideal option of every number of the cell, and where
 //! all are passed over, none is ideal.
 //!
-//! A draw sums for each cell the few terms that decide it. A [`table::CountTable`] keeps the partial
-//! values of the first 256 numbers of parts (`specs/Table.antt`), for many cells of one choice. No
-//! clause says that a cell is ever decided, nor what a tape's bits are where its shelf doesn't tell.
+//! The values that decide are summed term by term and kept: in a draw for its later bits, and in
+//! [`kept::KeptTables`] for later draws. [`table::CountTable`] keeps the partial values of the first
+//! 256 numbers of parts (`specs/Table.antt`), for many cells of one choice. No clause says that a cell
+//! is ever decided, nor what a tape's bits are where its shelf doesn't tell.
 #![tactic(auto)]
 
-mod cells;
+mod cell_values;
+mod choice;
 pub mod count;
 pub mod drawn;
+pub mod kept;
 pub mod kind;
+mod rows;
 mod sums;
 pub mod table;
 mod terms;

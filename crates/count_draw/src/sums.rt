@@ -1,16 +1,14 @@
 //! The partial values of one choice among numbers of parts, summed where they are asked.
-ghost use Rattle.std.specs.Prelude.{◌≡◌, ◌+◌, ◌^◌, ◌<◌, ◌≤◌, Some, None, IfSome, IfNone};
-ghost use Rattle.bz_model.specs.Cell.{IsCell};
+ghost use Rattle.std.specs.Prelude.{◌≡◌, ◌+◌, ◌^◌, ◌<◌, ◌≤◌, None, IfSome, IfNone, nat_le};
 ghost use Rattle.fixed_enclosure.specs.Rounded.{Side};
 ghost use Rattle.series_bounds.specs.Series.{part_down, part_up};
 ghost use Rattle.series_bounds.specs.ExactSums.{first_term};
 ghost use Rattle.count_draw.specs.Kinds.{kind_of};
-ghost use Rattle.count_draw.specs.Table.{lower_at, upper_at, passes_at, passed_at, least_at, IsBracket, IsRun, NonePasses, AreLower};
+ghost use Rattle.count_draw.specs.Table.{lower_at, upper_at, reaches_at, least_reaching, IsBracket, IsRun, NoneReaches};
 
-use crate::cells::{begins_after, ends_before};
 use crate::kind::CountKind;
 use crate::terms::{carry_down, carry_up, kept_of, term_down, term_up};
-use bz_model::cell::{Bounds, Cell};
+use bz_model::cell::Bounds;
 use fixed_enclosure::narrow::power_of_two;
 use fixed_enclosure::{Hi, Lo};
 use series_bounds::{cyc_part_hi, cyc_part_lo, seq_part_hi, seq_part_lo, set_part_hi, set_part_lo};
@@ -63,11 +61,33 @@ impl<const F: u32> CountSums<F> {
         }
     }
 
+    /// The construction.
+    pub(crate) fn kind(&self) -> CountKind
+        ensures { kind_of result ≡ self.now.kind }
+    {
+        self.kind
+    }
+
     /// The least number of parts.
     pub(crate) fn low(&self) -> u64
-        ensures { result ≡ self.now.low }
+        ensures first { result ≡ self.now.low }
+        ensures few { result ≤ 64 }
     {
         self.low
+    }
+
+    /// The bounds of the part.
+    pub(crate) fn part(&self) -> Bounds
+        ensures { result ≡ self.now.part }
+    {
+        self.part
+    }
+
+    /// The bounds of the whole node.
+    pub(crate) fn whole(&self) -> Bounds
+        ensures { result ≡ self.now.whole }
+    {
+        self.whole
     }
 
     /// The greatest number of parts that is asked.
@@ -97,55 +117,9 @@ impl<const F: u32> CountSums<F> {
         upper_value::<F>(self.kind, self.part.hi, self.low, i, self.whole.hi)
     }
 
-    /// The least number of parts up to the room whose end lies after every number of the cell;
-    /// `None` exactly where there is none. Takes no memory.
-    pub(crate) fn least(&self, cell: Cell) -> Option<u64>
-        requires fraction { (24 ≤ F) × (F ≤ 56) }
-        requires cell { IsCell cell.k cell.b }
-        ensures exact { result ≡ least_at F self.now cell }
-        ensures in_range { IfSome result (λ i. (self.now.low ≤ i) × (i ≤ self.now.room)) }
-    {
-        if u128::from(self.part.lo) > power_of_two(F) {
-            let bracket = self.bracket(cell)?;
-            return Some(self.least_between(cell, bracket, &[]));
-        }
-        let start = self.start_down();
-        self.least_from(cell, start)
-    }
-
-    /// The least option that passes, where none before the run's place does: a pass over the terms,
-    /// up to one of which all later ones are 0.
-    pub(crate) fn least_from(&self, cell: Cell, start: Run) -> Option<u64>
-        requires fraction { (24 ≤ F) × (F ≤ 56) }
-        requires cell { IsCell cell.k cell.b }
-        requires small { self.now.part.lo ≤ 2 ^ F }
-        requires start { IsRun Side.Down F self.now start.place start.power start.sum }
-        requires room { start.place ≤ self.now.room }
-        requires before { NonePasses F self.now cell start.place }
-        ensures exact { result ≡ least_at F self.now cell }
-        ensures in_range { IfSome result (λ i. (self.now.low ≤ i) × (i ≤ self.now.room)) }
-    {
-        let mut run = start;
-        'terms: loop {
-            if run.place >= self.low {
-                if ends_before(cell, run.sum, self.whole.hi) {
-                    return Some(run.place);
-                }
-                if run.power == 0 {
-                    return None;
-                }
-            }
-            if run.place >= self.room {
-                return None;
-            }
-            run = self.next_down(run);
-        }
-    }
-
     /// The run of the lower terms at its first.
     pub(crate) fn start_down(&self) -> Run
         requires fraction { (24 ≤ F) × (F ≤ 56) }
-        requires small { self.now.part.lo ≤ 2 ^ F }
         ensures run { IsRun Side.Down F self.now result.place result.power result.sum }
         ensures first { result.place ≡ 0 }
     {
@@ -157,29 +131,25 @@ impl<const F: u32> CountSums<F> {
         }
     }
 
-    /// The run of the lower terms, one term on.
-    pub(crate) fn next_down(&self, run: Run) -> Run
+    /// The run of the lower terms, one term on; `None` may come where numbers aren't small.
+    #[inline]
+    pub(crate) fn next_down(&self, run: Run) -> Option<Run>
         requires fraction { (24 ≤ F) × (F ≤ 56) }
-        requires small { self.now.part.lo ≤ 2 ^ F }
         requires run { IsRun Side.Down F self.now run.place run.power run.sum }
         requires places { run.place < 1000000 }
-        ensures run { IsRun Side.Down F self.now result.place result.power result.sum }
-        ensures next { result.place ≡ run.place + 1 }
+        ensures run { IfSome result (λ r. IsRun Side.Down F self.now r.place r.power r.sum) }
+        ensures next { IfSome result (λ r. r.place ≡ run.place + 1) }
     {
-        let power = carry_down::<F>(self.kind, self.part.lo, run.place, run.power);
+        let power = carry_down::<F>(self.kind, self.part.lo, run.place, run.power)?;
         let place = run.place + 1;
         let term = term_down(self.kind, place, power);
-        Run {
-            place,
-            power,
-            sum: run.sum.saturating_add(kept_of(self.low, place, term)),
-        }
+        let sum = run.sum.saturating_add(kept_of(self.low, place, term));
+        Some(Run { place, power, sum })
     }
 
     /// The run of the upper terms at its first.
     pub(crate) fn start_up(&self) -> Run
         requires fraction { (24 ≤ F) × (F ≤ 56) }
-        requires small { self.now.part.hi ≤ 2 ^ F }
         ensures run { IsRun Side.Up F self.now result.place result.power result.sum }
         ensures first { result.place ≡ 0 }
     {
@@ -192,42 +162,68 @@ impl<const F: u32> CountSums<F> {
         }
     }
 
-    /// The run of the upper terms, one term on.
-    pub(crate) fn next_up(&self, run: Run) -> Run
+    /// The run of the upper terms, one term on; `None` may come where numbers aren't small.
+    #[inline]
+    pub(crate) fn next_up(&self, run: Run) -> Option<Run>
         requires fraction { (24 ≤ F) × (F ≤ 56) }
-        requires small { self.now.part.hi ≤ 2 ^ F }
         requires run { IsRun Side.Up F self.now run.place run.power run.sum }
         requires places { run.place < 1000000 }
-        ensures run { IsRun Side.Up F self.now result.place result.power result.sum }
-        ensures next { result.place ≡ run.place + 1 }
+        ensures run { IfSome result (λ r. IsRun Side.Up F self.now r.place r.power r.sum) }
+        ensures next { IfSome result (λ r. r.place ≡ run.place + 1) }
     {
-        let power = carry_up::<F>(self.kind, self.part.hi, run.place, run.power);
+        let power = carry_up::<F>(self.kind, self.part.hi, run.place, run.power)?;
         let place = run.place + 1;
         let term = term_up(self.kind, place, power);
         let sum = run.sum.saturating_add(kept_of(self.low, place, term));
-        Run {
-            place,
-            power,
-            sum: sum.min(self.whole.hi),
+        let sum = sum.min(self.whole.hi);
+        Some(Run { place, power, sum })
+    }
+
+    /// The least option whose lower value is at least `v`, where none before the run's place is one:
+    /// a pass over the terms, up to one of which all later ones are 0. The run goes along.
+    pub(crate) fn least_from(&self, v: u64, run: &mut Run) -> Option<u64>
+        requires fraction { (24 ≤ F) × (F ≤ 56) }
+        requires run { IsRun Side.Down F self.now run.old.place run.old.power run.old.sum }
+        requires room { run.old.place ≤ self.now.room }
+        requires before { NoneReaches F self.now v run.old.place }
+        ensures run { IsRun Side.Down F self.now run.new.place run.new.power run.new.sum }
+        ensures exact { result ≡ least_reaching F self.now v }
+        ensures in_range { IfSome result (λ i. (self.now.low ≤ i) × (i ≤ self.now.room)) }
+    {
+        'terms: loop {
+            if run.place >= self.low {
+                if v <= run.sum {
+                    return Some(run.place);
+                }
+                if run.power == 0 {
+                    return None;
+                }
+            }
+            if run.place >= self.room {
+                return None;
+            }
+            match self.next_down(*run) {
+                Some(next) => *run = next,
+                None => return self.least_by_steps(v),
+            }
         }
     }
 
-    /// Whether no number of the cell lies before the end of option i.
-    pub(crate) fn is_passed(&self, cell: Cell, i: u64) -> bool
+    /// The least option whose lower value is at least `v`, where each value is summed anew.
+    fn least_by_steps(&self, v: u64) -> Option<u64>
         requires fraction { (24 ≤ F) × (F ≤ 56) }
-        requires cell { IsCell cell.k cell.b }
-        requires option { i ≤ self.now.room }
-        ensures exact { result ≡ passed_at F self.now cell i }
+        ensures exact { result ≡ least_reaching F self.now v }
+        ensures in_range { IfSome result (λ i. (self.now.low ≤ i) × (i ≤ self.now.room)) }
     {
-        begins_after(cell, self.upper(i), self.whole.lo)
+        let bracket = self.bracket(v)?;
+        Some(self.least_between(v, bracket))
     }
 
     /// Options between which the least lies, found by steps of doubling length from the low on.
-    fn bracket(&self, cell: Cell) -> Option<Bracket>
+    fn bracket(&self, v: u64) -> Option<Bracket>
         requires fraction { (24 ≤ F) × (F ≤ 56) }
-        requires cell { IsCell cell.k cell.b }
-        ensures found { IfSome result (λ r. IsBracket F self.now cell r.from r.to) }
-        ensures none { IfNone result (least_at F self.now cell ≡ None) }
+        ensures found { IfSome result (λ r. IsBracket F self.now v r.from r.to) }
+        ensures none { IfNone result (least_reaching F self.now v ≡ None) }
     {
         if self.room < self.low {
             return None;
@@ -235,7 +231,7 @@ impl<const F: u32> CountSums<F> {
         let mut from = self.low;
         let mut to = self.low;
         'steps: loop {
-            if self.passes(cell, to, &[]) {
+            if self.reaches(v, to) {
                 return Some(Bracket { from, to });
             }
             if to >= self.room {
@@ -246,20 +242,18 @@ impl<const F: u32> CountSums<F> {
         }
     }
 
-    /// The least option that passes, found by halves. `near` has lower values of the first options.
-    pub(crate) fn least_between(&self, cell: Cell, bracket: Bracket, near: &[u64]) -> u64
+    /// The least option that reaches `v`, found by halves.
+    fn least_between(&self, v: u64, bracket: Bracket) -> u64
         requires fraction { (24 ≤ F) × (F ≤ 56) }
-        requires cell { IsCell cell.k cell.b }
-        requires bracket { IsBracket F self.now cell bracket.from bracket.to }
-        requires near { AreLower F self.now near.now }
-        ensures exact { least_at F self.now cell ≡ Some result }
+        requires bracket { IsBracket F self.now v bracket.from bracket.to }
+        ensures exact { least_reaching F self.now v ≡ Some result }
         ensures in_range { (self.now.low ≤ result) × (result ≤ self.now.room) }
     {
         let mut from = bracket.from;
         let mut to = bracket.to;
         'halves: while from < to {
             let middle = from + (to - from) / 2;
-            if self.passes(cell, middle, near) {
+            if self.reaches(v, middle) {
                 to = middle;
             } else {
                 from = middle + 1;
@@ -268,29 +262,36 @@ impl<const F: u32> CountSums<F> {
         to
     }
 
-    /// Whether every number of the cell lies before the end of option i.
-    pub(crate) fn passes(&self, cell: Cell, i: u64, near: &[u64]) -> bool
+    /// Whether the lower value of option i is at least `v`.
+    fn reaches(&self, v: u64, i: u64) -> bool
         requires fraction { (24 ≤ F) × (F ≤ 56) }
-        requires cell { IsCell cell.k cell.b }
         requires option { i ≤ self.now.room }
-        requires near { AreLower F self.now near.now }
-        ensures exact { result ≡ passes_at F self.now cell i }
+        ensures exact { result ≡ reaches_at F self.now v i }
     {
-        ends_before(cell, self.lower_by(i, near), self.whole.hi)
+        v <= self.lower(i)
     }
 
-    /// The lower value of the objects with at most i parts, of which `near` has the first.
-    pub(crate) fn lower_by(&self, i: u64, near: &[u64]) -> u64
+    /// Whether the upper value of option i is at most `u`: a pass over the terms from a run on, up to
+    /// one at which it isn't.
+    pub(crate) fn stays_within(&self, u: u64, start: Run, i: u64) -> bool
         requires fraction { (24 ≤ F) × (F ≤ 56) }
+        requires run { IsRun Side.Up F self.now start.place start.power start.sum }
+        requires later { start.place ≤ i }
         requires option { i ≤ self.now.room }
-        requires near { AreLower F self.now near.now }
-        ensures exact { result ≡ lower_at F self.now i }
+        ensures exact { result ≡ nat_le (upper_at F self.now i) u }
     {
-        if i < near.len() as u64 {
-            near[i as usize]
-        } else {
-            self.lower(i)
+        let _most = self.room();
+        let mut run = start;
+        'terms: while run.place < i {
+            if u < run.sum {
+                return false;
+            }
+            match self.next_up(run) {
+                Some(next) if run.power > 1 => run = next,
+                _ => return self.upper(i) <= u,
+            }
         }
+        run.sum <= u
     }
 }
 
@@ -302,7 +303,18 @@ pub(crate) struct Run {
     pub(crate) sum: u64,
 }
 
-/// The options from one on that may be the least that passes, up to one that passes.
+impl Run {
+    /// A run at nothing.
+    pub(crate) fn nowhere() -> Run {
+        Run {
+            place: 0,
+            power: 0,
+            sum: 0,
+        }
+    }
+}
+
+/// The options from one on that may be the least that reaches a value, up to one that does.
 #[derive(Clone, Copy)]
 pub(crate) struct Bracket {
     pub(crate) from: u64,

@@ -1,43 +1,38 @@
 //! Tables of the partial values of one choice among numbers of parts.
-ghost use Rattle.std.specs.Prelude.{◌≡◌, ◌^◌, ◌≤◌, length, IfSome};
+ghost use Rattle.std.specs.Prelude.{◌≡◌, ◌≤◌, IfSome};
 ghost use Rattle.bz_model.specs.Cell.{IsCell};
-ghost use Rattle.fixed_enclosure.specs.Rounded.{Side};
 ghost use Rattle.series_bounds.specs.ExactSums.{first_term};
 ghost use Rattle.count_draw.specs.Kinds.{kind_of};
-ghost use Rattle.count_draw.specs.Table.{lower_at, upper_at, least_at, AreLower, AreUpper, IsRun};
+ghost use Rattle.count_draw.specs.Table.{lower_at, upper_at, least_at};
 
+use crate::cell_values::end_of;
 use crate::kind::CountKind;
-use crate::sums::{Bracket, CountSums, Run};
+use crate::rows::{LowerRow, UpperRow};
+use crate::sums::CountSums;
 use bz_model::cell::{Bounds, Cell};
-use fixed_enclosure::narrow::power_of_two;
 use std::marker::Model;
-
-/// How many options have their values kept.
-const KEPT: u64 = 256;
 
 /// The lower and upper values, in units of `2^-F`, of the objects with at most i parts, for each i up
 /// to a room.
 ///
-/// Those up to 255 parts are kept where the bounds of the part are at most 1; others are summed where
-/// they are asked.
+/// Those up to 255 parts are kept, as far as the numbers that they are found by have 63 bits, which
+/// they have where the bounds of the part are at most 1; others are summed where they are asked.
 #[derive(Drop)]
 pub struct CountTable<const F: u32> {
     sums: CountSums<F>,
-    is_kept: bool,
-    lower: [u64; 256],
-    upper: [u64; 256],
-    last: Run,
+    lower: LowerRow,
+    upper: UpperRow,
 }
 
 impl<const F: u32> Model for CountTable<F> {
-    ghost use Rattle.std.specs.Prelude.{IsTrue};
-    ghost use Rattle.count_draw.specs.Table.{Filling, IsKept};
+    ghost use Rattle.count_draw.specs.Table.{Filling};
+    ghost use Rattle.count_draw.specs.Row.{IsLowerRow, IsUpperRow};
 
     ghost Value = { Filling };
 
     ghost view = { λ t. t.sums };
 
-    ghost invariant = { λ t. IsTrue t.is_kept → IsKept F t.sums t.lower t.upper t.last.place t.last.power t.last.sum };
+    ghost invariant = { λ t. IsLowerRow F t.sums t.lower × IsUpperRow F t.sums t.upper };
 }
 
 impl<const F: u32> CountTable<F> {
@@ -51,25 +46,13 @@ impl<const F: u32> CountTable<F> {
         ensures filled { result ≡ record { kind = kind_of kind; low = low; part = part; whole = whole; room = room } }
     {
         let sums = CountSums::new(kind, low, part, whole, room);
-        let mut lower = [0; 256];
-        let mut upper = [0; 256];
-        let mut last = Run {
-            place: 0,
-            power: 0,
-            sum: 0,
-        };
-        let is_kept = u128::from(part.lo.max(part.hi)) <= power_of_two(F);
-        if is_kept {
-            last = keep_lower(&sums, &mut lower);
-            keep_upper(&sums, &mut upper);
-        }
-        CountTable {
-            sums,
-            is_kept,
-            lower,
-            upper,
-            last,
-        }
+        let mut lower = LowerRow::empty();
+        lower.start(&sums);
+        lower.fill(&sums);
+        let mut upper = UpperRow::empty();
+        upper.start(&sums);
+        upper.fill(&sums);
+        CountTable { sums, lower, upper }
     }
 
     /// The lower value of the objects with at most i parts: 0 below the low. Takes no memory.
@@ -78,10 +61,9 @@ impl<const F: u32> CountTable<F> {
         requires option { i ≤ self.now.room }
         ensures exact { result ≡ lower_at F self.now i }
     {
-        if self.is_kept && i < KEPT {
-            self.lower[i as usize]
-        } else {
-            self.sums.lower(i)
+        match self.lower.value(&self.sums, i) {
+            Some(value) => value,
+            None => self.sums.lower(i),
         }
     }
 
@@ -92,70 +74,32 @@ impl<const F: u32> CountTable<F> {
         requires option { i ≤ self.now.room }
         ensures exact { result ≡ upper_at F self.now i }
     {
-        if self.is_kept && i < KEPT {
-            self.upper[i as usize]
-        } else {
-            self.sums.upper(i)
+        match self.upper.value(&self.sums, i) {
+            Some(value) => value,
+            None => self.sums.upper(i),
         }
     }
 
     /// The least number of parts up to the room whose end lies after every number of the cell;
     /// `None` exactly where there is none. Takes no memory.
     ///
-    /// Among the numbers up to 255 it is found by halves, beyond them by a pass over the terms.
+    /// Among the numbers whose values are kept it is found by halves, beyond them by a pass over the
+    /// terms.
     pub fn least(&self, cell: Cell) -> Option<u64>
         requires fraction { (24 ≤ F) × (F ≤ 56) }
         requires cell { IsCell cell.k cell.b }
         ensures exact { result ≡ least_at F self.now cell }
         ensures in_range { IfSome result (λ i. (self.now.low ≤ i) × (i ≤ self.now.room)) }
     {
-        let from = self.sums.low();
-        let to = self.last.place.min(self.sums.room());
-        if !self.is_kept || to < from {
-            return self.sums.least(cell);
+        let end = end_of(cell, self.sums.whole().hi);
+        if let Some(option) = self.lower.least_kept(&self.sums, end) {
+            return Some(option);
         }
-        if self.sums.passes(cell, to, &self.lower) {
-            return Some(
-                self.sums
-                    .least_between(cell, Bracket { from, to }, &self.lower),
-            );
-        }
-        if to < self.last.place {
+        if self.sums.room() <= self.lower.run.place {
             return None;
         }
-        self.sums.least_from(cell, self.last)
-    }
-}
-
-/// Writes the lower values up to the first options, and gives the run of the terms at the last.
-fn keep_lower<const F: u32>(sums: &CountSums<F>, values: &mut [u64; 256]) -> Run
-    requires fraction { (24 ≤ F) × (F ≤ 56) }
-    requires small { sums.now.part.lo ≤ 2 ^ F }
-    ensures kept { AreLower F sums.now values.new }
-    ensures run { IsRun Side.Down F sums.now result.place result.power result.sum }
-    ensures count { length values.new ≡ 256 }
-{
-    let mut run = sums.start_down();
-    values[0] = run.sum;
-    for i in 1..256 {
-        run = sums.next_down(run);
-        values[i] = run.sum;
-    }
-    run
-}
-
-/// Writes the upper values up to the first options.
-fn keep_upper<const F: u32>(sums: &CountSums<F>, values: &mut [u64; 256])
-    requires fraction { (24 ≤ F) × (F ≤ 56) }
-    requires small { sums.now.part.hi ≤ 2 ^ F }
-    ensures kept { AreUpper F sums.now values.new }
-    ensures count { length values.new ≡ 256 }
-{
-    let mut run = sums.start_up();
-    values[0] = run.sum;
-    for i in 1..256 {
-        run = sums.next_up(run);
-        values[i] = run.sum;
+        let mut run = self.lower.run;
+        self.sums.least_from(end, &mut run)
     }
 }
 

@@ -27,7 +27,8 @@ use choice_draw::union::draw_union;
 use class_system::expr::Expr;
 use class_system::ids::{ClassId, ExprId};
 use class_system::system::System;
-use count_draw::count::draw_count;
+use count_draw::count::draw_count_kept;
+use count_draw::kept::KeptTables;
 use object_store::pending::Pending;
 use object_store::shape::Shape;
 use object_store::token::Token;
@@ -48,6 +49,8 @@ pub struct Session {
     cells: Cells,
     room: u64,
     stopped: Option<Stepped>,
+    // What draws keep for later ones, whatever the attempt.
+    kept: KeptTables,
 }
 
 impl Model for Session {
@@ -62,7 +65,8 @@ impl Model for Session {
 }
 
 impl Session {
-    /// A session before its first attempt. Takes no memory yet.
+    /// A session before its first attempt. Takes the memory of the values that its draws keep, and no
+    /// other yet.
     pub fn new(alloc: Global, founded: &Founded, room: u64) -> Result<Session, AllocError>
         requires room { room ≤ 1000000 }
         ensures root { IfOk result (λ s. body_of founded.now 0 ≡ Some s.root) }
@@ -81,6 +85,7 @@ impl Session {
             cells: Cells::new(alloc),
             room,
             stopped: None,
+            kept: KeptTables::make(alloc, system)?,
         })
     }
 
@@ -392,7 +397,16 @@ impl Session {
         let system = founded.system();
         system.known();
         let room = room_for(founded, part, self.room);
-        let drawn = draw_count(system, node, room, oracle, tape, shelf, steps);
+        let drawn = draw_count_kept(
+            system,
+            node,
+            room,
+            &mut self.kept,
+            oracle,
+            tape,
+            shelf,
+            steps,
+        );
         put_counted(
             &mut self.pending,
             &mut self.shape,

@@ -20,8 +20,9 @@ use choice_draw::whole::draw_whole;
 use class_system::expr::Expr;
 use class_system::ids::{ClassId, ExprId};
 use class_system::system::System;
-use count_draw::count::draw_count;
+use count_draw::count::{draw_count, draw_count_kept};
 use count_draw::drawn::CountDrawn;
+use count_draw::kept::KeptTables;
 use newton_upper::propose;
 use oracle_memo::Memo;
 use std::alloc::AllocError;
@@ -45,7 +46,7 @@ struct Draws<'a> {
     bits: u64,
 }
 
-/// Compares draws one by one.
+/// Compares draws one by one: each by itself, and each by values that earlier ones kept.
 fn compare<R: AllocGlobal + Abort>(rt: &R, draws: &Draws) -> Result<(), AllocError>
     requires room { draws.now.room ≤ 1000000 }
 {
@@ -71,20 +72,39 @@ fn compare_draws<R: AllocGlobal + Abort, L: Ledger>(
         panic!(rt; "no base");
     };
     let mut memo = Memo::<48>::make(rt.alloc(), &founded, x, base)?;
+    let system = founded.system();
+    compare_lines(rt, system, draws, &mut None, &mut memo, &mut steps)?;
+    let mut kept = Some(KeptTables::make(rt.alloc(), system)?);
+    compare_lines(rt, system, draws, &mut kept, &mut memo, &mut steps)
+}
+
+/// Compares draws of one tape, by kept values where there are some.
+fn compare_lines<R: AllocGlobal + Abort, O: Oracle<48>, L: Ledger>(
+    rt: &R,
+    system: &System,
+    draws: &Draws,
+    kept: &mut Option<KeptTables>,
+    oracle: &mut O,
+    steps: &mut Steps<L>,
+) -> Result<(), AllocError>
+    requires room { draws.now.room ≤ 1000000 }
+    requires spec { O.spec oracle.old ≡ system.now }
+    ensures spec { O.spec oracle.new ≡ O.spec oracle.old }
+{
     let mut shelf = MemoryShelf::new(rt.alloc(), 1);
     let mut tape = Tape::seeded(draws.seed);
-    let system = founded.system();
-    compare_lines(
-        rt, system, draws, &mut memo, &mut tape, &mut shelf, &mut steps,
+    compare_each(
+        rt, system, draws, kept, oracle, &mut tape, &mut shelf, steps,
     )?;
     assert_eq!(rt; tape.used(), draws.bits);
     Ok(())
 }
 
-fn compare_lines<R: AllocGlobal + Abort, O: Oracle<48>, S: Shelf, L: Ledger>(
+fn compare_each<R: AllocGlobal + Abort, O: Oracle<48>, S: Shelf, L: Ledger>(
     rt: &R,
     system: &System,
     draws: &Draws,
+    kept: &mut Option<KeptTables>,
     oracle: &mut O,
     tape: &mut Tape,
     shelf: &mut S,
@@ -93,9 +113,10 @@ fn compare_lines<R: AllocGlobal + Abort, O: Oracle<48>, S: Shelf, L: Ledger>(
     requires room { draws.now.room ≤ 1000000 }
     requires spec { O.spec oracle.old ≡ system.now }
     requires tape { Belongs (S.content shelf.old) tape.old }
+    ensures spec { O.spec oracle.new ≡ O.spec oracle.old }
 {
     'lines: for &line in draws.lines {
-        let got = draw_line(rt, system, draws.room, oracle, tape, shelf, steps)?;
+        let got = draw_line(rt, system, draws.room, kept, oracle, tape, shelf, steps)?;
         assert_eq!(rt; got.as_str(), line);
     }
     Ok(())
@@ -106,6 +127,7 @@ fn draw_line<R: AllocGlobal, O: Oracle<48>, S: Shelf, L: Ledger>(
     rt: &R,
     system: &System,
     room: u64,
+    kept: &mut Option<KeptTables>,
     oracle: &mut O,
     tape: &mut Tape,
     shelf: &mut S,
@@ -122,7 +144,7 @@ fn draw_line<R: AllocGlobal, O: Oracle<48>, S: Shelf, L: Ledger>(
         if draw > 0 {
             line.push_str(" ")?;
         }
-        let text = draw_at_root(rt, system, room, oracle, tape, shelf, steps)?;
+        let text = draw_at_root(rt, system, room, kept, oracle, tape, shelf, steps)?;
         line.push_str(&text)?;
     }
     Ok(line)
@@ -133,6 +155,7 @@ fn draw_at_root<R: AllocGlobal, O: Oracle<48>, S: Shelf, L: Ledger>(
     rt: &R,
     system: &System,
     room: u64,
+    kept: &mut Option<KeptTables>,
     oracle: &mut O,
     tape: &mut Tape,
     shelf: &mut S,
@@ -153,7 +176,12 @@ fn draw_at_root<R: AllocGlobal, O: Oracle<48>, S: Shelf, L: Ledger>(
         let drawn = draw_union::<48, O, S, L>(system, root, oracle, tape, shelf, steps);
         text_of_drawn(rt, drawn)
     } else if is_counted(system, root) {
-        let drawn = draw_count::<48, O, S, L>(system, root, room, oracle, tape, shelf, steps);
+        let drawn = match kept {
+            Some(kept) => draw_count_kept::<48, O, S, L>(
+                system, root, room, kept, oracle, tape, shelf, steps,
+            ),
+            None => draw_count::<48, O, S, L>(system, root, room, oracle, tape, shelf, steps),
+        };
         text_of_count(rt, drawn)
     } else {
         format!(in rt.alloc(); "no number")

@@ -9,24 +9,24 @@ use Rattle.count_draw.proofs.count.decide_count.Goals as goal
 
 pub returns-clause-ideal : goal.returns-clause-ideal
 returns-clause-ideal g c =
-    let counted = c.counted_at.result in
-    let at = c.counted_at.ensures in
-    let decided = decision-by c.args.system.now g.row.F c.args.node.0 counted.part.0 c.args.room (kind_of counted.kind) (spec_range counted.range) (g.O.Oracle.table c.args.oracle.now) (g.O.Oracle.table c.args.oracle.now) c.args.cell (chosen_if c.decide_by_table.result) (record { node = at.node; range = at.range; suits = at.suits }) refl c.decide_by_table.ensures.exact in
+    let counted = c.counted_at-counted.result in
+    let at = c.counted_at-counted.ensures in
+    let decided = decision-by c.args.system.now g.row.F c.args.node.0 counted.part.0 c.args.room (kind_of counted.kind) (spec_range counted.range) (g.O.Oracle.table c.args.oracle.now) (g.O.Oracle.table c.args.oracle.now) c.args.cell (chosen_if c.decide_by_rows.result) (record { node = at.node; range = at.range; suits = at.suits }) refl c.decide_by_rows.ensures.exact in
     choice-ideal c.args.system.now (g.O.Oracle.x c.args.oracle.now) g.row.F c.args.node.0 counted.part.0 (kind_of counted.kind) (spec_range counted.range) (g.O.Oracle.table c.args.oracle.now)
-    (record { node = at.node; range = at.range; suits = at.suits }) (rw c.requires.spec at c.known.ensures.sound) at.part c.args.room c.args.cell c.requires.cell c.decide_by_table.result decided
+    (record { node = at.node; range = at.range; suits = at.suits }) (rw c.requires.spec at c.known.ensures.sound) at.part c.args.room c.args.cell c.requires.cell c.decide_by_rows.result decided
 
 pub returns-clause-over : goal.returns-clause-over
 returns-clause-over g c =
-    let counted = c.counted_at.result in
-    let at = c.counted_at.ensures in
-    let decided = decision-by c.args.system.now g.row.F c.args.node.0 counted.part.0 c.args.room (kind_of counted.kind) (spec_range counted.range) (g.O.Oracle.table c.args.oracle.now) (g.O.Oracle.table c.args.oracle.now) c.args.cell (chosen_if c.decide_by_table.result) (record { node = at.node; range = at.range; suits = at.suits }) refl c.decide_by_table.ensures.exact in
+    let counted = c.counted_at-counted.result in
+    let at = c.counted_at-counted.ensures in
+    let decided = decision-by c.args.system.now g.row.F c.args.node.0 counted.part.0 c.args.room (kind_of counted.kind) (spec_range counted.range) (g.O.Oracle.table c.args.oracle.now) (g.O.Oracle.table c.args.oracle.now) c.args.cell (chosen_if c.decide_by_rows.result) (record { node = at.node; range = at.range; suits = at.suits }) refl c.decide_by_rows.ensures.exact in
     choice-over_none c.args.system.now (g.O.Oracle.x c.args.oracle.now) g.row.F c.args.node.0 counted.part.0 (kind_of counted.kind) (spec_range counted.range) (g.O.Oracle.table c.args.oracle.now)
-    (record { node = at.node; range = at.range; suits = at.suits }) (rw c.requires.spec at c.known.ensures.sound) at.part c.args.room c.args.cell c.requires.cell c.decide_by_table.result decided
+    (record { node = at.node; range = at.range; suits = at.suits }) (rw c.requires.spec at c.known.ensures.sound) at.part c.args.room c.args.cell c.requires.cell c.decide_by_rows.result decided
 
 pub returns-clause-in_range : goal.returns-clause-in_range
 returns-clause-in_range g c =
-    let counted = c.counted_at.result in
-    let at = c.counted_at.ensures in
-    let decided = decision-by c.args.system.now g.row.F c.args.node.0 counted.part.0 c.args.room (kind_of counted.kind) (spec_range counted.range) (g.O.Oracle.table c.args.oracle.now) (g.O.Oracle.table c.args.oracle.now) c.args.cell (chosen_if c.decide_by_table.result) (record { node = at.node; range = at.range; suits = at.suits }) refl c.decide_by_table.ensures.exact in
+    let counted = c.counted_at-counted.result in
+    let at = c.counted_at-counted.ensures in
+    let decided = decision-by c.args.system.now g.row.F c.args.node.0 counted.part.0 c.args.room (kind_of counted.kind) (spec_range counted.range) (g.O.Oracle.table c.args.oracle.now) (g.O.Oracle.table c.args.oracle.now) c.args.cell (chosen_if c.decide_by_rows.result) (record { node = at.node; range = at.range; suits = at.suits }) refl c.decide_by_rows.ensures.exact in
     choice-ranged c.args.system.now (g.O.Oracle.x c.args.oracle.now) g.row.F c.args.node.0 counted.part.0 (kind_of counted.kind) (spec_range counted.range) (g.O.Oracle.table c.args.oracle.now)
-    (record { node = at.node; range = at.range; suits = at.suits }) (rw c.requires.spec at c.known.ensures.sound) at.part c.args.room c.args.cell c.requires.cell c.decide_by_table.result decided
+    (record { node = at.node; range = at.range; suits = at.suits }) (rw c.requires.spec at c.known.ensures.sound) at.part c.args.room c.args.cell c.requires.cell c.decide_by_rows.result decided

@@ -1,5 +1,5 @@
 use Rattle.std.proofs.Common.{◌≡◌, ◌<◌, ◌≤◌, ◌-◌, ℕ, false}
-use Rattle.count_draw.specs.Table.{passes_at}
+use Rattle.count_draw.specs.Table.{reaches_at}
 use Rattle.count_draw.proofs.sums.CountSums.bracket.Given as goal
 
 -- all options before the first of the step fail
@@ -8,7 +8,7 @@ invariant-steps g l = record {
   low : l.self.low ≤ l.from;
   order : l.from ≤ l.to;
   room : l.to ≤ l.self.room;
-  before : (j : ℕ) → l.self.low ≤ j → j < l.from → passes_at g.row.F l.self l.cell j ≡ false;
+  before : (j : ℕ) → l.self.low ≤ j → j < l.from → reaches_at g.row.F l.self l.v j ≡ false;
 }
 
 abbrev pub decreases-steps : goal.decreases-steps

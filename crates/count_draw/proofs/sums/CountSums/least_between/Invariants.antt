@@ -4,7 +4,7 @@ use Rattle.count_draw.proofs.sums.CountSums.least_between.Given as goal
 
 -- the least option lies between the two
 abbrev pub invariant-halves : goal.invariant-halves
-invariant-halves g l = IsBracket g.row.F l.self l.cell l.from l.to
+invariant-halves g l = IsBracket g.row.F l.self l.v l.from l.to
 
 abbrev pub decreases-halves : goal.decreases-halves
 decreases-halves g l = l.to - l.from

@@ -1,14 +1,14 @@
 use Rattle.std.proofs.Common.{◌≤◌, ◌-◌}
 use Rattle.fixed_enclosure.specs.Rounded.{Side}
-use Rattle.count_draw.specs.Table.{IsRun, NonePasses}
+use Rattle.count_draw.specs.Table.{IsRun, NoneReaches}
 use Rattle.count_draw.proofs.sums.CountSums.least_from.Given as goal
 
--- the run stands at a place before which no option passes
+-- the run stands at a place before which no option reaches the value
 abbrev pub invariant-terms : goal.invariant-terms
 invariant-terms g l = record {
   run : IsRun Side.Down g.row.F l.self l.run.place l.run.power l.run.sum;
   room : l.run.place ≤ l.self.room;
-  before : NonePasses g.row.F l.self l.cell l.run.place;
+  before : NoneReaches g.row.F l.self l.v l.run.place;
 }
 
 abbrev pub decreases-terms : goal.decreases-terms

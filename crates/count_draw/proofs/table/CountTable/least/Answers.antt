@@ -1,20 +1,24 @@
--- Where the last option that is kept fails, so do all before it, and the run goes on from it.
-use Rattle.std.proofs.Common.{◌≡◌, ◌≤◌, false, arith, sym, ◌∙◌, subst}
-use Rattle.std.proofs.Common.{None}
-use Rattle.count_draw.specs.Table.{Filling, passes_at, least_at}
-use Rattle.count_draw.proofs.PartialValues.{fails-earlier, least-none}
+-- The least that passes is the least that reaches the value at the cell's end.
+use Rattle.std.proofs.Common.{◌≡◌, arith, ap, sym, ◌∙◌}
+use Rattle.bz_model.specs.declared.cell.Bounds.{Bounds}
+use Rattle.count_draw.specs.Table.{Filling, end_value, least_at, least_reaching}
+use Rattle.count_draw.proofs.PartialValues.{least-by_value, least-none_upto}
 use Rattle.count_draw.proofs.table.CountTable.least.Goals as goal
 
-pub returns-then-to-self-clause-exact : goal.returns-then-to-self-clause-exact
-returns-then-to-self-clause-exact g c =
-    let failing : passes_at g.row.F c.self.inside.sums c.args.cell c.min-to.result ≡ false = sym c.passes.ensures.exact ∙ c.if-passes.false in
-    let last : c.min-to.result ≡ c.self.inside.sums.room = omega (arith, c.min-to.ensures, c.room.ensures.asked, c.if-to-self.true) in
-    sym (subst (λ (t : Filling). least_at g.row.F t c.args.cell ≡ None) c.self.view_is (least-none g.row.F c.self.inside.sums c.args.cell (subst (λ i. passes_at g.row.F c.self.inside.sums c.args.cell i ≡ false) last failing)))
+pub returns-in-Some-clause-exact : goal.returns-in-Some-clause-exact
+returns-in-Some-clause-exact g c =
+    let end : c.end_of-end.result ≡ end_value c.args.cell c.self.inside.sums.whole.hi = c.end_of-end.ensures.exact ∙ ap (λ (w : Bounds). end_value c.args.cell w.hi) c.whole.ensures in
+    let by_value : least_reaching g.row.F c.self.inside.sums c.end_of-end.result ≡ least_at g.row.F c.args.self.now c.args.cell = ap (λ v. least_reaching g.row.F c.self.inside.sums v) end ∙ least-by_value g.row.F c.self.inside.sums c.args.cell ∙ ap (λ (t : Filling). least_at g.row.F t c.args.cell) c.self.view_is in
+    sym c.in-Some.ensures.found ∙ by_value
 
-pub least_from-requires : goal.least_from-requires
-least_from-requires g c =
-    let kept = c.self.invariant c.if-not-self.false in
-    let failing : passes_at g.row.F c.self.inside.sums c.args.cell c.min-to.result ≡ false = sym c.passes.ensures.exact ∙ c.if-passes.false in
-    let last : c.self.inside.last.place ≤ c.min-to.result = c.if-to-self.false in
-    let room : c.self.inside.last.place ≤ c.self.inside.sums.room = omega (arith, c.min-to.ensures, c.room.ensures.asked) in
-    (omega arith, (c.requires.fraction, (c.requires.cell, (kept.small, (kept.run, (room, record { before = λ j from less. fails-earlier g.row.F c.self.inside.sums c.args.cell j c.min-to.result (omega arith) failing }))))))
+pub returns-then-room-self-clause-exact : goal.returns-then-room-self-clause-exact
+returns-then-room-self-clause-exact g c =
+    let end : c.end_of-end.result ≡ end_value c.args.cell c.self.inside.sums.whole.hi = c.end_of-end.ensures.exact ∙ ap (λ (w : Bounds). end_value c.args.cell w.hi) c.whole.ensures in
+    let by_value : least_reaching g.row.F c.self.inside.sums c.end_of-end.result ≡ least_at g.row.F c.args.self.now c.args.cell = ap (λ v. least_reaching g.row.F c.self.inside.sums v) end ∙ least-by_value g.row.F c.self.inside.sums c.args.cell ∙ ap (λ (t : Filling). least_at g.row.F t c.args.cell) c.self.view_is in
+    sym (least-none_upto g.row.F c.self.inside.sums c.end_of-end.result (λ j from upto. c.in_default.ensures.none.upto j from (omega (arith, c.if-room-self.true, c.room.ensures.asked)) upto)) ∙ by_value
+
+pub returns-clause-exact : goal.returns-clause-exact
+returns-clause-exact g c =
+    let end : c.end_of-end.result ≡ end_value c.args.cell c.self.inside.sums.whole.hi = c.end_of-end.ensures.exact ∙ ap (λ (w : Bounds). end_value c.args.cell w.hi) c.whole.ensures in
+    let by_value : least_reaching g.row.F c.self.inside.sums c.end_of-end.result ≡ least_at g.row.F c.args.self.now c.args.cell = ap (λ v. least_reaching g.row.F c.self.inside.sums v) end ∙ least-by_value g.row.F c.self.inside.sums c.args.cell ∙ ap (λ (t : Filling). least_at g.row.F t c.args.cell) c.self.view_is in
+    c.least_from.ensures.exact ∙ by_value

@@ -16,20 +16,20 @@ room_for-room-requires-clause-in_range g c =
 pub returns-clause-draws : goal.returns-clause-draws
 returns-clause-draws g c =
     let now : SessionState = record { root = c.self.inside.root.0; whole = c.self.inside.whole; pending = c.put_counted.new.pending.items; tokens = c.put_counted.new.shape.items; cells = c.put_counted.new.cells.items; room = c.self.inside.room; stopped = c.stop_of-self-inside.result } in
-    let settled = count-settle c.args.node c.args.part.0 c.draw_count-drawn.result (the_view c.self.inside) c.args.self.now now c.answer_to_count-told.result c.reserve_drawn.new.pending.items c.reserve_drawn.new.shape.items c.reserve_drawn.new.cells.items c.self.view_is refl refl refl c.reserve_drawn.ensures.pending c.reserve_drawn.ensures.tokens c.reserve_drawn.ensures.cells c.put_counted.ensures.pending c.put_counted.ensures.tokens c.put_counted.ensures.cells c.stop_of-self-inside.ensures c.answer_to_count-told.ensures in
-    counted-draws c.args.node c.args.part.0 c.args.self.now now c.requires.first c.draw_count-drawn.result c.answer_to_count-told.result c.answer_to_count-told.ensures settled c.args.tape.now.used c.draw_count-drawn.new.tape.used c.draw_count-drawn.ensures.used c.draw_count-drawn.ensures.cell
+    let settled = count-settle c.args.node c.args.part.0 c.draw_count_kept-drawn.result (the_view c.self.inside) c.args.self.now now c.answer_to_count-told.result c.reserve_drawn.new.pending.items c.reserve_drawn.new.shape.items c.reserve_drawn.new.cells.items c.self.view_is refl refl refl c.reserve_drawn.ensures.pending c.reserve_drawn.ensures.tokens c.reserve_drawn.ensures.cells c.put_counted.ensures.pending c.put_counted.ensures.tokens c.put_counted.ensures.cells c.stop_of-self-inside.ensures c.answer_to_count-told.ensures in
+    counted-draws c.args.node c.args.part.0 c.args.self.now now c.requires.first c.draw_count_kept-drawn.result c.answer_to_count-told.result c.answer_to_count-told.ensures settled c.args.tape.now.used c.draw_count_kept-drawn.new.tape.used c.draw_count_kept-drawn.ensures.used c.draw_count_kept-drawn.ensures.cell
 
 pub returns-clause-exact : goal.returns-clause-exact
 returns-clause-exact g c =
     let now : SessionState = record { root = c.self.inside.root.0; whole = c.self.inside.whole; pending = c.put_counted.new.pending.items; tokens = c.put_counted.new.shape.items; cells = c.put_counted.new.cells.items; room = c.self.inside.room; stopped = c.stop_of-self-inside.result } in
-    let settled = count-settle c.args.node c.args.part.0 c.draw_count-drawn.result (the_view c.self.inside) c.args.self.now now c.answer_to_count-told.result c.reserve_drawn.new.pending.items c.reserve_drawn.new.shape.items c.reserve_drawn.new.cells.items c.self.view_is refl refl refl c.reserve_drawn.ensures.pending c.reserve_drawn.ensures.tokens c.reserve_drawn.ensures.cells c.put_counted.ensures.pending c.put_counted.ensures.tokens c.put_counted.ensures.cells c.stop_of-self-inside.ensures c.answer_to_count-told.ensures in
+    let settled = count-settle c.args.node c.args.part.0 c.draw_count_kept-drawn.result (the_view c.self.inside) c.args.self.now now c.answer_to_count-told.result c.reserve_drawn.new.pending.items c.reserve_drawn.new.shape.items c.reserve_drawn.new.cells.items c.self.view_is refl refl refl c.reserve_drawn.ensures.pending c.reserve_drawn.ensures.tokens c.reserve_drawn.ensures.cells c.put_counted.ensures.pending c.put_counted.ensures.tokens c.put_counted.ensures.cells c.stop_of-self-inside.ensures c.answer_to_count-told.ensures in
     let room_at : IsRoomFor c.args.founded.now c.args.part.0 c.args.self.now.room c.room_for-room.result = record { free = c.room_for-room.ensures.free; taking = λ none. c.room_for-room.ensures.taking none ∙ ap (λ (st : SessionState). st.room) c.self.view_is } in
-    if-some _ _ _ (counted-exact c.args.node c.args.part.0 c.args.self.now now c.requires.first c.draw_count-drawn.result c.answer_to_count-told.result c.answer_to_count-told.ensures settled c.args.founded.now c.requires.counted c.room_for-room.result room_at g.row.F (g.O.Oracle.table c.args.oracle.now) c.args.tape.now.used c.draw_count-drawn.new.tape.used c.draw_count-drawn.ensures.used) (rw c.system-system.ensures.system at c.draw_count-drawn.ensures.exact)
+    if-some _ _ _ (counted-exact c.args.node c.args.part.0 c.args.self.now now c.requires.first c.draw_count_kept-drawn.result c.answer_to_count-told.result c.answer_to_count-told.ensures settled c.args.founded.now c.requires.counted c.room_for-room.result room_at g.row.F (g.O.Oracle.table c.args.oracle.now) c.args.tape.now.used c.draw_count_kept-drawn.new.tape.used c.draw_count_kept-drawn.ensures.used) (rw c.system-system.ensures.system at c.draw_count_kept-drawn.ensures.exact)
 
 pub returns-clause-session : goal.returns-clause-session
 returns-clause-session g c = λ b.
     let now : SessionState = record { root = c.self.inside.root.0; whole = c.self.inside.whole; pending = c.put_counted.new.pending.items; tokens = c.put_counted.new.shape.items; cells = c.put_counted.new.cells.items; room = c.self.inside.room; stopped = c.stop_of-self-inside.result } in
-    let settled = count-settle c.args.node c.args.part.0 c.draw_count-drawn.result (the_view c.self.inside) c.args.self.now now c.answer_to_count-told.result c.reserve_drawn.new.pending.items c.reserve_drawn.new.shape.items c.reserve_drawn.new.cells.items c.self.view_is refl refl refl c.reserve_drawn.ensures.pending c.reserve_drawn.ensures.tokens c.reserve_drawn.ensures.cells c.put_counted.ensures.pending c.put_counted.ensures.tokens c.put_counted.ensures.cells c.stop_of-self-inside.ensures c.answer_to_count-told.ensures in
+    let settled = count-settle c.args.node c.args.part.0 c.draw_count_kept-drawn.result (the_view c.self.inside) c.args.self.now now c.answer_to_count-told.result c.reserve_drawn.new.pending.items c.reserve_drawn.new.shape.items c.reserve_drawn.new.cells.items c.self.view_is refl refl refl c.reserve_drawn.ensures.pending c.reserve_drawn.ensures.tokens c.reserve_drawn.ensures.cells c.put_counted.ensures.pending c.put_counted.ensures.tokens c.put_counted.ensures.cells c.stop_of-self-inside.ensures c.answer_to_count-told.ensures in
     let room_at : IsRoomFor c.args.founded.now c.args.part.0 c.args.self.now.room c.room_for-room.result = record { free = c.room_for-room.ensures.free; taking = λ none. c.room_for-room.ensures.taking none ∙ ap (λ (st : SessionState). st.room) c.self.view_is } in
     let sound : IsSound c.args.founded.now = rw c.system-system.ensures.system at c.known-2.ensures.sound in
-    counted-session c.args.node c.args.part.0 c.args.self.now now c.requires.first c.draw_count-drawn.result c.answer_to_count-told.result c.answer_to_count-told.ensures settled c.args.founded.now c.requires.counted c.room_for-room.result room_at (g.O.Oracle.x c.args.oracle.now) sound c.known.ensures.well_founded (c.known.ensures.decided c.args.part.0) (rw c.system-system.ensures.system at c.draw_count-drawn.ensures.ideal) (rw c.system-system.ensures.system at c.draw_count-drawn.ensures.over) (rw c.system-system.ensures.system at c.draw_count-drawn.ensures.in_range) b
+    counted-session c.args.node c.args.part.0 c.args.self.now now c.requires.first c.draw_count_kept-drawn.result c.answer_to_count-told.result c.answer_to_count-told.ensures settled c.args.founded.now c.requires.counted c.room_for-room.result room_at (g.O.Oracle.x c.args.oracle.now) sound c.known.ensures.well_founded (c.known.ensures.decided c.args.part.0) (rw c.system-system.ensures.system at c.draw_count_kept-drawn.ensures.ideal) (rw c.system-system.ensures.system at c.draw_count_kept-drawn.ensures.over) (rw c.system-system.ensures.system at c.draw_count_kept-drawn.ensures.in_range) b
