@@ -25,3 +25,4 @@ mod MovingOn
 mod Resuming
 mod Answering
 mod Agreeing
+mod Arranging
