@@ -26,3 +26,6 @@ mod Resuming
 mod Answering
 mod Agreeing
 mod Arranging
+mod Shuffles
+mod Unarranged
+mod PrintedRead
