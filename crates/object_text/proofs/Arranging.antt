@@ -1,5 +1,5 @@
 -- An object in canonical order is of the same node and has the object's canonical text as its text as it stands.
-use Rattle.std.proofs.Common.{◌≡◌, ℕ, zero, suc, ◌+◌, ◌≤◌, List, [], ◌∷◌, ◌++◌, map, take, drop, arith, refl, sym, ◌∙◌, ap, subst, Option, Some, length, length-append, Bool, true, false}
+use Rattle.std.proofs.Common.{◌≡◌, ℕ, zero, suc, ◌+◌, ◌≤◌, List, [], ◌∷◌, ◌++◌, map, take, drop, arith, refl, sym, ◌∙◌, ap, subst, Option, Some, length-append, Bool, true, false}
 use Rattle.std.specs.Prelude.{slice_get, decimal, codes, nat_le, nat_eq, if◌then◌else◌}
 use Rattle.std.specs.List.{AllByRecursion}
 use Rattle.std.proofs.lemmas.List.{take-append-drop, map-append}
@@ -7,7 +7,7 @@ use Rattle.bz_model.specs.Spec.{Spec, Mode, Node, Range, node_at, range_at, node
 use Rattle.bz_model.specs.Object.{Object, Objects, none, more, count, Has, HaveEach, HaveAll, ClassHas, Belongs}
 use Rattle.bz_model.specs.Object.Object.{Unit_, Dot, Pick, Tuple, SeqOf, SetOf, CycOf}
 use Rattle.bz_model.specs.Measures.{size, sizes}
-use Rattle.bz_model.specs.ObjectText.{Arrangement, PartText, in_order, rotated_to, least_of, lesser_label, least_label, HasLabels, IsTextOf, text_by, texts_of_each, texts_of_all, class_text, text_within, object_text, spaced}
+use Rattle.bz_model.specs.ObjectText.{Arrangement, PartText, in_order, rotated_to, least_of, lesser_label, least_label, HasLabels, IsTextOf, text_by, texts_of_each, texts_of_all, class_text, object_text, spaced}
 use Rattle.bz_laws.specs.InOrder.{leasts, IsRising, BeginsWithLeast, StandsInOrder, AllStandInOrder}
 use Rattle.bz_laws.proofs.Nodes.{HasAt}
 use Rattle.bz_laws.proofs.Samples.{AllByRecursion-append}

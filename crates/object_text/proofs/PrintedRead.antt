@@ -1,14 +1,13 @@
 -- What was printed is read, in canonical order.
-use Rattle.std.proofs.Common.{◌≡◌, ℕ, List, [], refl, sym, ◌∙◌, ap, subst, Option}
-use Rattle.bz_model.specs.Spec.{Spec, body_of}
-use Rattle.bz_model.specs.Object.{Object, Belongs}
+use Rattle.std.proofs.Common.{◌≡◌, ℕ, List, refl, sym, ap, subst}
+use Rattle.bz_model.specs.Spec.{Spec}
 use Rattle.bz_model.specs.ObjectText.{HasLabels, AreLabelsOf, IsTextOf, object_text}
 use Rattle.bz_laws.proofs.Items.{Item}
 use Rattle.bz_laws.proofs.Canonical.{ordered-canonical}
 use Rattle.object_store.specs.declared.token.Token.{Token}
 use Rattle.object_store.specs.Tokens.{tokens_of, IsOf}
 use Rattle.object_text.specs.Reading.{told, IsRead}
-use Rattle.object_text.specs.Arranged.{LabelledObject, arranged}
+use Rattle.object_text.specs.Arranged.{arranged}
 use Rattle.object_text.proofs.Arranging.{form, form-same, is-arranged}
 use Rattle.object_text.proofs.Shuffles.{still-labels}
 

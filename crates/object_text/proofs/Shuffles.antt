@@ -1,14 +1,13 @@
 -- The labels of an object in canonical order are its labels in some order.
-use Rattle.std.proofs.Common.{◌≡◌, ◌≢◌, ℕ, zero, suc, ◌+◌, ◌≤◌, List, [], ◌∷◌, ◌++◌, map, take, drop, arith, refl, sym, ◌∙◌, ap, subst, length, append_assoc, append-nil, Bool, true, false}
+use Rattle.std.proofs.Common.{◌≡◌, ◌≢◌, ℕ, suc, ◌≤◌, List, [], ◌∷◌, ◌++◌, map, take, drop, refl, sym, ◌∙◌, ap, subst, length, append_assoc, append-nil, Bool, true, false}
 use Rattle.std.specs.Prelude.{nat_le, nat_eq, if◌then◌else◌}
 use Rattle.std.specs.List.{AllByRecursion}
 use Rattle.std.proofs.lemmas.List.{take-append-drop}
 use Rattle.bz_model.specs.Spec.{Mode}
 use Rattle.bz_model.specs.Object.{Object, Objects, none, more}
 use Rattle.bz_model.specs.Object.Object.{Unit_, Dot, Pick, Tuple, SeqOf, SetOf, CycOf}
-use Rattle.bz_model.specs.Measures.{size, sizes}
+use Rattle.bz_model.specs.Measures.{size}
 use Rattle.bz_model.specs.ObjectText.{HasLabels, AreLabelsOf, least_label}
-use Rattle.bz_model.specs.Labels.{AreOneTo}
 use Rattle.bz_model.specs.Totals.{IsDistinct}
 use Rattle.bz_laws.proofs.Readings.{HasAllLabels, first-labels, other-labels, none-labels, part-labels, pick-labels}
 use Rattle.bz_laws.proofs.Items.{Item, key, labels_of, put_item, items_in_order, items_rotated}

@@ -1,5 +1,5 @@
 -- Without labels an object stands in canonical order as it is.
-use Rattle.std.proofs.Common.{◌≡◌, ℕ, zero, suc, List, [], ◌∷◌, ◌++◌, map, take, drop, refl, sym, ◌∙◌, ap, append-nil, Bool, true, false}
+use Rattle.std.proofs.Common.{◌≡◌, List, [], ◌∷◌, map, drop, refl, ◌∙◌, ap, append-nil}
 use Rattle.std.proofs.Math.Seq.{take-nil, drop-nil}
 use Rattle.bz_model.specs.Object.{Object, Objects, none, more}
 use Rattle.bz_model.specs.Object.Object.{Unit_, Dot, Pick, Tuple, SeqOf, SetOf, CycOf}

@@ -1,5 +1,4 @@
-use Rattle.std.proofs.Common.{◌≡◌, [], List, refl, sym, ◌∙◌, ap, subst, Option, None}
-use Rattle.bz_model.specs.Spec.{Mode}
+use Rattle.std.proofs.Common.{[], refl, sym, ◌∙◌, ap, subst, None}
 use Rattle.bz_model.specs.ObjectText.{HasLabels, AreLabelsOf}
 use Rattle.object_store.specs.Tokens.{tokens_of}
 use Rattle.object_text.specs.Arranged.{LabelledObject, arranged}
