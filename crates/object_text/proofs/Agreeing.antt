@@ -1,9 +1,8 @@
 -- A text has one answer, and what was read of it is printed as it.
-use Rattle.std.proofs.Common.{◌≡◌, ◌≢◌, ℕ, zero, suc, ◌+◌, ◌<◌, ◌≤◌, ◌⊎◌, inl, inr, List, [], ◌∷◌, ◌++◌, length, take, drop, arith, refl, sym, ◌∙◌, ap, subst, append_assoc, Option, Some, None}
-use Rattle.std.proofs.lemmas.List.{take-append-drop, drop-take}
+use Rattle.std.proofs.Common.{◌≡◌, ◌≢◌, ℕ, zero, suc, ◌+◌, ◌<◌, ◌≤◌, ◌⊎◌, inl, inr, List, [], ◌∷◌, ◌++◌, length, take, drop, arith, refl, sym, ◌∙◌, ap, subst, append_assoc, Option, Some}
+use Rattle.std.proofs.lemmas.List.{take-append-drop}
 use Rattle.bz_model.specs.Spec.{Spec, Mode, body_of}
 use Rattle.bz_model.specs.Object.{Object, Belongs}
-use Rattle.bz_model.specs.Measures.{size}
 use Rattle.bz_model.specs.ObjectText.{Arrangement, IsTextOf, IsCanonicalText, HasLabels, object_text}
 use Rattle.bz_laws.proofs.Readings.{one_reading}
 use Rattle.bz_laws.proofs.Texts.{one_text}
@@ -16,7 +15,7 @@ use Rattle.object_store.proofs.Sizes.{size_of-tokens}
 use Rattle.object_text.specs.declared.fault.TextFault.{TextFault}
 use Rattle.object_text.specs.declared.fault.TextFault.TheVariants as fault
 use Rattle.object_text.specs.Labels.{HasOneForEach}
-use Rattle.object_text.specs.Reading.{IsForm, Begins, IsWrongAt, IsNotCanonical, told, IsRead, TellsFaultAt, TellsFault}
+use Rattle.object_text.specs.Reading.{IsForm, Begins, IsWrongAt, told, IsRead, TellsFaultAt, TellsFault}
 use Rattle.object_text.specs.BothWays.{listed, IsReprinted}
 use Rattle.object_text.proofs.FirstBytes.{is-plain}
 

@@ -1,11 +1,10 @@
 -- What a text that was read answers: its object where it is canonical, else that it isn't, or the first byte that can't stand.
-use Rattle.std.proofs.Common.{◌≡◌, ◌≢◌, ℕ, zero, suc, ◌+◌, ◌-◌, ◌<◌, ◌≤◌, List, [], ◌∷◌, ◌++◌, length, take, arith, refl, sym, ◌∙◌, ap, subst, append-nil, append_assoc, Bool, true, Option, Some, None, length-append}
+use Rattle.std.proofs.Common.{◌≡◌, ℕ, zero, suc, ◌+◌, ◌-◌, ◌<◌, ◌≤◌, List, [], ◌∷◌, ◌++◌, length, take, arith, refl, sym, ◌∙◌, ap, subst, append-nil, append_assoc, true, Option, Some, length-append}
 use Rattle.std.proofs.Math.Seq.{take-append_seam}
 use Rattle.bz_model.specs.Spec.{Spec, Mode, body_of}
-use Rattle.bz_model.specs.Object.{Object, Belongs}
-use Rattle.bz_model.specs.Measures.{size}
+use Rattle.bz_model.specs.Object.{Object}
 use Rattle.bz_model.specs.Labels.{AreOneTo}
-use Rattle.bz_model.specs.ObjectText.{IsTextOf, IsCanonicalText, HasLabels, AreLabelsOf, object_text}
+use Rattle.bz_model.specs.ObjectText.{IsTextOf, IsCanonicalText, HasLabels, AreLabelsOf}
 use Rattle.bz_laws.proofs.Canonical.{canonical-ordered, ordered-canonical}
 use Rattle.class_system.specs.Sound.{IsSound}
 use Rattle.class_system.specs.Limits.{IsWithinLimits}
@@ -14,7 +13,7 @@ use Rattle.object_store.specs.declared.token.Token.{Token}
 use Rattle.object_store.specs.Tokens.{tokens_of}
 use Rattle.object_text.specs.Taken.{Taken, nothing, with_object, in_order}
 use Rattle.object_text.specs.Scanning.{Accepts, CantGoOn, Faults, StopsAt}
-use Rattle.object_text.specs.Expected.{ReadsObject, Reads, Comes}
+use Rattle.object_text.specs.Expected.{Comes}
 use Rattle.object_text.specs.declared.scan.Stop.{Stop}
 use Rattle.object_text.specs.declared.scan.Stop.TheVariants as stop
 use Rattle.object_text.specs.declared.fault.TextFault.{TextFault}

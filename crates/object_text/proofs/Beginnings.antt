@@ -1,13 +1,12 @@
 -- What can be read where an object of a node comes, by the kind of the node.
-use Rattle.std.proofs.Common.{◌≡◌, ℕ, zero, suc, ◌+◌, ◌-◌, ◌<◌, ◌≤◌, List, [], ◌∷◌, ◌++◌, map, length, take, drop, arith, refl, sym, ◌∙◌, ap, subst, append_assoc, append-nil, Option, Some, None, replicate, decimal, codes}
+use Rattle.std.proofs.Common.{◌≡◌, ℕ, zero, suc, ◌-◌, ◌≤◌, List, [], ◌∷◌, ◌++◌, length, arith, refl, sym, ◌∙◌, ap, subst, append_assoc, append-nil, Option, Some, replicate, decimal, codes}
 use Rattle.std.specs.Prelude.{slice_get}
 use Rattle.std.specs.List.{AllByRecursion, join_with_byte}
 use Rattle.std.proofs.lemmas.Option.{slice_get_within}
 use Rattle.bz_model.specs.Spec.{Spec, Mode, Node, Range, node_at, range_at, body_of, IsInRange}
-use Rattle.bz_model.specs.Object.{Object, Objects, none, more, count, Has, ClassHas}
+use Rattle.bz_model.specs.Object.{Object, Objects, none, more, count}
 use Rattle.bz_model.specs.Object.Object.{Unit_, Dot, Pick, Tuple}
-use Rattle.bz_model.specs.Measures.{size}
-use Rattle.bz_model.specs.ObjectText.{HasLabels, IsTextOf, leaf_text, label_text}
+use Rattle.bz_model.specs.ObjectText.{HasLabels, leaf_text, label_text}
 use Rattle.bz_laws.proofs.Readings.{neutral-labels}
 use Rattle.object_store.specs.declared.token.Token.TheVariants as token
 use Rattle.object_text.specs.declared.taken.Kind.{Kind}

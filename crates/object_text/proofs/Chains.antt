@@ -1,12 +1,11 @@
 -- Objects one after the other, each behind a space.
-use Rattle.std.proofs.Common.{◌≡◌, ℕ, zero, suc, ◌+◌, List, [], ◌∷◌, ◌++◌, take, drop, refl, sym, ◌∙◌, ap, subst, append_assoc, replicate}
+use Rattle.std.proofs.Common.{◌≡◌, ℕ, zero, suc, List, [], ◌∷◌, ◌++◌, take, drop, refl, sym, ◌∙◌, ap, subst, append_assoc, replicate}
 use Rattle.bz_model.specs.Spec.{Spec}
-use Rattle.bz_model.specs.Object.{Object, Objects, none, more, count}
+use Rattle.bz_model.specs.Object.{Objects, none, more, count}
 use Rattle.bz_model.specs.Measures.{size}
 use Rattle.bz_model.specs.ObjectText.{IsTextOf}
 use Rattle.object_text.specs.Taken.{Taken, with_object}
-use Rattle.object_text.specs.Scanning.{Word}
-use Rattle.object_text.specs.Expected.{ReadsObject, ReadsEach}
+use Rattle.object_text.specs.Expected.{ReadsEach}
 use Rattle.object_text.proofs.ObjectTexts.{AreTexts, spaces, texts-labels, parts-apart}
 use Rattle.object_text.proofs.TakenParts.{through}
 

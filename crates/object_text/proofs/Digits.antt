@@ -1,12 +1,12 @@
 -- Digits of numbers at the front of a text: two numbers with the same digits are one, where no digit follows.
-use Rattle.std.proofs.Common.{◌≡◌, ◌≢◌, ℕ, zero, suc, ◌+◌, ◌-◌, ◌*◌, ◌/◌, ◌%◌, ◌^◌, ◌<◌, ◌≤◌, List, [], ◌∷◌, ◌++◌, length, take, drop, get_or, arith, refl, sym, ◌∙◌, ap, subst, decimal}
+use Rattle.std.proofs.Common.{◌≡◌, ℕ, zero, suc, ◌+◌, ◌-◌, ◌*◌, ◌/◌, ◌%◌, ◌^◌, ◌<◌, ◌≤◌, List, [], ◌∷◌, ◌++◌, length, take, drop, get_or, arith, refl, sym, ◌∙◌, ap, subst, decimal}
 use Rattle.std.specs.Str.Parse.{AllDigits, digits_value}
 use Rattle.std.proofs.lemmas.Fmt.{decimal_is_IsNumeral, decimal_injective, decimal_digit, decimal_step, first_decimal}
 use Rattle.std.proofs.lemmas.Str.Parse.{tells_digits, digits_value-take-le}
 use Rattle.std.proofs.lemmas.Str.{digit_value_digit}
 use Rattle.std.proofs.lemmas.Int.Digits.{digits_value_push}
 use Rattle.std.specs.Char.{digit_value}
-use Rattle.object_text.specs.Scanning.{BeginsWithByte, IsDigit, EndsNumber, FurtherDigit, BeginsWithNumber, HasNoNumber, BeginsLike}
+use Rattle.object_text.specs.Scanning.{BeginsWithByte, IsDigit, EndsNumber, FurtherDigit, HasNoNumber, BeginsLike}
 
 -- The first byte is no digit.
 abbrev pub HasNoDigit : List ℕ → Type 0

@@ -1,7 +1,7 @@
 -- The text of an object begins with a byte that is no space and ends no list.
-use Rattle.std.proofs.Common.{◌≡◌, ◌≢◌, ℕ, zero, suc, ◌+◌, ◌-◌, ◌<◌, ◌≤◌, ◌⊎◌, inl, inr, List, [], ◌∷◌, ◌++◌, length, arith, refl, sym, ◌∙◌, ap, subst, Option, Some, None, Bool, true, false, ◌&&◌, ◌||◌, append_assoc, decimal}
+use Rattle.std.proofs.Common.{◌≡◌, ◌≢◌, ℕ, zero, suc, ◌<◌, ◌≤◌, ◌⊎◌, inl, inr, List, [], ◌∷◌, ◌++◌, arith, refl, sym, ◌∙◌, ap, Option, Some, None, Bool, true, false, ◌&&◌, ◌||◌, append_assoc, decimal}
 use Rattle.std.specs.Prelude.{slice_get, nat_eq}
-use Rattle.std.specs.List.{AllByRecursion, AllPass}
+use Rattle.std.specs.List.{AllByRecursion}
 use Rattle.std.specs.Char.{is_ascii_alphanumeric}
 use Rattle.std.specs.Int.{is_in_range}
 use Rattle.std.proofs.lemmas.List.Elements.{recursion_from_All}
@@ -10,12 +10,12 @@ use Rattle.std.proofs.lemmas.Bool.Decides.{leb_tells, eqb_tells}
 use Rattle.bz_model.specs.Spec.{Spec, Node, Range, node_at, range_at, node_of, range_of, body_of}
 use Rattle.bz_model.specs.Object.{Object, Has, ClassHas}
 use Rattle.bz_model.specs.Object.Object.{Unit_, Dot, Pick, Tuple, SeqOf, SetOf, CycOf}
-use Rattle.bz_model.specs.ObjectText.{Arrangement, IsTextOf, leaf_text, label_text, text_by, class_text}
+use Rattle.bz_model.specs.ObjectText.{IsTextOf, leaf_text, label_text, text_by, class_text}
 use Rattle.bz_laws.specs.Spelled.{IsWordByte, IsPlainNode, IsPlain}
 use Rattle.class_system.specs.Sound.{IsSound}
 use Rattle.class_system.specs.Limits.{IsWithinLimits}
 use Rattle.class_system.specs.Words.{is_run_byte, IsLeafWord}
-use Rattle.object_text.proofs.Digits.{HasDigit, has-digit}
+use Rattle.object_text.proofs.Digits.{has-digit}
 use Rattle.object_text.proofs.ObjectTexts.{standing}
 
 or-cases : (a b : Bool) → (a || b) ≡ true → (a ≡ true) ⊎ (b ≡ true)

@@ -1,5 +1,5 @@
 -- The test whether an object stands in order tells just that.
-use Rattle.std.proofs.Common.{◌≡◌, ℕ, zero, suc, ◌+◌, ◌<◌, ◌≤◌, ◌⊎◌, inl, inr, min, List, [], ◌∷◌, take, drop, arith, refl, sym, ◌∙◌, ap, subst, Bool, true, false, ◌&&◌, Option, Some, None}
+use Rattle.std.proofs.Common.{◌≡◌, ℕ, zero, suc, ◌<◌, ◌≤◌, ◌⊎◌, inl, inr, min, List, [], ◌∷◌, take, drop, arith, refl, sym, ◌∙◌, ap, Bool, true, false, ◌&&◌, Option, Some, None}
 use Rattle.std.specs.Prelude.{nat_le, nat_eq}
 use Rattle.std.proofs.lemmas.Bool.Decides.{leb_tells, eqb_tells}
 use Rattle.bz_model.specs.Object.{Object, Objects, none, more}

@@ -25,3 +25,7 @@ mod MovingOn
 mod Resuming
 mod Answering
 mod Agreeing
+mod Arranging
+mod Shuffles
+mod Unarranged
+mod PrintedRead

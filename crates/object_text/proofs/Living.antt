@@ -1,11 +1,11 @@
 -- What is expected can be read of some text: each node has an object, and a list may get as many parts as it must have.
-use Rattle.std.proofs.Common.{◌≡◌, ℕ, zero, suc, ◌+◌, ◌-◌, ◌<◌, ◌≤◌, List, [], ◌∷◌, ◌++◌, map, length, arith, refl, sym, ◌∙◌, ap, subst, Option, Some, None, replicate}
+use Rattle.std.proofs.Common.{◌≡◌, ℕ, zero, suc, ◌+◌, ◌-◌, ◌<◌, ◌≤◌, List, [], ◌∷◌, ◌++◌, length, arith, refl, sym, ap, subst, Option, Some, None, replicate}
 use Rattle.std.specs.List.{AllByRecursion}
-use Rattle.bz_model.specs.Spec.{Spec, Mode, Range, IsInRange, IsWithinHigh}
+use Rattle.bz_model.specs.Spec.{Spec, Mode, IsWithinHigh}
 use Rattle.bz_model.specs.Object.{Object}
 use Rattle.bz_model.specs.Measures.{size}
 use Rattle.bz_model.specs.ObjectText.{HasLabels, text_within}
-use Rattle.class_system.specs.Views.{spec_range, number}
+use Rattle.class_system.specs.Views.{spec_range}
 use Rattle.class_system.specs.declared.ids.ExprId.{ExprId}
 use Rattle.object_store.specs.Walk.{AllBelow}
 use Rattle.object_store.proofs.InRange.{replicate-below}
@@ -16,7 +16,7 @@ use Rattle.object_text.specs.declared.expected.Expected.TheVariants.{Close, Part
 use Rattle.object_text.specs.declared.expected.Counted.{Counted}
 use Rattle.object_text.specs.Taken.{Taken, with_object, parted, closed}
 use Rattle.object_text.specs.Scanning.{Word, Accepts, IsDigit}
-use Rattle.object_text.specs.Expected.{closer, ReadsObject, ReadsEach, ReadsList, Reads, Comes, IsOpen, AllCanCome, CanCome, IsNodeIf, HasObjects}
+use Rattle.object_text.specs.Expected.{closer, ReadsObject, ReadsEach, ReadsList, Reads, Comes, AllCanCome, CanCome, IsNodeIf, HasObjects}
 use Rattle.object_text.proofs.Digits.{HasNoDigit}
 use Rattle.object_text.proofs.ObjectTexts.{standing}
 

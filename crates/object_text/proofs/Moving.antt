@@ -1,36 +1,24 @@
 -- Each piece that is taken off the front of a text moves on, and where no piece is there the text has its fault.
-use Rattle.std.proofs.Common.{◌≡◌, ◌≢◌, ℕ, zero, suc, ◌+◌, ◌-◌, ◌<◌, ◌≤◌, ◌^◌, ◌⊎◌, inl, inr, List, [], ◌∷◌, ◌++◌, map, length, arith, refl, sym, ◌∙◌, ap, subst, Option, Some, None, replicate, codes, length-append, decimal}
-use Rattle.std.specs.Prelude.{slice_get}
-use Rattle.std.specs.List.{AllByRecursion}
-use Rattle.std.proofs.lemmas.List.{length-map, append_assoc}
+use Rattle.std.proofs.Common.{◌≡◌, ℕ, ◌<◌, ◌≤◌, List, [], ◌∷◌, ◌++◌, length, arith, refl, sym, ◌∙◌, ap, subst, Option, Some, codes, length-append, decimal}
 use Rattle.bz_model.specs.Spec as spec
 use Rattle.bz_model.specs.Spec.{Spec, Node, node_at, range_at, IsInRange, IsWithinHigh}
 use Rattle.bz_model.specs.ObjectText.{leaf_text}
 use Rattle.class_system.specs.Sound.{IsSound}
 use Rattle.class_system.specs.Limits.{IsWithinLimits}
-use Rattle.class_system.specs.Views.{number, spec_mode, spec_range}
+use Rattle.class_system.specs.Views.{spec_mode}
 use Rattle.class_system.specs.declared.draft.Mode.{Mode}
-use Rattle.class_system.specs.declared.draft.Mode.TheVariants.{Unlabelled, Labelled}
 use Rattle.class_system.specs.declared.ids.ExprId.{ExprId}
-use Rattle.class_system.specs.declared.ranges.Range.{Range}
 use Rattle.object_store.specs.declared.token.Token.TheVariants as token
-use Rattle.object_store.specs.Walk.{AllBelow}
-use Rattle.object_store.proofs.InRange.{union-parts, product-parts}
-use Rattle.object_text.specs.declared.taken.Kind.{Kind}
-use Rattle.object_text.specs.declared.taken.Kind.TheVariants.{Sequence, Set, Cycle}
 use Rattle.object_text.specs.declared.expected.Expected.{Expected}
-use Rattle.object_text.specs.declared.expected.Expected.TheVariants.{Close, Part, Further}
-use Rattle.object_text.specs.declared.expected.Counted.{Counted}
-use Rattle.object_text.specs.Taken.{Taken, with_token, with_label, with_object, opened, parted, closed}
-use Rattle.object_text.specs.Scanning.{Word, Number, IsOther, BeginsWithByte, DiffersFrom, BeginsWithNumber, HasNoNumber, IsLabel, HasNoLabel, BeginsLike, Steps, Accepts, CantGoOn, Faults}
-use Rattle.object_text.specs.Expected.{opener, closer, list_node, expected_parts, ReadsObject, ReadsEach, ReadsList, Reads, Comes, AllCanCome, IsNodeIf, HasObjects, Moves}
-use Rattle.object_text.specs.Pieces.{State, IsNeutral, IsLabelIf, IsAtom, IsNoAtom, IsOption, IsNoOption, IsProduct, IsNoByte, MayEnd, MayGoOn, IsList, IsFurther, IsNoFurther}
-use Rattle.object_text.proofs.Digits.{HasNoDigit, cons-same}
-use Rattle.object_text.proofs.Scans.{steps-then, steps-same, faults-through, faults-here, WordThen, word-steps, word-faults, byte-differs, NumberThen, number-steps, number-faults}
+use Rattle.object_text.specs.Taken.{Taken, with_token, with_label}
+use Rattle.object_text.specs.Scanning.{Word, Number, BeginsWithByte, DiffersFrom, IsLabel, HasNoLabel, BeginsLike, Steps, Faults}
+use Rattle.object_text.specs.Expected.{ReadsObject, Reads, Comes, AllCanCome, HasObjects, Moves}
+use Rattle.object_text.specs.Pieces.{State, IsNeutral, IsLabelIf, IsAtom, IsNoAtom}
+use Rattle.object_text.proofs.Digits.{cons-same}
+use Rattle.object_text.proofs.Scans.{steps-then, steps-same, faults-through, WordThen, word-steps, word-faults, byte-differs, number-steps, number-faults}
 use Rattle.object_text.proofs.TakenParts.{same}
-use Rattle.object_text.proofs.Beginnings.{neutral-reads, reads-neutral, atom-reads, reads-atom, labelled-reads, reads-labelled, PartReads, union-reads, reads-union, product-reads, reads-product, ListReads, list-reads, reads-list}
-use Rattle.object_text.proofs.Living.{Lives, lives-object, lives-stack, lives-list, reads-no-digit, can-come-later}
-use Rattle.object_text.proofs.FirstBytes.{starts}
+use Rattle.object_text.proofs.Beginnings.{neutral-reads, reads-neutral, atom-reads, reads-atom, labelled-reads, reads-labelled}
+use Rattle.object_text.proofs.Living.{Lives, lives-stack, reads-no-digit, can-come-later}
 
 -- Where what is next and what was read are given by equations.
 pub moves-by : (s : Spec) (Before : Taken → List ℕ → Type 0) (text rest : List ℕ) {n next : Option ExprId} {t taken : Taken} {k stack : List Expected} → next ≡ n → taken ≡ t → stack ≡ k → Moves s Before text n k t rest → Moves s Before text next stack taken rest

@@ -1,16 +1,13 @@
 -- What stands behind an object, and what a list's node tells.
-use Rattle.std.proofs.Common.{◌≡◌, ℕ, zero, suc, ◌+◌, ◌<◌, ◌≤◌, ◌^◌, List, [], ◌∷◌, ◌++◌, map, length, arith, refl, sym, ◌∙◌, ap, subst, Option, Some, None}
+use Rattle.std.proofs.Common.{◌≡◌, ℕ, ◌<◌, ◌≤◌, List, [], ◌∷◌, length, arith, refl, sym, ap, subst, Some, None}
 use Rattle.bz_model.specs.Spec.{Spec, Node, Range, node_at, range_at, IsWithinHigh}
-use Rattle.class_system.specs.Sound.{IsSound, HasTextRange, IsTextRange}
-use Rattle.class_system.specs.NodeOrder.{HasPart}
-use Rattle.class_system.specs.Views.{number, spec_range}
+use Rattle.class_system.specs.Sound.{IsSound, IsTextRange}
 use Rattle.class_system.specs.declared.ids.ExprId.{ExprId}
 use Rattle.object_store.proofs.InRange.{part-below}
 use Rattle.object_text.specs.declared.taken.Kind.{Kind}
 use Rattle.object_text.specs.declared.taken.Kind.TheVariants.{Sequence, Set, Cycle}
 use Rattle.object_text.specs.declared.expected.Expected.{Expected}
-use Rattle.object_text.specs.declared.expected.Expected.TheVariants.{Close, Part, Further}
-use Rattle.object_text.specs.declared.expected.Counted.{Counted}
+use Rattle.object_text.specs.declared.expected.Expected.TheVariants.{Close, Part}
 use Rattle.object_text.specs.Taken.{Taken}
 use Rattle.object_text.specs.Scanning.{IsOther, Faults}
 use Rattle.object_text.specs.Expected.{list_node, ReadsObject, Reads, Comes, AllCanCome, HasObjects, Moves}

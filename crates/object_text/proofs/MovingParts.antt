@@ -1,37 +1,27 @@
 -- The beginnings of picks, products and lists move on, and where none is there the text has its fault.
-use Rattle.std.proofs.Common.{◌≡◌, ◌≢◌, ℕ, zero, suc, ◌+◌, ◌-◌, ◌<◌, ◌≤◌, ◌^◌, ◌⊎◌, inl, inr, List, [], ◌∷◌, ◌++◌, map, length, arith, refl, sym, ◌∙◌, ap, subst, Option, Some, None, replicate, codes, length-append, decimal}
+use Rattle.std.proofs.Common.{◌≡◌, ℕ, zero, suc, ◌-◌, ◌<◌, ◌≤◌, List, [], ◌∷◌, ◌++◌, map, length, arith, refl, sym, ap, subst, Option, Some, None, length-append, decimal}
 use Rattle.std.specs.Prelude.{slice_get}
-use Rattle.std.specs.List.{AllByRecursion}
-use Rattle.std.proofs.lemmas.List.{length-map, append_assoc}
-use Rattle.bz_model.specs.Spec as spec
-use Rattle.bz_model.specs.Spec.{Spec, Node, node_at, range_at, IsInRange, IsWithinHigh}
-use Rattle.bz_model.specs.ObjectText.{leaf_text}
+use Rattle.std.proofs.lemmas.List.{length-map}
+use Rattle.bz_model.specs.Spec.{Spec, Node, node_at}
 use Rattle.class_system.specs.Sound.{IsSound}
 use Rattle.class_system.specs.Limits.{IsWithinLimits}
-use Rattle.class_system.specs.Views.{number, spec_mode, spec_range}
-use Rattle.class_system.specs.declared.draft.Mode.{Mode}
-use Rattle.class_system.specs.declared.draft.Mode.TheVariants.{Unlabelled, Labelled}
+use Rattle.class_system.specs.Views.{number}
 use Rattle.class_system.specs.declared.ids.ExprId.{ExprId}
-use Rattle.class_system.specs.declared.ranges.Range.{Range}
 use Rattle.object_store.specs.declared.token.Token.TheVariants as token
 use Rattle.object_store.specs.Walk.{AllBelow}
 use Rattle.object_store.proofs.InRange.{union-parts, product-parts}
-use Rattle.object_text.specs.declared.taken.Kind.{Kind}
-use Rattle.object_text.specs.declared.taken.Kind.TheVariants.{Sequence, Set, Cycle}
 use Rattle.object_text.specs.declared.expected.Expected.{Expected}
-use Rattle.object_text.specs.declared.expected.Expected.TheVariants.{Close, Part, Further}
-use Rattle.object_text.specs.declared.expected.Counted.{Counted}
-use Rattle.object_text.specs.Taken.{Taken, with_token, with_label, with_object, opened, parted, closed}
-use Rattle.object_text.specs.Scanning.{Word, Number, IsOther, BeginsWithByte, DiffersFrom, BeginsWithNumber, HasNoNumber, IsLabel, HasNoLabel, BeginsLike, Steps, Accepts, CantGoOn, Faults}
-use Rattle.object_text.specs.Expected.{opener, closer, list_node, expected_parts, ReadsObject, ReadsEach, ReadsList, Reads, Comes, AllCanCome, IsNodeIf, HasObjects, Moves}
-use Rattle.object_text.specs.Pieces.{State, IsNeutral, IsLabelIf, IsAtom, IsNoAtom, IsOption, IsNoOption, IsProduct, IsNoByte, MayEnd, MayGoOn, IsList, IsFurther, IsNoFurther}
-use Rattle.object_text.proofs.Digits.{HasNoDigit, cons-same}
-use Rattle.object_text.proofs.Scans.{steps-then, steps-same, faults-through, faults-here, WordThen, word-steps, word-faults, byte-differs, NumberThen, number-steps, number-faults}
+use Rattle.object_text.specs.declared.expected.Expected.TheVariants.{Close}
+use Rattle.object_text.specs.Taken.{Taken, with_token, with_object}
+use Rattle.object_text.specs.Scanning.{Word, Number, BeginsWithNumber, HasNoNumber, Steps, Faults}
+use Rattle.object_text.specs.Expected.{expected_parts, ReadsObject, ReadsEach, Reads, Comes, AllCanCome, HasObjects, Moves}
+use Rattle.object_text.specs.Pieces.{State, IsOption, IsNoOption, IsNoByte}
+use Rattle.object_text.proofs.Digits.{HasNoDigit}
+use Rattle.object_text.proofs.Scans.{steps-then, steps-same, faults-through, WordThen, word-steps, word-faults, byte-differs, number-steps, number-faults}
 use Rattle.object_text.proofs.TakenParts.{same}
-use Rattle.object_text.proofs.Beginnings.{neutral-reads, reads-neutral, atom-reads, reads-atom, labelled-reads, reads-labelled, PartReads, union-reads, reads-union, product-reads, reads-product, ListReads, list-reads, reads-list}
-use Rattle.object_text.proofs.Living.{Lives, lives-object, lives-stack, lives-list, reads-no-digit, can-come-later}
-use Rattle.object_text.proofs.FirstBytes.{starts}
-use Rattle.object_text.proofs.Moving.{moves-by, steps-by, faults-by, shorter, byte-first, byte-there, like-byte}
+use Rattle.object_text.proofs.Beginnings.{PartReads, union-reads, reads-union, product-reads, reads-product}
+use Rattle.object_text.proofs.Living.{Lives, lives-object, lives-stack, can-come-later}
+use Rattle.object_text.proofs.Moving.{moves-by, steps-by, faults-by, shorter}
 
 mapped-get : (es : List ExprId) (i : ℕ) (p : ExprId) → slice_get es i ≡ Some p → slice_get (map number es) i ≡ Some p.0
 mapped-get [] zero p e = absurd (cc)

@@ -1,16 +1,16 @@
 -- The text of an object by the kind of its node: a leaf's word, or the texts of parts.
-use Rattle.std.proofs.Common.{◌≡◌, ℕ, zero, suc, ◌+◌, ◌≤◌, List, [], ◌∷◌, ◌++◌, map, take, drop, length, arith, refl, sym, ◌∙◌, ap, subst, append_assoc, append-nil, Option, Some, None, replicate, decimal, codes, length-append}
+use Rattle.std.proofs.Common.{◌≡◌, ℕ, zero, suc, ◌≤◌, List, [], ◌∷◌, ◌++◌, map, take, drop, length, arith, refl, sym, ◌∙◌, ap, subst, append_assoc, append-nil, Option, Some, None, replicate, decimal, length-append}
 use Rattle.std.specs.Prelude.{slice_get}
 use Rattle.std.specs.List.{AllByRecursion, join_with_byte}
 use Rattle.std.proofs.lemmas.List.{take-append-drop}
 use Rattle.std.proofs.Math.Seq.{take-append_seam, drop-append_seam}
 use Rattle.bz_model.specs.Spec.{Spec, Mode, Node, Range, node_at, range_at, node_of, range_of, body_of, IsInRange}
-use Rattle.bz_model.specs.Object.{Object, Objects, none, more, count, Has, HaveEach, HaveAll, ClassHas, Belongs}
-use Rattle.bz_model.specs.Object.Object.{Unit_, Dot, Pick, Tuple, SeqOf, SetOf, CycOf}
+use Rattle.bz_model.specs.Object.{Object, Objects, none, more, count, Has, HaveEach, HaveAll, ClassHas}
+use Rattle.bz_model.specs.Object.Object.{Pick, Tuple, SeqOf, SetOf, CycOf}
 use Rattle.bz_model.specs.Measures.{size, sizes}
-use Rattle.bz_model.specs.ObjectText.{Arrangement, PartText, HasLabels, IsTextOf, leaf_text, text_by, texts_of_each, texts_of_all, class_text, text_within, spaced, least_label}
+use Rattle.bz_model.specs.ObjectText.{Arrangement, PartText, HasLabels, IsTextOf, text_by, texts_of_each, texts_of_all, class_text, spaced, least_label}
 use Rattle.bz_laws.proofs.Nodes.{known, unknown, ClassBelongs, belongs-has, each-belongs}
-use Rattle.bz_laws.proofs.Readings.{HasAllLabels, first-labels, other-labels, none-labels, neutral-labels, part-labels, pick-labels}
+use Rattle.bz_laws.proofs.Readings.{HasAllLabels, first-labels, other-labels, none-labels, part-labels, pick-labels}
 use Rattle.bz_laws.proofs.Samples.{AllByRecursion-append}
 use Rattle.bz_laws.proofs.Texts.{one_text}
 use Rattle.object_text.specs.declared.taken.Kind.{Kind}

@@ -1,10 +1,10 @@
 -- Open lists as the code keeps them: what a patched token tells.
-use Rattle.std.proofs.Common.{◌≡◌, ℕ, ◌+◌, ◌<◌, List, [], ◌∷◌, ◌++◌, length, take, drop, reverse, get_or, arith, refl, sym, ◌∙◌, ap, subst, length-take, Bool}
+use Rattle.std.proofs.Common.{◌≡◌, ℕ, ◌+◌, ◌<◌, List, [], ◌∷◌, ◌++◌, length, take, drop, reverse, arith, refl, sym, ◌∙◌, ap, subst, Bool}
 use Rattle.std.proofs.Math.ListN.{set}
 use Rattle.std.proofs.lemmas.List.{take-append-drop, take-set, drop-set, take-append-le, drop-append-le, reverse-append}
 use Rattle.object_store.specs.declared.token.Token.{Token}
 use Rattle.object_text.specs.declared.taken.OpenList as code
-use Rattle.object_text.specs.Taken.{OpenList, Taken, closed}
+use Rattle.object_text.specs.Taken.{Taken, closed}
 use Rattle.object_store.specs.declared.token.Token.TheVariants as token
 use Rattle.object_text.specs.Slots.{inner_tokens, open_lists, AreSlots}
 

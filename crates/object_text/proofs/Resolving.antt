@@ -1,10 +1,9 @@
 -- The way through bodies of classes to a node that is no class.
-use Rattle.std.proofs.Common.{◌≡◌, ℕ, suc, ◌+◌, ◌<◌, ◌≤◌, List, [], ◌∷◌, ◌++◌, length, arith, refl, sym, ◌∙◌, subst, zero, Some}
+use Rattle.std.proofs.Common.{◌≡◌, ℕ, suc, ◌<◌, ◌≤◌, [], ◌∷◌, length, arith, refl, sym, ◌∙◌, subst, zero, Some}
 use Rattle.bz_model.specs.Spec.{Spec, Node, node_at, body_of}
-use Rattle.bz_model.specs.Object.{Object, none, more}
-use Rattle.bz_model.specs.ObjectText.{IsTextOf}
+use Rattle.bz_model.specs.Object.{none, more}
 use Rattle.class_system.specs.Sound.{IsSound}
-use Rattle.object_store.specs.Tokens.{AreOf, tokens_all}
+use Rattle.object_store.specs.Tokens.{tokens_all}
 use Rattle.object_store.specs.Walk.{Expands}
 use Rattle.object_store.proofs.Descent.{Descent, descent-start, descent-expand, too_long}
 use Rattle.class_system.specs.Views.{spec_node}

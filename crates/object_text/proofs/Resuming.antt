@@ -1,11 +1,11 @@
 -- Reading on: from node to node, and to the end of the text.
-use Rattle.std.proofs.Common.{◌≡◌, ◌≢◌, ℕ, zero, suc, ◌+◌, ◌<◌, ◌≤◌, List, [], ◌∷◌, ◌++◌, length, arith, refl, sym, ◌∙◌, ap, subst, append-nil, Option, Some, None}
+use Rattle.std.proofs.Common.{◌≡◌, ◌≢◌, ℕ, ◌<◌, ◌≤◌, List, [], ◌∷◌, ◌++◌, length, arith, refl, sym, ◌∙◌, ap, subst, Option, Some, None}
 use Rattle.bz_model.specs.Spec.{Spec}
 use Rattle.class_system.specs.declared.ids.ExprId.{ExprId}
 use Rattle.object_text.specs.declared.expected.Expected.{Expected}
-use Rattle.object_text.specs.Taken.{Taken, with_object}
-use Rattle.object_text.specs.Scanning.{Steps, Accepts, CantGoOn, Faults}
-use Rattle.object_text.specs.Expected.{ReadsObject, Reads, Comes, AllCanCome, IsNodeIf, Moves, SameTexts, IsOver}
+use Rattle.object_text.specs.Taken.{Taken}
+use Rattle.object_text.specs.Scanning.{Steps, CantGoOn, Faults}
+use Rattle.object_text.specs.Expected.{Comes, AllCanCome, IsNodeIf, Moves, SameTexts, IsOver}
 use Rattle.object_text.proofs.Scans.{faults-through, faults-here, steps-then, steps-same}
 use Rattle.object_text.proofs.Moving.{steps-by, faults-by}
 

@@ -1,8 +1,8 @@
 -- Steps and faults of reading: how they follow one another, and those of words and numbers.
-use Rattle.std.proofs.Common.{◌≡◌, ◌≢◌, ℕ, ◌+◌, ◌<◌, ◌≤◌, List, [], ◌∷◌, ◌++◌, length, take, drop, arith, refl, sym, ◌∙◌, ap, subst, append_assoc, append-nil, decimal}
+use Rattle.std.proofs.Common.{◌≡◌, ℕ, ◌≤◌, List, [], ◌∷◌, ◌++◌, length, arith, refl, sym, ◌∙◌, ap, subst, append_assoc, append-nil, decimal}
 use Rattle.std.proofs.lemmas.List.{append_cancel_left}
 use Rattle.object_text.specs.Taken.{Taken}
-use Rattle.object_text.specs.Scanning.{Word, Number, IsOther, DiffersFrom, EndsNumber, BeginsWithNumber, HasNoNumber, BeginsLike, Steps, Accepts, CantGoOn, Faults}
+use Rattle.object_text.specs.Scanning.{Word, Number, IsOther, DiffersFrom, BeginsWithNumber, HasNoNumber, BeginsLike, Steps, Accepts, CantGoOn, Faults}
 use Rattle.object_text.proofs.Digits.{HasNoDigit, cons-same, one-number, no-number, no-number-end}
 
 -- what goes on likewise

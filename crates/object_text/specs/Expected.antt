@@ -11,8 +11,8 @@ use Rattle.object_text.specs.declared.taken.Kind.TheVariants.{Sequence, Set, Cyc
 use Rattle.object_text.specs.declared.expected.Expected.{Expected}
 use Rattle.object_text.specs.declared.expected.Expected.TheVariants.{Close, Part, Further}
 use Rattle.object_text.specs.declared.expected.Counted.{Counted}
-use Rattle.object_text.specs.Taken.{Taken, with_object, opened, parted, closed}
-use Rattle.object_text.specs.Scanning.{Word, Steps, Faults}
+use Rattle.object_text.specs.Taken.{Taken, with_object, parted, closed}
+use Rattle.object_text.specs.Scanning.{Word, Steps}
 
 -- The byte before the parts of a list, and the byte after them.
 abbrev pub opener : Kind → ℕ

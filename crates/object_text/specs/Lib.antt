@@ -11,3 +11,4 @@ pub mod Marks
 pub mod Pieces
 pub mod States
 pub mod BothWays
+pub mod Arranged

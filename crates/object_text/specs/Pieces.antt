@@ -1,5 +1,5 @@
 -- What the beginning of an object, or what stands behind one, takes off the front of a text.
-use Rattle.std.specs.Prelude.{◌≡◌, ◌≢◌, ℕ, ◌+◌, ◌-◌, List, [], ◌∷◌, ◌++◌, length, codes, Option, Some, None, slice_get}
+use Rattle.std.specs.Prelude.{◌≡◌, ℕ, ◌+◌, ◌-◌, List, ◌∷◌, ◌++◌, length, codes, Option, Some, None, slice_get}
 use Rattle.bz_model.specs.Spec.{IsInRange, IsWithinHigh}
 use Rattle.bz_model.specs.ObjectText.{leaf_text}
 use Rattle.class_system.specs.Views.{spec_range}

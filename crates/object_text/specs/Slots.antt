@@ -1,5 +1,5 @@
 -- Open lists as the code keeps them: one list of tokens, in which each open list has the place of the token that will tell its number of parts.
-use Rattle.std.specs.Prelude.{ℕ, ◌+◌, ◌<◌, List, [], ◌∷◌, length, take, drop}
+use Rattle.std.specs.Prelude.{◌+◌, ◌<◌, List, [], ◌∷◌, length, take, drop}
 use Rattle.object_store.specs.declared.token.Token.{Token}
 use Rattle.object_text.specs.declared.taken.OpenList as code
 use Rattle.object_text.specs.Taken.{OpenList}

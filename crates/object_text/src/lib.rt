@@ -1,9 +1,14 @@
-//! Object text: how objects of a class are printed.
+//! Object text: how objects of a class are printed and read.
 //!
 //! An object's text is defined in `bz_model` (its `specs/ObjectText.antt`). `print` gives exactly
-//! that text, from the object's tokens and labels. The state of the walk stands in
-//! `specs/Printing.antt`, what is printed so far in `specs/Output.antt`. No clause says how long it
-//! takes or that memory suffices.
+//! that text, from the object's tokens and labels. `read` gives the object of a canonical text, and
+//! for any other text its fault with the first byte that can't stand there (`specs/Reading.antt`).
+//! The laws in `laws` say that a text has one answer, that what was read is printed as the text, and
+//! that what was printed is read in canonical order (`specs/Arranged.antt`).
+//!
+//! The state of the walk that prints stands in `specs/Printing.antt`, what is printed so far in
+//! `specs/Output.antt`, what the reader expects in `specs/Expected.antt`, and what it has read in
+//! `specs/Taken.antt`. No clause says how long a call takes or that memory suffices.
 #![tactic(auto)]
 
 mod expected;

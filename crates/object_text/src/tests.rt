@@ -4,7 +4,7 @@ ghost use Rattle.object_text.specs.Labels.{HasOneForEach};
 
 use crate::fault::TextFault;
 use crate::print::print_labelled;
-use crate::read::read;
+use crate::read::{ReadObject, read};
 use class_system::draft::Mode;
 use class_system::ids::ClassId;
 use class_system::system::System;
@@ -215,8 +215,9 @@ fn what_was_printed_is_read_with_its_parts_in_order(rt: HostRuntime) -> Result<(
         Token::Dot,
         Token::Count(0),
     ];
-    assert_eq!(rt; object.shape.tokens(), tokens.as_slice());
-    let Some(labels) = object.labels else {
+    let ReadObject { shape, labels } = object;
+    assert_eq!(rt; shape.tokens(), tokens.as_slice());
+    let Some(labels) = labels else {
         return Err(Fail::from("no labels"));
     };
     assert_eq!(rt; labels.items(), [3, 1, 2, 4].as_slice());

@@ -1,6 +1,6 @@
 -- Label after label is marked.
-use Rattle.std.proofs.Common.{◌≡◌, Bool, false, true, List, length, replicate, refl, subst, sym, ◌∙◌}
-use Rattle.object_text.specs.Marks.{MarksIf, AreFree}
+use Rattle.std.proofs.Common.{◌≡◌, false, length, replicate, refl, subst, sym}
+use Rattle.object_text.specs.Marks.{AreFree}
 use Rattle.object_text.proofs.Marks.{one_to-free, marking-start, marking-on, marking-ends, marking-over}
 use Rattle.object_text.proofs.one_to.are_one_to.Goals as goal
 

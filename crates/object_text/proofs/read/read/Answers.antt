@@ -1,15 +1,14 @@
 -- The whole text is read from the class's body on.
-use Rattle.std.proofs.Common.{◌≡◌, ◌≤◌, ◌∙◌, ◌<◌, length, sym, ap, subst, Some, [], refl}
+use Rattle.std.proofs.Common.{◌≤◌, length, sym, subst, Some, []}
 use Rattle.std.proofs.lemmas.Result.{IfOk-weaker, MatchResult-weaker}
-use Rattle.bz_model.specs.Spec.{Spec, body_of}
 use Rattle.object_store.proofs.InRange.{body-below}
 use Rattle.object_text.specs.Expected.{HasObjects, Comes}
 use Rattle.object_text.specs.Scanning.{Faults, StopsAt}
 use Rattle.object_text.specs.Reading.{IsRead, TellsFault}
 use Rattle.object_text.specs.States.{IsFinished, stop_fault}
-use Rattle.object_text.specs.Taken.{Taken, nothing}
+use Rattle.object_text.specs.Taken.{Taken}
 use Rattle.object_text.proofs.Stops.{stops-weaker}
-use Rattle.object_text.proofs.Answering.{WasRead, within-text, was-read, read-of, fault-of, refusal-of}
+use Rattle.object_text.proofs.Answering.{within-text, was-read, read-of, fault-of, refusal-of}
 use Rattle.object_text.proofs.read.read.Goals as goal
 
 pub read_all-requires-clause-objects : goal.read_all-requires-clause-objects

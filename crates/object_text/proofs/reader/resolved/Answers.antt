@@ -1,5 +1,5 @@
 -- The way goes on.
-use Rattle.std.proofs.Common.{◌≡◌, ◌+◌, ◌-◌, ◌≤◌, suc, length, ap, sym, subst, arith, ◌∙◌, Some, [], ◌∷◌}
+use Rattle.std.proofs.Common.{◌≡◌, ◌-◌, ◌≤◌, ap, sym, subst, arith, ◌∙◌, Some, [], ◌∷◌}
 use Rattle.bz_model.specs.Spec.{Node, node_at}
 use Rattle.class_system.specs.Views.{spec_node}
 use Rattle.object_store.proofs.Descent.{Descent}

@@ -1,6 +1,4 @@
 -- Behind the number sign no label begins.
-use Rattle.std.proofs.Common.{length}
-use Rattle.std.specs.Result.{IfErr}
 use Rattle.std.proofs.lemmas.Result.{MatchResult-weaker}
 use Rattle.object_text.specs.Scanning.{HasNoLabel}
 use Rattle.object_text.proofs.Stops.{stops-weaker}

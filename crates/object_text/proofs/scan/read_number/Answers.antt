@@ -1,5 +1,5 @@
 -- Digit after digit is read.
-use Rattle.std.proofs.Common.{◌≡◌, ◌++◌, decimal, sym, ◌∙◌, ap, arith}
+use Rattle.std.proofs.Common.{◌++◌, decimal, sym, ◌∙◌, ap, arith}
 use Rattle.object_text.proofs.Digits.{first-digit, further-digit}
 use Rattle.object_text.proofs.scan.read_number.Goals as goal
 

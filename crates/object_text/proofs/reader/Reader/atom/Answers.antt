@@ -1,8 +1,6 @@
 -- An atom's word, and its label in labelled mode.
-use Rattle.std.proofs.Common.{◌≡◌, refl, sym, ◌∙◌, ap, subst, codes, ◌++◌}
+use Rattle.std.proofs.Common.{refl, sym, ◌∙◌, ap, subst, ◌++◌}
 use Rattle.std.proofs.lemmas.Result.{err_from_is_err_and}
-use Rattle.bz_model.specs.ObjectText.{leaf_text}
-use Rattle.class_system.specs.declared.draft.Mode.TheVariants.{Unlabelled, Labelled}
 use Rattle.object_store.specs.declared.token.Token.TheVariants as token
 use Rattle.object_text.specs.Taken.{with_token, with_label}
 use Rattle.object_text.specs.Scanning.{DiffersFrom}

@@ -1,5 +1,5 @@
 -- An option's number, and its full stop.
-use Rattle.std.proofs.Common.{◌≡◌, ◌-◌, ◌<◌, refl, length, subst, arith}
+use Rattle.std.proofs.Common.{◌-◌, ◌<◌, refl, length, subst, arith}
 use Rattle.std.proofs.lemmas.Result.{err_from_is_err_and}
 use Rattle.std.proofs.lemmas.Option.{slice_get-get_or}
 use Rattle.object_text.specs.Scanning.{BeginsWithNumber}

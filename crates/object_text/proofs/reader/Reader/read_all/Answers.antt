@@ -1,7 +1,7 @@
 -- The text is read on.
-use Rattle.std.proofs.Common.{◌≡◌, ◌<◌, ℕ, length, sym, subst, Some, None, [], arith, IfSome, IfNone}
+use Rattle.std.proofs.Common.{subst, Some, [], arith, IfSome, IfNone}
 use Rattle.std.proofs.lemmas.Result.{err_from_is_err_and}
-use Rattle.object_text.specs.Scanning.{Faults, StopsAt}
+use Rattle.object_text.specs.Scanning.{Faults}
 use Rattle.object_text.specs.Expected.{Comes, Moves, IsOver}
 use Rattle.object_text.proofs.Stops.{stops-weaker}
 use Rattle.object_text.proofs.Resuming.{progress-start, progress-on, progress-faults, progress-over}

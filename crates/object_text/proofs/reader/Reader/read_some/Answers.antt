@@ -1,5 +1,5 @@
 -- An object comes, or what is expected behind one, or nothing.
-use Rattle.std.proofs.Common.{◌≡◌, ◌≢◌, ℕ, length, sym, subst, Some, None, [], ◌==◌, false}
+use Rattle.std.proofs.Common.{length, sym, subst, Some, None}
 use Rattle.std.proofs.lemmas.Result.{err_from_is_err_and}
 use Rattle.std.proofs.Common.{eq-eqb}
 use Rattle.object_text.specs.Scanning.{Faults, StopsAt}

@@ -1,5 +1,5 @@
 -- All tokens were pushed, and no list is open.
-use Rattle.std.proofs.Common.{◌≡◌, take_all, reverse, sym, ◌∙◌, ap}
+use Rattle.std.proofs.Common.{take_all, reverse, sym, ◌∙◌, ap}
 use Rattle.object_text.specs.Taken.{Taken}
 use Rattle.object_text.proofs.OpenLists.{all-inner}
 use Rattle.object_text.proofs.taken.Partial.shape.Goals as goal
