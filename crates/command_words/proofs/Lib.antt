@@ -1,0 +1,9 @@
+pub mod Options
+pub mod Spelled
+pub mod Scanned
+pub mod Formed
+pub mod Refused
+pub mod Fractions
+pub mod Made
+pub mod Unique
+pub mod Excluded

@@ -1,0 +1,96 @@
+-- The command that is made of what is given.
+use Rattle.std.proofs.Common.{◌≡◌, ℕ, ◌+◌, List, [], ◌∷◌, length, refl, sym, ◌∙◌, ap, subst, arith}
+use Rattle.std.specs.Prelude.{Option, Some, Ok}
+use Rattle.bz_model.specs.declared.fraction.Fraction.{Fraction}
+use Rattle.bz_model.specs.FractionRead.{ReadsAs}
+use Rattle.command_words.specs.declared.command.Command.TheVariants as command
+use Rattle.command_words.specs.declared.command.TapeWord.{TapeWord}
+use Rattle.command_words.specs.declared.command.TapeWord.TheVariants as tape
+use Rattle.command_words.specs.declared.fault.ValueName.TheVariants as value
+use Rattle.command_words.specs.declared.names.CommandName.{CommandName}
+use Rattle.command_words.specs.declared.names.CommandName.TheVariants.{Spec, Oracle, Sample, Pool, Verify, Migrate, Bulk}
+use Rattle.command_words.specs.declared.names.OptionName.TheVariants as option
+use Rattle.command_words.specs.declared.values.Values.{Values}
+use Rattle.command_words.specs.Words.{Given, Takes}
+use Rattle.command_words.specs.Values.{IsSet, x_among, n_among}
+use Rattle.command_words.specs.Commands.{IsTape, AreFractionBits, Makes}
+use Rattle.command_words.specs.Commands as makes
+use Rattle.command_words.specs.Reading.{IsX, AreValues}
+
+-- a list without length is empty
+pub empty : (xs : List (List ℕ)) → length xs ≡ 0 → xs ≡ []
+empty [] e = refl
+empty (x ∷ xs) e = absurd (omega arith)
+
+-- where a command has as many positional words as were taken out, none is left
+one_place : (places : List (List ℕ)) (file : List ℕ) (rest : List (List ℕ)) → length places ≡ 1 → places ≡ file ∷ rest → places ≡ file ∷ []
+one_place places file rest long e = e ∙ ap (λ r. file ∷ r) (empty rest (omega (arith, ap length e)))
+
+two_places : (places : List (List ℕ)) (file second : List ℕ) (first_rest rest : List (List ℕ)) → length places ≡ 2 → places ≡ file ∷ first_rest → first_rest ≡ second ∷ rest → places ≡ file ∷ second ∷ []
+two_places places file second first_rest rest long e f =
+    e ∙ ap (λ r. file ∷ r) f ∙ ap (λ r. file ∷ second ∷ r) (empty rest (omega (arith, ap length e, ap length f)))
+
+pub made-spec : (given : Given) (file : List ℕ) (rest : List (List ℕ)) → Takes Spec given → given.places ≡ file ∷ rest → Makes given Spec (command.Spec file)
+made-spec given file rest taken e = makes.spec file (one_place given.places file rest (omega (arith, taken.not_too_few, taken.not_too_many)) e)
+
+pub made-verify : (given : Given) (file cert : List ℕ) (first_rest rest : List (List ℕ)) → Takes Verify given → given.places ≡ file ∷ first_rest → first_rest ≡ cert ∷ rest → Makes given Verify (command.Verify file cert)
+made-verify given file cert first_rest rest taken e f = makes.verify file cert (two_places given.places file cert first_rest rest (omega (arith, taken.not_too_few, taken.not_too_many)) e f)
+
+pub made-migrate : (given : Given) (file cert : List ℕ) (first_rest rest : List (List ℕ)) → Takes Migrate given → given.places ≡ file ∷ first_rest → first_rest ≡ cert ∷ rest → Makes given Migrate (command.Migrate file cert)
+made-migrate given file cert first_rest rest taken e f = makes.migrate file cert (two_places given.places file cert first_rest rest (omega (arith, taken.not_too_few, taken.not_too_many)) e f)
+
+-- the text reads as the x that was read of it
+reads_x : (text : List ℕ) (x : Option Fraction) (y : Fraction) → IsX (text ∷ []) x → x ≡ Some y → ReadsAs text (Ok y)
+reads_x text x y is e = let P : Option Fraction → Type 0 = IsX (text ∷ []) in subst P e is
+
+-- The positional words are a file and the text of an x.
+record HasX (places : List (List ℕ)) (file : List ℕ) (x : Fraction) : Type 0 where
+  text : List ℕ
+  are : places ≡ file ∷ text ∷ []
+  reads : ReadsAs text (Ok x)
+
+-- this is so where there are two, and the x was read of the second
+has_x : (places : List (List ℕ)) (file : List ℕ) (rest : List (List ℕ)) (x : Option Fraction) (y : Fraction) → length places ≡ 2 → places ≡ file ∷ rest → IsX (x_among Oracle places) x → x ≡ Some y → HasX places file y
+has_x [] file rest x y long e is known = absurd (omega arith)
+has_x (a ∷ []) file rest x y long e is known = absurd (omega arith)
+has_x (a ∷ b ∷ []) file rest x y long e is known = let same : a ≡ file = cc in record { text = b; are = ap (λ f. f ∷ b ∷ []) same; reads = reads_x b x y is known }
+has_x (a ∷ b ∷ c ∷ places) file rest x y long e is known = absurd (omega arith)
+
+pub made-oracle : (given : Given) (values : Values) (file : List ℕ) (rest : List (List ℕ)) (x : Fraction) → Takes Oracle given → AreValues Oracle given values → given.places ≡ file ∷ rest → values.x ≡ Some x → Makes given Oracle (command.Oracle file x values.fraction)
+made-oracle given values file rest x taken are e known =
+    let two = has_x given.places file rest values.x x (omega (arith, taken.not_too_few, taken.not_too_many)) e are.x known in
+    makes.oracle file two.text x values.fraction two.are two.reads are.fraction
+
+pub made-sample : (given : Given) (values : Values) (file : List ℕ) (rest : List (List ℕ)) (x : Fraction) (bits : TapeWord) → Takes Sample given → AreValues Sample given values → given.places ≡ file ∷ rest → values.x ≡ Some x → IsTape given bits → Makes given Sample (command.Sample file x bits values.limits values.fraction)
+made-sample given values file rest x bits taken are e known is_tape =
+    let two = has_x given.places file rest values.x x (omega (arith, taken.not_too_few, taken.not_too_many)) e are.x known in
+    makes.sample file two.text x bits values.limits values.fraction two.are two.reads is_tape are.limits are.fraction
+
+pub made-pool : (given : Given) (values : Values) (file text schedule : List ℕ) (behind_file behind_x tapes : List (List ℕ)) (x : Fraction) → AreValues Pool given values → given.places ≡ file ∷ behind_file → behind_file ≡ text ∷ behind_x → behind_x ≡ schedule ∷ tapes → values.x ≡ Some x → Makes given Pool (command.Pool file x schedule tapes values.limits values.fraction)
+made-pool given values file text schedule behind_file behind_x tapes x are e f g known =
+    let places : given.places ≡ file ∷ text ∷ schedule ∷ tapes = e ∙ ap (λ r. file ∷ r) f ∙ ap (λ r. file ∷ text ∷ r) g in
+    let P : List (List ℕ) → Type 0 = λ p. IsX (x_among Pool p) values.x in
+    makes.pool file text schedule tapes x values.limits values.fraction places (reads_x text values.x x (subst P places are.x) known) are.limits are.fraction
+
+-- the tape of a sample, or its seed where there is none
+pub tape-file : (given : Given) (word tape_word : List ℕ) → tape_word ∷ [] ≡ given.values option.Tape → word ≡ tape_word → IsTape given (tape.File word)
+tape-file given word tape_word e same = makes.file word (sym e ∙ ap (λ w. w ∷ []) (sym same))
+
+seeded : (given : Given) (seeds : List (List ℕ)) (seed : ℕ) → given.values option.Seed ≡ seeds → length seeds ≡ 1 → IsSet value.Seed 0 seeds seed → IsTape given (tape.Seed seed)
+seeded given [] seed e long set = absurd (omega arith)
+seeded given (text ∷ []) seed e long set = makes.seed text seed e set
+seeded given (text ∷ other ∷ seeds) seed e long set = absurd (omega arith)
+
+pub tape-seed : (given : Given) (seed : ℕ) → [] ≡ given.values option.Tape → length (given.values option.Tape) + length (given.values option.Seed) ≡ 1 → IsSet value.Seed 0 (given.values option.Seed) seed → IsTape given (tape.Seed seed)
+tape-seed given seed none one set = seeded given (given.values option.Seed) seed refl (omega (arith, ap length none)) set
+
+bulk_of : (given : Given) (values : Values) (places : List (List ℕ)) → given.places ≡ places → length places ≡ 1 → IsSet value.N 0 (n_among Bulk places) values.n → AreFractionBits given values.fraction → Makes given Bulk (command.Bulk values.n values.fraction)
+bulk_of given values [] e long set bits = absurd (omega arith)
+bulk_of given values (text ∷ []) e long set bits = makes.bulk text values.n values.fraction e set bits
+bulk_of given values (text ∷ other ∷ places) e long set bits = absurd (omega arith)
+
+pub made-bulk : (given : Given) (name : CommandName) (values : Values) → name ≡ Bulk → Takes name given → AreValues name given values → Makes given name (command.Bulk values.n values.fraction)
+made-bulk given name values is taken are =
+    let bulk_takes = subst (λ n. Takes n given) is taken in
+    let bulk_has = subst (λ n. AreValues n given values) is are in
+    subst (λ n. Makes given n (command.Bulk values.n values.fraction)) (sym is) (bulk_of given values given.places refl (omega (arith, bulk_takes.not_too_few, bulk_takes.not_too_many)) bulk_has.n bulk_has.fraction)
