@@ -1,5 +1,4 @@
 pub mod Bounding
-pub mod Named
 pub mod Told
 pub mod Commands
 pub mod Courses

@@ -1,6 +1,6 @@
 -- Where each answer comes.
-use Rattle.std.proofs.Common.{◌≡◌, ◌≢◌, ℕ, ◌≤◌, arith, List, sym, subst}
-use Rattle.std.specs.Prelude.{◌<◌, Bool, length, Option, Some, None, IfSome}
+use Rattle.std.proofs.Common.{◌≡◌, ◌≢◌, ℕ, ◌≤◌, arith, List, sym, ◌∙◌, subst}
+use Rattle.std.specs.Prelude.{◌<◌, Bool, length, take, Option, Some, None, IfSome}
 use Rattle.std.proofs.lemmas.Option.{slice_get_within}
 use Rattle.bz_model.specs.Spec.{Spec}
 use Rattle.bz_model.specs.WellFounded.{IsWellFounded}
@@ -13,7 +13,16 @@ use Rattle.well_founded.specs.Foundedness as leads
 use Rattle.well_founded.specs.Examination.{TellsCause}
 use Rattle.well_founded.specs.declared.cause.UnfoundedCause.{UnfoundedCause}
 use Rattle.well_founded.specs.declared.cause.UnfoundedCause.TheVariants.{NoObject, ZeroPart, ZeroLoop, OutOfMemory}
-use Rattle.boltz.specs.Answers.{World, file_of, IsAsked, IsAccepted, Answers, usual, tape_of, spec_text}
+use Rattle.bz_model.specs.declared.fraction.Fraction.{Fraction}
+use Rattle.size_window.specs.Drawing.{limits_of}
+use Rattle.size_window.specs.declared.limits.Limits.{Limits as Given}
+use Rattle.command_words.specs.Commands.{IsCommand, Refuses as RefusesWords}
+use Rattle.command_words.specs.declared.command.Command.{Command}
+use Rattle.command_words.specs.declared.command.Command.TheVariants as command
+use Rattle.command_words.specs.declared.command.TapeWord.{TapeWord}
+use Rattle.command_words.specs.declared.fault.WordsFault.{WordsFault}
+use Rattle.boltz.specs.Commands.{file_of, IsBuilt, source_of}
+use Rattle.boltz.specs.Answers.{World, IsAsked, IsAccepted, Answers, tape_of, spec_text}
 use Rattle.boltz.specs.Answers as answers
 use Rattle.boltz.specs.Bounded.{Bounded}
 use Rattle.oracle_memo.specs.Levels.{level_bounds}
@@ -25,15 +34,38 @@ use Rattle.bit_tape.specs.Tape.{TapeSource, bits_of, HasFault}
 use Rattle.boltz.specs.Reads.{IsMet}
 use Rattle.bz_model.specs.declared.cell.Bounds.{Bounds}
 use Rattle.size_window.specs.RunByBits.{Limits, Course}
-use Rattle.boltz.specs.Refusals.{words_line, read_line, text_line, cause_line, IsNamed}
-use Rattle.boltz.specs.Words.{Command, Names, NamesNone}
+use Rattle.boltz.specs.Refusals.{words_line, not_yet_line, read_line, text_line, cause_line, IsNamed}
 use Rattle.boltz.specs.declared.status.Status.{Status}
 
-pub told_words : (w : World) (text : List ℕ) → NamesNone w.words → text ≡ words_line → Answers w Status.WordsRefused text
-told_words w text none line = answers.words_refused none line
+pub told_words : (w : World) (fault : WordsFault) (text : List ℕ) → fault ≢ WordsFault.OutOfMemory → RefusesWords w.words fault → text ≡ words_line fault → Answers w Status.WordsRefused text
+told_words w fault text memory refuses line = answers.words_refused fault memory refuses line
 
-pub told_read : (w : World) (c : Command) (text : List ℕ) → Names w.words c → Rose (w.before (file_of c)) (w.after (file_of c)) → text ≡ read_line → Answers w Status.ReadFault text
-told_read w c text named rose line = answers.not_read c named rose line
+pub told_later : (w : World) (c : Command) (text : List ℕ) → IsCommand w.words c → ¬ (IsBuilt c) → text ≡ not_yet_line → Answers w Status.WordsRefused text
+told_later w c text named later line = answers.not_yet c named later line
+
+-- a count that rose from a later number rose from an earlier one
+rose-earlier : (earlier before now : ℕ) → earlier ≤ before → Rose before now → Rose earlier now
+rose-earlier earlier before now h rose = omega arith
+
+pub told_read : (w : World) (c : Command) (file : List ℕ) (content : List ℕ → Option (List ℕ)) (before after : List ℕ → ℕ) (text : List ℕ) → IsMet w content before after → IsCommand w.words c → IsBuilt c → file ≡ file_of c → Rose (before file) (after file) → text ≡ read_line → Answers w Status.ReadFault text
+told_read w c file content before after text m named built is rose line =
+    let there : Rose (before (file_of c)) (after (file_of c)) = subst (λ f. Rose (before f) (after f)) is rose in
+    let at_end : Rose (before (file_of c)) (w.after (file_of c)) = subst (λ counts. Rose (before (file_of c)) (counts (file_of c))) (sym m.at_end) there in
+    answers.not_read c named built (rose-earlier (w.before (file_of c)) (before (file_of c)) (w.after (file_of c)) (m.no_higher (file_of c)) at_end) line
+
+-- what is met after a read is what was met before it
+pub met-later : (w : World) (content later : List ℕ → Option (List ℕ)) (before counts after : List ℕ → ℕ) → IsMet w content before after → later ≡ content → ((name : List ℕ) → before name ≤ counts name) → IsMet w later counts after
+met-later w content later before counts after m same risen = record {
+  contents = m.contents ∙ sym same;
+  no_higher = λ name. let first = m.no_higher name in let second = risen name in omega arith;
+  at_end = m.at_end;
+}
+
+-- what is read of a file is what is asked for
+pub asked-of : (w : World) (c : Command) (file read : List ℕ) (content : List ℕ → Option (List ℕ)) (before after : List ℕ → ℕ) → IsMet w content before after → IsCommand w.words c → IsBuilt c → file ≡ file_of c → IfSome (content file) (λ bytes. read ≡ take 65537 bytes) → IsAsked w c read
+asked-of w c file read content before after m named built is reads =
+    let there : IfSome (content (file_of c)) (λ bytes. read ≡ take 65537 bytes) = subst (λ f. IfSome (content f) (λ bytes. read ≡ take 65537 bytes)) is reads in
+    record { named = named; built = built; is_read = subst (λ o. IfSome (o (file_of c)) (λ bytes. read ≡ take 65537 bytes)) (sym m.contents) there }
 
 pub told_text : (w : World) (c : Command) (read : List ℕ) (fault : SpecFault) (text : List ℕ) → IsAsked w c read → fault ≢ SpecFault.OutOfMemory → Refuses read fault → text ≡ text_line fault → Answers w Status.SpecRefused text
 told_text w c read fault text asked memory refuses line = answers.text_refused c read fault asked memory refuses line
@@ -41,15 +73,11 @@ told_text w c read fault text asked memory refuses line = answers.text_refused c
 pub told_cause : (w : World) (c : Command) (read : List ℕ) (s : Spec) (cause : UnfoundedCause) (text : List ℕ) → IsAsked w c read → IsAccepted read s → cause ≢ UnfoundedCause.OutOfMemory → TellsCause s cause → text ≡ cause_line s cause → Answers w Status.SpecRefused text
 told_cause w c read s cause text asked accepted memory tells line = answers.unfounded c read s cause asked accepted memory tells line
 
-pub told_spec : (w : World) (file read : List ℕ) (s : Spec) (text : List ℕ) → IsAsked w (Command.Spec file) read → IsAccepted read s → IsWellFounded s → text ≡ spec_text s → Answers w Status.Done text
+pub told_spec : (w : World) (file read : List ℕ) (s : Spec) (text : List ℕ) → IsAsked w (command.Spec file) read → IsAccepted read s → IsWellFounded s → text ≡ spec_text s → Answers w Status.Done text
 told_spec w file read s text asked accepted founded line = answers.printed file read s asked accepted founded line
 
-pub told_bounded : (w : World) (file read : List ℕ) (num den : ℕ) (s : Spec) (status : Status) (text : List ℕ) → IsAsked w (Command.Oracle file num den) read → IsAccepted read s → IsWellFounded s → Bounded (setting s num den 48) status text → Answers w status text
-told_bounded w file read num den s status text asked accepted founded done = answers.bounded file read num den s asked accepted founded done
-
--- a count that rose from a later number rose from an earlier one
-rose-earlier : (earlier before now : ℕ) → earlier ≤ before → Rose before now → Rose earlier now
-rose-earlier earlier before now h rose = omega arith
+pub told_bounded : (w : World) (file read : List ℕ) (x : Fraction) (bits : ℕ) (s : Spec) (status : Status) (text : List ℕ) → IsAsked w (command.Oracle file x bits) read → IsAccepted read s → IsWellFounded s → Bounded (setting s x.num x.den bits) status text → Answers w status text
+told_bounded w file read x bits s status text asked accepted founded done = answers.bounded file read x bits s asked accepted founded done
 
 -- the counts stood no higher when the call began
 abbrev since : TapeMet → (earlier : List ℕ → ℕ) → TapeMet
@@ -84,14 +112,15 @@ sampled-since : (a : Setting) (limits : Limits) (t : TapeMet) (earlier : List �
 sampled-since a limits t earlier status text h (drawn.drawn base has r) = drawn.drawn base has (reported-since a base limits t earlier status text h r)
 sampled-since a limits t earlier status text h (drawn.no_base trials lacks e f) = drawn.no_base trials lacks e f
 
-pub told_sampled : (w : World) (content : List ℕ → Option (List ℕ)) (before after : List ℕ → ℕ) (file tape read : List ℕ) (num den : ℕ) (s : Spec) (status : Status) (text : List ℕ) → IsMet w content before after → IsAsked w (Command.Sample file num den tape) read → IsAccepted read s → IsWellFounded s → Sampled (setting s num den 48) usual (met (TapeSource.Named tape) content before after) status text → Answers w status text
-told_sampled w content before after file tape read num den s status text m asked accepted founded done =
-    let source = TapeSource.Named tape in
-    let a = setting s num den 48 in
-    let moved = sampled-since a usual (met source content before after) w.before status text m.no_higher done in
-    let at_end : Sampled a usual (met source content w.before w.after) status text = subst (λ n. Sampled a usual (met source content w.before n) status text) (sym m.at_end) moved in
-    let there : Sampled a usual (tape_of w source) status text = subst (λ o. Sampled a usual (met source o w.before w.after) status text) (sym m.contents) at_end in
-    answers.sampled file tape read num den s asked accepted founded there
+pub told_sampled : (w : World) (content : List ℕ → Option (List ℕ)) (before after : List ℕ → ℕ) (file read : List ℕ) (x : Fraction) (word : TapeWord) (limits : Given) (bits : ℕ) (s : Spec) (status : Status) (text : List ℕ) → IsMet w content before after → IsAsked w (command.Sample file x word limits bits) read → IsAccepted read s → IsWellFounded s → Sampled (setting s x.num x.den bits) (limits_of limits) (met (source_of word) content before after) status text → Answers w status text
+told_sampled w content before after file read x word limits bits s status text m asked accepted founded done =
+    let source = source_of word in
+    let window = limits_of limits in
+    let a = setting s x.num x.den bits in
+    let moved = sampled-since a window (met source content before after) w.before status text m.no_higher done in
+    let at_end : Sampled a window (met source content w.before w.after) status text = subst (λ n. Sampled a window (met source content w.before n) status text) (sym m.at_end) moved in
+    let there : Sampled a window (tape_of w source) status text = subst (λ o. Sampled a window (met source o w.before w.after) status text) (sym m.contents) at_end in
+    answers.sampled file read x word limits bits s asked accepted founded there
 
 -- the class of a step has a body
 step-within : (s : Spec) (c d : ℕ) → StepsTo s c d → c < length s.bodies

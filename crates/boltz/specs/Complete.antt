@@ -1,20 +1,28 @@
 -- When the answer is certain: what is certain to be printed, to be refused, to be bounded, and to be drawn.
-use Rattle.std.specs.Prelude.{◌≡◌, ℕ, List, take, Some, None}
+use Rattle.std.specs.Prelude.{◌≡◌, ℕ, Bool, List, take, Option, Some, None}
 use Rattle.bz_model.specs.Spec.{Spec}
 use Rattle.bz_model.specs.WellFounded.{IsWellFounded}
+use Rattle.bz_model.specs.declared.fraction.Fraction.{Fraction}
 use Rattle.bz_outside.specs.Outside.{Rose}
-use Rattle.bit_tape.specs.Bits.{file_bit}
+use Rattle.bit_tape.specs.Tape.{bits_of}
 use Rattle.newton_upper.specs.BaseRule.{base_of}
 use Rattle.oracle_memo.specs.Levels.{level_bounds}
 use Rattle.rounded_map.specs.RoundedMap.{Setting, setting}
-use Rattle.size_window.specs.RunByBits.{Limits, Course, Ending, after}
-use Rattle.boltz.specs.Answers.{World, file_of, IsAccepted, usual}
-use Rattle.boltz.specs.Drawn.{sampling}
-use Rattle.boltz.specs.Words.{Command, Names}
+use Rattle.size_window.specs.Drawing.{limits_of}
+use Rattle.size_window.specs.RunByBits.{Limits as Window, Course, Ending, after}
+use Rattle.size_window.specs.declared.limits.Limits.{Limits}
+use Rattle.command_words.specs.Commands.{IsCommand}
+use Rattle.command_words.specs.declared.command.Command.{Command}
+use Rattle.command_words.specs.declared.command.Command.TheVariants as command
+use Rattle.command_words.specs.declared.command.TapeWord.{TapeWord}
+use Rattle.boltz.specs.Answers.{World, IsAccepted, tape_of}
+use Rattle.boltz.specs.Commands.{file_of, IsBuilt, source_of}
+use Rattle.boltz.specs.Drawn.{HasFailed, sampling}
 
--- The words stand for the command, its file is told to have these bytes, and no read of the file failed in the call.
+-- The words stand for a command that is built, its file is told to have these bytes, and no read of the file failed in the call.
 pub record IsGiven (w : World) (c : Command) (bytes : List ℕ) : Type 0 where
-  pub named : Names w.words c
+  pub named : IsCommand w.words c
+  pub built : IsBuilt c
   pub is_told : w.content (file_of c) ≡ Some bytes
   pub no_fault : ¬ (Rose (w.before (file_of c)) (w.after (file_of c)))
 
@@ -28,36 +36,36 @@ pub record IsFit (w : World) (c : Command) (s : Spec) : Type 0 where
 -- The words ask to print this specification.
 pub record IsPrintable (w : World) (s : Spec) : Type 0 where
   pub file : List ℕ
-  pub fit : IsFit w (Command.Spec file) s
+  pub fit : IsFit w (command.Spec file) s
 
 -- What is read of the command's file stands for no specification within the limits that is well founded.
 pub record IsUnfit (w : World) : Type 0 where
-  pub command : Command
+  pub asked : Command
   pub bytes : List ℕ
-  pub given : IsGiven w command bytes
+  pub given : IsGiven w asked bytes
   pub unfit : (s : Spec) → IsAccepted (take 65537 bytes) s → ¬ (IsWellFounded s)
 
--- The words ask to bound the classes of a specification at an x with this base.
-pub record IsBoundable (w : World) (s : Spec) (num den : ℕ) (base : List ℕ) : Type 0 where
+-- The words ask to bound the classes of a specification at an x, in units of 2^-F, with this base.
+pub record IsBoundable (w : World) (s : Spec) (x : Fraction) (F : ℕ) (base : List ℕ) : Type 0 where
   pub file : List ℕ
-  pub fit : IsFit w (Command.Oracle file num den) s
-  pub has_base : base_of (setting s num den 48) ≡ Some base
+  pub fit : IsFit w (command.Oracle file x F) s
+  pub has_base : base_of (setting s x.num x.den F) ≡ Some base
 
--- The words ask to bound the classes of a specification at an x without a base, or to draw from it there.
-pub data IsBaseless (w : World) (s : Spec) (num den : ℕ) : Type 0 where
-  to_bound : (file : List ℕ) → IsFit w (Command.Oracle file num den) s → base_of (setting s num den 48) ≡ None → IsBaseless w s num den
-  to_draw : (file tape : List ℕ) → IsFit w (Command.Sample file num den tape) s → base_of (setting s num den 48) ≡ None → IsBaseless w s num den
+-- The words ask to bound the classes of a specification at an x, in units of 2^-F, without a base, or to draw from it there.
+pub data IsBaseless (w : World) (s : Spec) (x : Fraction) (F : ℕ) : Type 0 where
+  to_bound : (file : List ℕ) → IsFit w (command.Oracle file x F) s → base_of (setting s x.num x.den F) ≡ None → IsBaseless w s x F
+  to_draw : (file : List ℕ) (word : TapeWord) (limits : Limits) → IsFit w (command.Sample file x word limits F) s → base_of (setting s x.num x.den F) ≡ None → IsBaseless w s x F
 
--- The course of so many turns over the levels of a base and the bits of these bytes, where no read fails.
-abbrev pub undisturbed : Setting → (base : List ℕ) → Limits → (bytes : List ℕ) → (turns : ℕ) → Course
-undisturbed t base limits bytes turns = after (sampling t.spec t.bits (level_bounds t base) limits (file_bit bytes)) (λ n. None) turns
+-- The course of so many turns over the levels of a base and these bits, where no read fails.
+abbrev pub undisturbed : Setting → (base : List ℕ) → Window → (bits : ℕ → Option Bool) → (turns : ℕ) → Course
+undisturbed t base limits bits turns = after (sampling t.spec t.bits (level_bounds t base) limits bits) (λ n. None) turns
 
--- The words ask to draw from a specification at an x with this base, the tape is told to have these bytes, no read of it failed in the call, and over its bits the course of so many turns comes to this end.
-pub record IsDrawable (w : World) (s : Spec) (num den : ℕ) (base bytes : List ℕ) (turns : ℕ) (ending : Ending) : Type 0 where
+-- The words ask to draw from a specification at an x within these limits, in units of 2^-F and with this base. The bits of the tape are told to be these, as those of a seed always are, no read of it failed in the call, and over them the course of so many turns comes to this end.
+pub record IsDrawable (w : World) (s : Spec) (x : Fraction) (F : ℕ) (limits : Limits) (base : List ℕ) (bits : ℕ → Option Bool) (turns : ℕ) (ending : Ending) : Type 0 where
   pub file : List ℕ
-  pub tape : List ℕ
-  pub fit : IsFit w (Command.Sample file num den tape) s
-  pub has_base : base_of (setting s num den 48) ≡ Some base
-  pub tape_told : w.content tape ≡ Some bytes
-  pub no_fault : ¬ (Rose (w.before tape) (w.after tape))
-  pub ends : (undisturbed (setting s num den 48) base usual bytes turns).state.ending ≡ Some ending
+  pub word : TapeWord
+  pub fit : IsFit w (command.Sample file x word limits F) s
+  pub has_base : base_of (setting s x.num x.den F) ≡ Some base
+  pub are_told : bits_of (source_of word) w.content ≡ Some bits
+  pub no_fault : ¬ (HasFailed (tape_of w (source_of word)))
+  pub ends : (undisturbed (setting s x.num x.den F) base (limits_of limits) bits turns).state.ending ≡ Some ending

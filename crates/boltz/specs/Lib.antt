@@ -1,4 +1,4 @@
-pub mod Words
+pub mod Commands
 pub mod Lines
 pub mod Refusals
 pub mod Spelling

@@ -6,11 +6,31 @@ use Rattle.spec_reader.specs.declared.fault.SpecFault.{SpecFault}
 use Rattle.well_founded.specs.declared.cause.UnfoundedCause.{UnfoundedCause}
 use Rattle.newton_upper.specs.Candidates.{candidate_count}
 use Rattle.newton_upper.specs.declared.trials.Trial.{Trial}
+use Rattle.command_words.specs.declared.fault.ValueName.{ValueName}
+use Rattle.command_words.specs.declared.fault.ValueName.TheVariants as value
+use Rattle.command_words.specs.declared.fault.WordsFault.{WordsFault}
 use Rattle.boltz.specs.Lines.{feed, class_name}
 
--- The words are no command.
-abbrev pub words_line : List ℕ
-words_line = codes "refused words" ++ feed
+-- A value's name.
+abbrev pub value_name : ValueName → List ℕ
+value_name value.X = codes "x"
+value_name value.Seed = codes "seed"
+value_name value.Min = codes "min"
+value_name value.Max = codes "max"
+value_name value.Count = codes "count"
+value_name value.Turns = codes "turns"
+value_name value.Fraction = codes "fraction"
+value_name value.N = codes "n"
+
+-- Why words stand for no command; nothing is told of want of memory.
+abbrev pub words_line : WordsFault → List ℕ
+words_line WordsFault.NotACommand = codes "refused words" ++ feed
+words_line (WordsFault.BadValue name) = codes "refused value " ++ (value_name name ++ feed)
+words_line WordsFault.OutOfMemory = []
+
+-- The command isn't built yet.
+abbrev pub not_yet_line : List ℕ
+not_yet_line = codes "refused not yet" ++ feed
 
 -- A file wasn't read.
 abbrev pub read_line : List ℕ

@@ -9,4 +9,3 @@ pub mod refusals;
 pub mod report;
 pub mod run;
 pub mod status;
-pub mod words;

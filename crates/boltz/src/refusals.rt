@@ -1,22 +1,57 @@
 //! The lines that tell why a command is refused.
 ghost use Rattle.std.specs.Prelude.{◌≡◌, ◌≢◌, ◌≤◌, ◌++◌, codes, flat_map, IfOk, OnOk, string_bytes};
+ghost use Rattle.command_words.specs.declared.fault.WordsFault.{WordsFault};
+ghost use Rattle.spec_reader.specs.declared.fault.SpecFault.{SpecFault};
 ghost use Rattle.well_founded.specs.declared.cause.UnfoundedCause.{UnfoundedCause};
 ghost use Rattle.boltz.specs.Lines.{feed};
-ghost use Rattle.boltz.specs.Refusals.{limit_line, text_line, cause_line, IsNamed, number_field, value_text, proposal_line, no_upper_line, no_upper_text};
+ghost use Rattle.boltz.specs.Refusals.{value_name, words_line, limit_line, text_line, cause_line, IsNamed, number_field, value_text, proposal_line, no_upper_line, no_upper_text};
 
 use crate::lines::name_of;
 use bz_outside::word::Word;
 use class_system::limits::BuildFault;
 use class_system::system::System;
+use command_words::fault::{ValueName, WordsFault};
 use newton_upper::Trial;
 use spec_reader::fault::SpecFault;
 use std::alloc::{AllocError, Global};
 use std::fmt::Write;
 use well_founded::cause::UnfoundedCause;
 
+/// Why words stand for no command; `Err` where that is want of memory.
+pub fn words_refusal(alloc: Global, fault: WordsFault) -> Result<String, AllocError>
+    ensures line { IfOk result (λ text. string_bytes text ≡ words_line fault) }
+    ensures memory { OnOk result (fault ≢ WordsFault.OutOfMemory) }
+{
+    match fault {
+        WordsFault::NotACommand => format!(in alloc; "refused words\n"),
+        WordsFault::BadValue { name } => {
+            let name = name_of_value(name);
+            format!(in alloc; "refused value {name}\n")
+        }
+        WordsFault::OutOfMemory => Err(AllocError),
+    }
+}
+
+/// A value's name.
+fn name_of_value(value: ValueName) -> &'static str
+    ensures { result.now ≡ value_name value }
+{
+    match value {
+        ValueName::X => "x",
+        ValueName::Seed => "seed",
+        ValueName::Min => "min",
+        ValueName::Max => "max",
+        ValueName::Count => "count",
+        ValueName::Turns => "turns",
+        ValueName::Fraction => "fraction",
+        ValueName::N => "n",
+    }
+}
+
 /// Why a text is no specification; `Err` where that is want of memory.
 pub fn text_refusal(alloc: Global, fault: SpecFault) -> Result<String, AllocError>
-    ensures { IfOk result (λ text. string_bytes text ≡ text_line fault) }
+    ensures line { IfOk result (λ text. string_bytes text ≡ text_line fault) }
+    ensures memory { OnOk result (fault ≢ SpecFault.OutOfMemory) }
 {
     match fault {
         SpecFault::TooLong { len } => format!(in alloc; "refused spec too long {len}\n"),

@@ -1,24 +1,30 @@
 //! What the program writes, and its answer.
-ghost use Rattle.std.specs.Prelude.{◌≡◌, ℕ, ◌≤◌, List, IfOk, IsTrue, IsFalse};
-ghost use Rattle.boltz.specs.Answers.{World, IsAsked, IsAccepted, Answers, spec_text, usual};
-ghost use Rattle.boltz.specs.Drawn.{Sampled};
-ghost use Rattle.boltz.specs.Reads.{named, IsMet};
+ghost use Rattle.std.specs.Prelude.{◌≡◌, ℕ, ◌≤◌, ◌⊎◌, List, Option, IfOk, IfSome, IfNone};
+ghost use Rattle.bit_tape.specs.Tape.{Belongs};
+ghost use Rattle.command_words.specs.Commands.{IsCommand};
 ghost use Rattle.rounded_map.specs.RoundedMap.{setting};
+ghost use Rattle.size_window.specs.Drawing.{AreLimits, limits_of};
+ghost use Rattle.boltz.specs.Answers.{World, IsAsked, IsAccepted, Answers, spec_text};
+ghost use Rattle.boltz.specs.Bounded.{Bounded};
+ghost use Rattle.boltz.specs.Commands.{file_of, IsBuilt, source_of, IsStoodFor, AreRefused};
+ghost use Rattle.boltz.specs.Drawn.{Sampled};
+ghost use Rattle.boltz.specs.Reads.{IsMet};
 ghost use Rattle.boltz.specs.UnderWay.{met};
-ghost use Rattle.bit_tape.specs.Tape.{TapeSource};
 
 use crate::bounded::bounded;
 use crate::drawn::sampled;
 use crate::lines::spec_end;
-use crate::refusals::{cause_refusal, text_refusal};
+use crate::refusals::{cause_refusal, text_refusal, words_refusal};
 use crate::status::Status;
-use crate::words::{Command, command_of};
 use bit_tape::tape::Tape;
 use bz_model::fraction::Fraction;
 use bz_model::steps::Steps;
 use bz_outside::shelf::{ReadStop, Shelf, read_up_to};
 use bz_outside::word::Word;
 use class_system::system::System;
+use command_words::command::{Command, TapeWord};
+use command_words::fault::WordsFault;
+use command_words::read::read_words;
 use size_window::limits::Limits;
 use spec_reader::fault::SpecFault;
 use spec_reader::reading::read_spec;
@@ -29,14 +35,6 @@ use well_founded::examination::{Founded, Unfounded, examine};
 /// The most bytes that are read of a specification: one more than it may have.
 const MOST_READ: u64 = 65_537;
 
-/// One object of at most 1000 atoms, within a million turns.
-const USUAL: Limits = Limits {
-    min: 0,
-    max: 1000,
-    count: 1,
-    turns: 1_000_000,
-};
-
 /// An answer with the whole text that is to be written.
 #[derive(Drop)]
 pub struct Report {
@@ -45,7 +43,6 @@ pub struct Report {
 }
 
 /// The answer to the words.
-#[tactic(auto, using(crate::proofs::Told::told_words, crate::proofs::Told::told_read))]
 pub fn answer_to<S: Shelf, L: Ledger>(
     alloc: Global,
     words: &[Word],
@@ -53,21 +50,63 @@ pub fn answer_to<S: Shelf, L: Ledger>(
     steps: &mut Steps<L>,
 ) -> Result<Report, AllocError>
     ensures answer { IfOk result (λ r. Answers (record { words = words.now; content = S.content shelf.old; before = S.faults shelf.old; after = S.faults shelf.new }) r.status r.text.items) }
+    ensures unread { AreRefused words.now → shelf.new ≡ shelf.old }
     ensures content { S.content shelf.new ≡ S.content shelf.old }
     ensures counts { (name : List ℕ) → S.faults shelf.old name ≤ S.faults shelf.new name }
 {
-    let Some(command) = command_of(words) else {
-        let text = line(alloc, "refused words\n")?;
-        return Ok(Report {
-            status: Status::WordsRefused,
-            text,
-        });
-    };
-    let file = match command {
-        Command::Spec { file } => file,
-        Command::Oracle { file, .. } => file,
-        Command::Sample { file, .. } => file,
-    };
+    match read_words(alloc, words) {
+        Ok(command) => of_command(alloc, &command, shelf, steps),
+        Err(WordsFault::OutOfMemory) => Err(AllocError),
+        Err(fault) => {
+            let text = words_refusal(alloc, fault)?.into_bytes();
+            Ok(Report {
+                status: Status::WordsRefused,
+                text,
+            })
+        }
+    }
+}
+
+/// The answer to the words that stand for this command.
+fn of_command<S: Shelf, L: Ledger>(
+    alloc: Global,
+    command: &Command,
+    shelf: &mut S,
+    steps: &mut Steps<L>,
+) -> Result<Report, AllocError>
+    requires stood_for { IsStoodFor command.now }
+    ensures answer { IfOk result (λ r. (w : World) → IsMet w (S.content shelf.old) (S.faults shelf.old) (S.faults shelf.new) → IsCommand w.words command.now → Answers w r.status r.text.items) }
+    ensures unread { ¬ (IsBuilt command.now) → shelf.new ≡ shelf.old }
+    ensures content { S.content shelf.new ≡ S.content shelf.old }
+    ensures counts { (name : List ℕ) → S.faults shelf.old name ≤ S.faults shelf.new name }
+{
+    match built_file(command) {
+        Some(file) => of_file(alloc, command, file, shelf, steps),
+        None => {
+            let text = line(alloc, "refused not yet\n")?;
+            Ok(Report {
+                status: Status::WordsRefused,
+                text,
+            })
+        }
+    }
+}
+
+/// The answer to the words that stand for a command over this file.
+fn of_file<S: Shelf, L: Ledger>(
+    alloc: Global,
+    command: &Command,
+    file: &Word,
+    shelf: &mut S,
+    steps: &mut Steps<L>,
+) -> Result<Report, AllocError>
+    requires stood_for { IsStoodFor command.now }
+    requires built { IsBuilt command.now }
+    requires file { file.now ≡ file_of command.now }
+    ensures answer { IfOk result (λ r. (w : World) → IsMet w (S.content shelf.old) (S.faults shelf.old) (S.faults shelf.new) → IsCommand w.words command.now → Answers w r.status r.text.items) }
+    ensures content { S.content shelf.new ≡ S.content shelf.old }
+    ensures counts { (name : List ℕ) → S.faults shelf.old name ≤ S.faults shelf.new name }
+{
     match read_up_to(alloc, shelf, file, MOST_READ) {
         Ok(bytes) => of_text(alloc, command, bytes.as_slice(), shelf, steps),
         Err(ReadStop::Failed) => {
@@ -81,6 +120,23 @@ pub fn answer_to<S: Shelf, L: Ledger>(
     }
 }
 
+/// The file that a command names; None exactly where the command isn't built yet.
+fn built_file(command: &Command) -> Option<&Word>
+    ensures built { IfSome result (λ file. IsBuilt command.now) }
+    ensures file { IfSome result (λ file. file.now ≡ file_of command.now) }
+    ensures not_yet { IfNone result (¬ (IsBuilt command.now)) }
+{
+    match command {
+        Command::Spec { file } => Some(file),
+        Command::Oracle { file, .. } => Some(file),
+        Command::Sample { file, .. } => Some(file),
+        Command::Pool { .. }
+        | Command::Verify { .. }
+        | Command::Migrate { .. }
+        | Command::Bulk { .. } => None,
+    }
+}
+
 /// A line as bytes.
 fn line(alloc: Global, line: &str) -> Result<Vec<u8>, AllocError>
     ensures told { IfOk result (λ text. text.items ≡ line.now) }
@@ -91,15 +147,16 @@ fn line(alloc: Global, line: &str) -> Result<Vec<u8>, AllocError>
 }
 
 /// The answer where these bytes were read of a command's specification.
-#[tactic(auto, using(crate::proofs::Told::told_text))]
 fn of_text<S: Shelf, L: Ledger>(
     alloc: Global,
-    command: Command<'_>,
+    command: &Command,
     bytes: &[u8],
     shelf: &mut S,
     steps: &mut Steps<L>,
 ) -> Result<Report, AllocError>
-    ensures answer { IfOk result (λ r. (w : World) → IsMet w (S.content shelf.old) (S.faults shelf.old) (S.faults shelf.new) → IsAsked w (named command.entry) bytes.now → Answers w r.status r.text.items) }
+    requires stood_for { IsStoodFor command.now }
+    requires built { IsBuilt command.now }
+    ensures answer { IfOk result (λ r. (w : World) → IsMet w (S.content shelf.old) (S.faults shelf.old) (S.faults shelf.new) → IsAsked w command.now bytes.now → Answers w r.status r.text.items) }
     ensures content { S.content shelf.new ≡ S.content shelf.old }
     ensures counts { (name : List ℕ) → S.faults shelf.old name ≤ S.faults shelf.new name }
 {
@@ -120,14 +177,16 @@ fn of_text<S: Shelf, L: Ledger>(
 #[tactic(auto, using(crate::proofs::Told::told_cause, crate::proofs::Told::is_named))]
 fn of_system<S: Shelf, L: Ledger>(
     alloc: Global,
-    command: Command<'_>,
+    command: &Command,
     bytes: &[u8],
     system: System,
     shelf: &mut S,
     steps: &mut Steps<L>,
 ) -> Result<Report, AllocError>
+    requires stood_for { IsStoodFor command.now }
+    requires built { IsBuilt command.now }
     requires accepted { IsAccepted bytes.now system }
-    ensures answer { IfOk result (λ r. (w : World) → IsMet w (S.content shelf.old) (S.faults shelf.old) (S.faults shelf.new) → IsAsked w (named command.entry) bytes.now → Answers w r.status r.text.items) }
+    ensures answer { IfOk result (λ r. (w : World) → IsMet w (S.content shelf.old) (S.faults shelf.old) (S.faults shelf.new) → IsAsked w command.now bytes.now → Answers w r.status r.text.items) }
     ensures content { S.content shelf.new ≡ S.content shelf.old }
     ensures counts { (name : List ℕ) → S.faults shelf.old name ≤ S.faults shelf.new name }
 {
@@ -148,14 +207,16 @@ fn of_system<S: Shelf, L: Ledger>(
 #[tactic(auto, using(crate::proofs::Told::told_spec))]
 fn of_founded<S: Shelf, L: Ledger>(
     alloc: Global,
-    command: Command<'_>,
+    command: &Command,
     bytes: &[u8],
     founded: &Founded,
     shelf: &mut S,
     steps: &mut Steps<L>,
 ) -> Result<Report, AllocError>
+    requires stood_for { IsStoodFor command.now }
+    requires built { IsBuilt command.now }
     requires accepted { IsAccepted bytes.now founded.now }
-    ensures answer { IfOk result (λ r. (w : World) → IsMet w (S.content shelf.old) (S.faults shelf.old) (S.faults shelf.new) → IsAsked w (named command.entry) bytes.now → Answers w r.status r.text.items) }
+    ensures answer { IfOk result (λ r. (w : World) → IsMet w (S.content shelf.old) (S.faults shelf.old) (S.faults shelf.new) → IsAsked w command.now bytes.now → Answers w r.status r.text.items) }
     ensures content { S.content shelf.new ≡ S.content shelf.old }
     ensures counts { (name : List ℕ) → S.faults shelf.old name ≤ S.faults shelf.new name }
 {
@@ -168,8 +229,37 @@ fn of_founded<S: Shelf, L: Ledger>(
                 text,
             })
         }
-        Command::Oracle { x, .. } => bounded::<48, L>(alloc, founded, x, steps),
-        Command::Sample { x, tape, .. } => of_sample(alloc, founded, x, tape, shelf, steps),
+        Command::Oracle { x, fraction, .. } => of_oracle(alloc, founded, *x, *fraction, steps),
+        Command::Sample {
+            x,
+            tape,
+            limits,
+            fraction,
+            ..
+        } => of_sample(alloc, founded, *x, *fraction, *limits, tape, shelf, steps),
+        Command::Pool { .. }
+        | Command::Verify { .. }
+        | Command::Migrate { .. }
+        | Command::Bulk { .. } => unreachable!(),
+    }
+}
+
+/// The answer where bounds of the specification's classes are asked for, in units of `2^-fraction`.
+fn of_oracle<L: Ledger>(
+    alloc: Global,
+    founded: &Founded,
+    x: Fraction,
+    fraction: u32,
+    steps: &mut Steps<L>,
+) -> Result<Report, AllocError>
+    requires fraction_bits { (fraction ≡ 40) ⊎ (fraction ≡ 48) ⊎ (fraction ≡ 52) }
+    ensures { IfOk result (λ r. Bounded (setting founded.now x.num x.den fraction) r.status r.text.items) }
+{
+    match fraction {
+        40 => bounded::<40, L>(alloc, founded, x, steps),
+        48 => bounded::<48, L>(alloc, founded, x, steps),
+        52 => bounded::<52, L>(alloc, founded, x, steps),
+        _ => unreachable!(),
     }
 }
 
@@ -178,16 +268,37 @@ fn of_sample<S: Shelf, L: Ledger>(
     alloc: Global,
     founded: &Founded,
     x: Fraction,
-    tape: &Word,
+    fraction: u32,
+    limits: Limits,
+    tape: &TapeWord,
     shelf: &mut S,
     steps: &mut Steps<L>,
 ) -> Result<Report, AllocError>
-    ensures sampled { IfOk result (λ r. Sampled (setting founded.now x.num x.den 48) usual (met (TapeSource.Named tape.now) (S.content shelf.old) (S.faults shelf.old) (S.faults shelf.new)) r.status r.text.items) }
+    requires fraction_bits { (fraction ≡ 40) ⊎ (fraction ≡ 48) ⊎ (fraction ≡ 52) }
+    requires limits { AreLimits (limits_of limits) }
+    ensures sampled { IfOk result (λ r. Sampled (setting founded.now x.num x.den fraction) (limits_of limits) (met (source_of tape.now) (S.content shelf.old) (S.faults shelf.old) (S.faults shelf.new)) r.status r.text.items) }
     ensures content { S.content shelf.new ≡ S.content shelf.old }
     ensures counts { (name : List ℕ) → S.faults shelf.old name ≤ S.faults shelf.new name }
 {
-    let tape = Tape::over(Word::from_bytes(alloc, tape.bytes())?);
-    sampled::<48, S, L>(alloc, founded, x, USUAL, tape, shelf, steps)
+    let tape = tape_of(alloc, tape)?;
+    match fraction {
+        40 => sampled::<40, S, L>(alloc, founded, x, limits, tape, shelf, steps),
+        48 => sampled::<48, S, L>(alloc, founded, x, limits, tape, shelf, steps),
+        52 => sampled::<52, S, L>(alloc, founded, x, limits, tape, shelf, steps),
+        _ => unreachable!(),
+    }
+}
+
+/// The tape of a sample, of which no bit is used.
+fn tape_of(alloc: Global, word: &TapeWord) -> Result<Tape, AllocError>
+    ensures source { IfOk result (λ tape. tape.source ≡ source_of word.now) }
+    ensures unused { IfOk result (λ tape. tape.used ≡ 0) }
+    ensures belongs { IfOk result (λ tape. (contents : List ℕ → Option (List ℕ)) → Belongs contents tape) }
+{
+    match word {
+        TapeWord::File(name) => Ok(Tape::over(Word::from_bytes(alloc, name.bytes())?)),
+        TapeWord::Seed(seed) => Ok(Tape::seeded(*seed)),
+    }
 }
 
 /// A specification in its canonical form, and the closing line.

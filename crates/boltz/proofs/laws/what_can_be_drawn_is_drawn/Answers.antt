@@ -2,4 +2,4 @@ use Rattle.boltz.proofs.Complete.{drawn}
 use Rattle.boltz.proofs.laws.what_can_be_drawn_is_drawn.Goals as goal
 
 pub returns : goal.returns
-returns c = record { drawn = λ w s num den turns base bytes ending status text. drawn w s num den turns base bytes ending status text }
+returns c = record { drawn = drawn }

@@ -1,5 +1,4 @@
 use Rattle.std.proofs.Common.{◌≡◌, ap, ◌∙◌}
-use Rattle.boltz.specs.Reads.{named}
 use Rattle.boltz.specs.Refusals.{cause_line}
 use Rattle.boltz.proofs.Told.{told_cause}
 use Rattle.boltz.proofs.report.of_system.Goals as goal
@@ -8,4 +7,4 @@ use Rattle.boltz.proofs.report.of_system.Goals as goal
 pub returns-in_ok-text-in-Err-clause-answer : goal.returns-in_ok-text-in-Err-clause-answer
 returns-in_ok-text-in-Err-clause-answer g c =
     let line : c.in_ok-text-in-Err.text.items ≡ cause_line c.args.system c.in-Err.field-0.cause = (c.in_ok-text-in-Err.ensures.line ∙ ap (λ s. cause_line s c.in-Err.field-0.cause) c.in-Err.ensures.unchanged) in
-    λ w met asked. told_cause w (named c.args.command) c.args.bytes.now c.args.system c.in-Err.field-0.cause c.in_ok-text-in-Err.text.items asked c.requires.accepted (c.in_ok-text-in-Err.ensures.memory) c.in-Err.ensures.cause line
+    λ w met asked. told_cause w c.args.command.now c.args.bytes.now c.args.system c.in-Err.field-0.cause c.in_ok-text-in-Err.text.items asked c.requires.accepted (c.in_ok-text-in-Err.ensures.memory) c.in-Err.ensures.cause line
