@@ -1,5 +1,5 @@
 -- Labels that bits give are ideal: a labelling that gives all labels stands for the ideal labelling, for all numbers of its cells.
-use Rattle.std.proofs.Common.{◌≡◌, ℕ, Bool, true, false, cond, zero, suc, ◌+◌, ◌-◌, ◌*◌, ◌/◌, ◌^◌, ◌<◌, ◌≤◌, List, [], ◌∷◌, ◌++◌, length, remove, Option, Some, None, refl, sym, ◌∙◌, ap, subst, arith, append-nil}
+use Rattle.std.proofs.Common.{◌≡◌, ℕ, Bool, true, false, cond, zero, suc, ◌+◌, ◌*◌, ◌/◌, ◌^◌, ◌<◌, ◌≤◌, List, [], ◌∷◌, ◌++◌, length, Some, None, refl, sym, ◌∙◌, ap, subst, arith, append-nil}
 use Rattle.std.specs.Prelude.{nat_le}
 use Rattle.std.proofs.Math.Nat.{mul-lt-mul_of_pos_right}
 use Rattle.std.proofs.lemmas.Bool.{leb-true}
@@ -8,7 +8,7 @@ use Rattle.std.proofs.lemmas.List.Edits.{length-remove}
 use Rattle.bz_model.specs.declared.cell.Cell.{Cell}
 use Rattle.bz_model.specs.Cell.{IsCell}
 use Rattle.bz_model.specs.Labels.{numbers_from}
-use Rattle.choice_draw.specs.Decision.{whole_from, whole_decision}
+use Rattle.choice_draw.specs.Decision.{whole_decision}
 use Rattle.choice_draw.specs.Draw.{Bit, Draw, draw}
 use Rattle.choice_draw.specs.Whole.{Decides}
 use Rattle.choice_draw.proofs.WholeNumbers.{decides-begin}

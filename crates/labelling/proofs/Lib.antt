@@ -7,3 +7,4 @@ pub mod LabelsOn
 pub mod Naming
 pub mod ToldLabels
 pub mod IdealByBits
+pub mod Ascending

@@ -15,7 +15,7 @@ pub nodes-some : (h : ℕ) → 0 < nodes_in h
 nodes-some h = let n = nodes-leaves h in let w : 0 < 2 ^ h = pow_pos h in omega arith
 
 -- the labels are as many as the tree counts
-length-adding : (h : ℕ) (counts : List ℕ) (first : ℕ) → AddsUp h counts → length (labels_of h counts first) ≡ count_of counts
+pub length-adding : (h : ℕ) (counts : List ℕ) (first : ℕ) → AddsUp h counts → length (labels_of h counts first) ≡ count_of counts
 length-adding zero counts first few = length-replicate (count_of counts) first
 length-adding (suc h) counts first sums =
     length-append (labels_of h (left_of h counts) first) (labels_of h (right_of h counts) (first + 2 ^ h))
@@ -128,3 +128,9 @@ at-left xs ys i within = get_or_append_left xs ys 0 i within
 
 pub at-right : (xs ys : List ℕ) (n i : ℕ) → length xs ≡ n → n ≤ i → slice_index (xs ++ ys) i ≡ slice_index ys (i - n)
 at-right xs ys n i is past = get_or-append_right xs ys n i 0 is past
+
+-- a list of counts that is taken apart is a fork
+pub fork-of : (height : ℕ) (counts root halves left right : List ℕ) (nodes : ℕ) → 0 < height → length counts ≡ nodes_in height → counts ≡ root ++ halves → length root ≡ 1 → length halves + 1 ≡ length counts → halves ≡ left ++ right → length left ≡ nodes → length right + nodes ≡ length halves → nodes ≡ nodes_in (height - 1) → IsFork (height - 1) height counts root left right
+fork-of height counts root halves left right nodes some all whole one rest parts l r is =
+    let n = nodes-above height some in
+    record { above = height-above height some; whole = whole ∙ ap (λ xs. root ++ xs) parts; one = one; left_nodes = l ∙ is; right_nodes = omega arith }

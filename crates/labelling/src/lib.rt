@@ -8,6 +8,7 @@
 pub mod label;
 pub mod labelled;
 pub mod labels;
+pub mod laws;
 mod progress;
 #[cfg(test)]
 mod tests;

@@ -1,5 +1,5 @@
 //! Trees of counts: which labels remain.
-ghost use Rattle.std.specs.Prelude.{◌≡◌, ℕ, ◌+◌, ◌^◌, ◌<◌, ◌≤◌, length, remove, slice_index, IfOk};
+ghost use Rattle.std.specs.Prelude.{◌≡◌, ℕ, ◌+◌, ◌^◌, ◌<◌, ◌≤◌, length, remove, slice_index, count_by, nat_lt, IfOk};
 ghost use Rattle.bz_model.specs.Labels.{numbers_from};
 ghost use Rattle.labelling.specs.Tree.{nodes_in, count_of, labels_of, IsCountTree};
 
@@ -50,6 +50,7 @@ impl LabelTree {
     pub fn take(&mut self, i: u64) -> u64
         requires in_range { i < length self.old }
         ensures label { result ≡ slice_index self.old i }
+        ensures below { count_by (λ label. nat_lt label result) self.old ≡ i }
         ensures removed { self.new ≡ remove self.old i }
     {
         1 + take_from(self.counts.as_mut_slice(), self.height, i)
@@ -61,6 +62,7 @@ fn height_for(n: u64) -> u32
     requires { n ≤ 1000000 }
     ensures few { result ≤ 20 }
     ensures enough { n ≤ 2 ^ result }
+    ensures least { (height : ℕ) → n ≤ 2 ^ height → result ≤ height }
 {
     let mut height = 0;
     'heights: while leaves_in(height) < n {

@@ -1,7 +1,6 @@
 -- A turn that labels a shape is the turn of a drawing by bits, and leaves a drawing that belongs.
-use Rattle.std.proofs.Common.{◌≡◌, ◌≢◌, ℕ, ◌+◌, ◌-◌, ◌<◌, ◌≤◌, Bool, true, List, [], ◌∷◌, ◌++◌, Option, Some, None, IfSome, refl, sym, ◌∙◌, ap, subst, arith, add-one}
+use Rattle.std.proofs.Common.{◌≡◌, ◌≢◌, ℕ, ◌+◌, ◌-◌, ◌<◌, ◌≤◌, Bool, true, List, ◌++◌, Option, Some, None, IfSome, refl, sym, ◌∙◌, ap, subst, arith, add-one}
 use Rattle.std.specs.Prelude.{option_map}
-use Rattle.std.specs.Option.{is_some}
 use Rattle.bz_model.specs.declared.cell.Cell.{Cell}
 use Rattle.bz_model.specs.declared.cell.Bounds.{Bounds}
 use Rattle.bz_model.specs.Fraction.{Fraction}
@@ -14,7 +13,7 @@ use Rattle.shape_sampler.specs.Visit.{Chooser, Attempt}
 use Rattle.shape_sampler.specs.Answer.{ChoosesBy}
 use Rattle.labelling.specs.declared.labelled.Labelled.{Labelled}
 use Rattle.labelling.specs.declared.labelled.Labelled.TheVariants as labelled
-use Rattle.labelling.specs.LabelsByBits.{Labelling, labelling, bits_in}
+use Rattle.labelling.specs.LabelsByBits.{labelling, bits_in}
 use Rattle.labelling.specs.Answer.{told_labelling, IsLabelling, AreIdealLabels, OnLabels, StraddlesAt}
 use Rattle.labelling.specs.Answer as told
 use Rattle.size_window.specs.declared.ending.Ending.{Ending}

@@ -12,7 +12,7 @@ use Rattle.choice_draw.specs.Draw.{bit_of}
 use Rattle.shape_sampler.specs.declared.stepped.Stepped.{Stepped}
 use Rattle.shape_sampler.specs.declared.stepped.Stepped.TheVariants as stepped
 use Rattle.shape_sampler.specs.Visit.{Chooser, Attempt, visit}
-use Rattle.shape_sampler.specs.State.{SessionState, Leaves, attempt_of, stopped_by, emptied}
+use Rattle.shape_sampler.specs.State.{SessionState, Leaves, attempt_of, stopped_by}
 use Rattle.shape_sampler.specs.Belonging.{IsIdealShape, IsIdealOver}
 use Rattle.shape_sampler.specs.Answer.{told_visit, ChoosesBy, IsVisit, IsIdealAnswer, Draws}
 use Rattle.shape_sampler.specs.Answer as told

@@ -5,7 +5,6 @@ use Rattle.bz_model.specs.declared.cell.Cell.{Cell}
 use Rattle.bz_model.specs.Fraction.{Fraction}
 use Rattle.bz_model.specs.Spec.{Spec}
 use Rattle.bz_model.specs.Cell.{AreInCells}
-use Rattle.bz_model.specs.Object.{Object}
 use Rattle.bz_model.specs.Measures.{size}
 use Rattle.bz_model.specs.Making.{ClassMakes, Just}
 use Rattle.bz_model.specs.Run.{Window, Kept, IdealRun, KeepsLabels}

@@ -34,7 +34,7 @@ pub record Sampling : Type 0 where
   pub limits : Limits
   pub tape : ℕ → Option Bool
 
--- The kept state. Where no attempt is under way, nothing is pending, tokens and cells are empty, and the room is 0.
+-- The kept state: the attempt under way, whether it is a made shape that awaits its labels, the counts and the ending. A shape that awaits its labels has nothing pending. Where no attempt is under way, nothing is pending, tokens and cells are empty, and the room is 0.
 pub record State : Type 0 where
   pub attempt : Attempt
   pub awaits : Bool

@@ -1,26 +1,20 @@
 -- The label is taken out of the half in which it stands.
-use Rattle.std.proofs.Common.{ℕ, ◌≡◌, ◌+◌, ◌-◌, ◌^◌, ◌≤◌, ◌<◌, List, ◌++◌, slice_index, remove, length, ap, ◌∙◌, arith}
-use Rattle.labelling.specs.Tree.{nodes_in, count_of, labels_of}
-use Rattle.labelling.proofs.Trees.{IsFork, fork-right, height-above, leaves-above, nodes-above}
+use Rattle.std.proofs.Common.{◌≡◌, ◌+◌, ◌-◌, ◌^◌, ◌≤◌, ◌<◌, slice_index, remove, ap, ◌∙◌, arith}
+use Rattle.labelling.specs.Tree.{count_of, labels_of}
+use Rattle.labelling.proofs.Trees.{fork-of, fork-right, leaves-above}
 use Rattle.labelling.proofs.Taking.{left-tree, left-removed, left-label, right-within, right-tree, right-removed, right-label}
 use Rattle.labelling.proofs.tree.+take_from.Goals as goal
 
--- a list that is taken apart is a fork
-apart : (height : ℕ) (counts root halves left right : List ℕ) (nodes : ℕ) → 0 < height → length counts ≡ nodes_in height → counts ≡ root ++ halves → length root ≡ 1 → length halves + 1 ≡ length counts → halves ≡ left ++ right → length left ≡ nodes → length right + nodes ≡ length halves → nodes ≡ nodes_in (height - 1) → IsFork (height - 1) height counts root left right
-apart height counts root halves left right nodes some all whole one rest parts l r is =
-    let n = nodes-above height some in
-    record { above = height-above height some; whole = whole ∙ ap (λ xs. root ++ xs) parts; one = one; left_nodes = l ∙ is; right_nodes = omega arith }
-
 pub take_from-requires-else-i-in_left : goal.take_from-requires-else-i-in_left
 take_from-requires-else-i-in_left t c =
-    let fork = apart c.args.height c.args.counts.now c.split_at_mut-root.result.0.now c.split_at_mut-root.result.1.now c.split_at_mut-left.result.0.now c.split_at_mut-left.result.1.now c.nodes_in.result (omega arith) c.requires.tree.nodes c.split_at_mut-root.ensures.value c.split_at_mut-root.ensures.front_len c.split_at_mut-root.ensures.back_len c.split_at_mut-left.ensures.value c.split_at_mut-left.ensures.front_len c.split_at_mut-left.ensures.back_len c.nodes_in.ensures in
+    let fork = fork-of c.args.height c.args.counts.now c.split_at_mut-root.result.0.now c.split_at_mut-root.result.1.now c.split_at_mut-left.result.0.now c.split_at_mut-left.result.1.now c.nodes_in.result (omega arith) c.requires.tree.nodes c.split_at_mut-root.ensures.value c.split_at_mut-root.ensures.front_len c.split_at_mut-root.ensures.back_len c.split_at_mut-left.ensures.value c.split_at_mut-left.ensures.front_len c.split_at_mut-left.ensures.back_len c.nodes_in.ensures in
     let past : count_of c.split_at_mut-left.result.0.now ≤ c.args.i = omega (arith, c.from-in_left.ensures) in
     let within = right-within fork c.requires.tree c.args.i c.requires.in_range past in
     (omega arith, (omega arith, (fork-right fork c.requires.tree, omega (arith, within, c.from-in_left.ensures))))
 
 pub returns-then-i-in_left-clause-tree : goal.returns-then-i-in_left-clause-tree
 returns-then-i-in_left-clause-tree t c =
-    let fork = apart c.args.height c.args.counts.now c.split_at_mut-root.result.0.now c.split_at_mut-root.result.1.now c.split_at_mut-left.result.0.now c.split_at_mut-left.result.1.now c.nodes_in.result (omega arith) c.requires.tree.nodes c.split_at_mut-root.ensures.value c.split_at_mut-root.ensures.front_len c.split_at_mut-root.ensures.back_len c.split_at_mut-left.ensures.value c.split_at_mut-left.ensures.front_len c.split_at_mut-left.ensures.back_len c.nodes_in.ensures in
+    let fork = fork-of c.args.height c.args.counts.now c.split_at_mut-root.result.0.now c.split_at_mut-root.result.1.now c.split_at_mut-left.result.0.now c.split_at_mut-left.result.1.now c.nodes_in.result (omega arith) c.requires.tree.nodes c.split_at_mut-root.ensures.value c.split_at_mut-root.ensures.front_len c.split_at_mut-root.ensures.back_len c.split_at_mut-left.ensures.value c.split_at_mut-left.ensures.front_len c.split_at_mut-left.ensures.back_len c.nodes_in.ensures in
     let here : c.args.i < count_of c.split_at_mut-left.result.0.now = omega (arith, c.from-in_left.ensures) in
     left-tree fork c.requires.tree c.args.i c.requires.in_range c.take_from.new.counts c.take_from.auto.counts here c.take_from.ensures.tree c.take_from.ensures.count
 
@@ -29,19 +23,19 @@ returns-then-i-in_left-clause-within t c = let leaves = leaves-above c.args.heig
 
 pub returns-then-i-in_left-clause-label : goal.returns-then-i-in_left-clause-label
 returns-then-i-in_left-clause-label t c first =
-    let fork = apart c.args.height c.args.counts.now c.split_at_mut-root.result.0.now c.split_at_mut-root.result.1.now c.split_at_mut-left.result.0.now c.split_at_mut-left.result.1.now c.nodes_in.result (omega arith) c.requires.tree.nodes c.split_at_mut-root.ensures.value c.split_at_mut-root.ensures.front_len c.split_at_mut-root.ensures.back_len c.split_at_mut-left.ensures.value c.split_at_mut-left.ensures.front_len c.split_at_mut-left.ensures.back_len c.nodes_in.ensures in
+    let fork = fork-of c.args.height c.args.counts.now c.split_at_mut-root.result.0.now c.split_at_mut-root.result.1.now c.split_at_mut-left.result.0.now c.split_at_mut-left.result.1.now c.nodes_in.result (omega arith) c.requires.tree.nodes c.split_at_mut-root.ensures.value c.split_at_mut-root.ensures.front_len c.split_at_mut-root.ensures.back_len c.split_at_mut-left.ensures.value c.split_at_mut-left.ensures.front_len c.split_at_mut-left.ensures.back_len c.nodes_in.ensures in
     let here : c.args.i < count_of c.split_at_mut-left.result.0.now = omega (arith, c.from-in_left.ensures) in
     left-label fork c.requires.tree c.args.i c.requires.in_range c.take_from.new.counts c.take_from.auto.counts here first (first + c.take_from.result) (c.take_from.ensures.label first)
 
 pub returns-then-i-in_left-clause-removed : goal.returns-then-i-in_left-clause-removed
 returns-then-i-in_left-clause-removed t c first =
-    let fork = apart c.args.height c.args.counts.now c.split_at_mut-root.result.0.now c.split_at_mut-root.result.1.now c.split_at_mut-left.result.0.now c.split_at_mut-left.result.1.now c.nodes_in.result (omega arith) c.requires.tree.nodes c.split_at_mut-root.ensures.value c.split_at_mut-root.ensures.front_len c.split_at_mut-root.ensures.back_len c.split_at_mut-left.ensures.value c.split_at_mut-left.ensures.front_len c.split_at_mut-left.ensures.back_len c.nodes_in.ensures in
+    let fork = fork-of c.args.height c.args.counts.now c.split_at_mut-root.result.0.now c.split_at_mut-root.result.1.now c.split_at_mut-left.result.0.now c.split_at_mut-left.result.1.now c.nodes_in.result (omega arith) c.requires.tree.nodes c.split_at_mut-root.ensures.value c.split_at_mut-root.ensures.front_len c.split_at_mut-root.ensures.back_len c.split_at_mut-left.ensures.value c.split_at_mut-left.ensures.front_len c.split_at_mut-left.ensures.back_len c.nodes_in.ensures in
     let here : c.args.i < count_of c.split_at_mut-left.result.0.now = omega (arith, c.from-in_left.ensures) in
     left-removed fork c.requires.tree c.args.i c.requires.in_range c.take_from.new.counts c.take_from.auto.counts here first (c.take_from.ensures.removed first)
 
 pub returns-else-i-in_left-clause-tree : goal.returns-else-i-in_left-clause-tree
 returns-else-i-in_left-clause-tree t c =
-    let fork = apart c.args.height c.args.counts.now c.split_at_mut-root.result.0.now c.split_at_mut-root.result.1.now c.split_at_mut-left.result.0.now c.split_at_mut-left.result.1.now c.nodes_in.result (omega arith) c.requires.tree.nodes c.split_at_mut-root.ensures.value c.split_at_mut-root.ensures.front_len c.split_at_mut-root.ensures.back_len c.split_at_mut-left.ensures.value c.split_at_mut-left.ensures.front_len c.split_at_mut-left.ensures.back_len c.nodes_in.ensures in
+    let fork = fork-of c.args.height c.args.counts.now c.split_at_mut-root.result.0.now c.split_at_mut-root.result.1.now c.split_at_mut-left.result.0.now c.split_at_mut-left.result.1.now c.nodes_in.result (omega arith) c.requires.tree.nodes c.split_at_mut-root.ensures.value c.split_at_mut-root.ensures.front_len c.split_at_mut-root.ensures.back_len c.split_at_mut-left.ensures.value c.split_at_mut-left.ensures.front_len c.split_at_mut-left.ensures.back_len c.nodes_in.ensures in
     let past : count_of c.split_at_mut-left.result.0.now ≤ c.args.i = omega (arith, c.from-in_left.ensures) in
     let half = c.take_from-else-i-in_left in
     right-tree fork c.requires.tree c.args.i c.requires.in_range past half.new.counts half.auto.counts half.ensures.tree half.ensures.count
@@ -51,7 +45,7 @@ returns-else-i-in_left-clause-within t c = let leaves = leaves-above c.args.heig
 
 pub returns-else-i-in_left-clause-label : goal.returns-else-i-in_left-clause-label
 returns-else-i-in_left-clause-label t c first =
-    let fork = apart c.args.height c.args.counts.now c.split_at_mut-root.result.0.now c.split_at_mut-root.result.1.now c.split_at_mut-left.result.0.now c.split_at_mut-left.result.1.now c.nodes_in.result (omega arith) c.requires.tree.nodes c.split_at_mut-root.ensures.value c.split_at_mut-root.ensures.front_len c.split_at_mut-root.ensures.back_len c.split_at_mut-left.ensures.value c.split_at_mut-left.ensures.front_len c.split_at_mut-left.ensures.back_len c.nodes_in.ensures in
+    let fork = fork-of c.args.height c.args.counts.now c.split_at_mut-root.result.0.now c.split_at_mut-root.result.1.now c.split_at_mut-left.result.0.now c.split_at_mut-left.result.1.now c.nodes_in.result (omega arith) c.requires.tree.nodes c.split_at_mut-root.ensures.value c.split_at_mut-root.ensures.front_len c.split_at_mut-root.ensures.back_len c.split_at_mut-left.ensures.value c.split_at_mut-left.ensures.front_len c.split_at_mut-left.ensures.back_len c.nodes_in.ensures in
     let past : count_of c.split_at_mut-left.result.0.now ≤ c.args.i = omega (arith, c.from-in_left.ensures) in
     let half = c.take_from-else-i-in_left in
     let sum : first + (c.leaves_in.result + half.result) ≡ first + 2 ^ (c.args.height - 1) + half.result = omega (arith, c.leaves_in.ensures) in
@@ -60,7 +54,7 @@ returns-else-i-in_left-clause-label t c first =
 
 pub returns-else-i-in_left-clause-removed : goal.returns-else-i-in_left-clause-removed
 returns-else-i-in_left-clause-removed t c first =
-    let fork = apart c.args.height c.args.counts.now c.split_at_mut-root.result.0.now c.split_at_mut-root.result.1.now c.split_at_mut-left.result.0.now c.split_at_mut-left.result.1.now c.nodes_in.result (omega arith) c.requires.tree.nodes c.split_at_mut-root.ensures.value c.split_at_mut-root.ensures.front_len c.split_at_mut-root.ensures.back_len c.split_at_mut-left.ensures.value c.split_at_mut-left.ensures.front_len c.split_at_mut-left.ensures.back_len c.nodes_in.ensures in
+    let fork = fork-of c.args.height c.args.counts.now c.split_at_mut-root.result.0.now c.split_at_mut-root.result.1.now c.split_at_mut-left.result.0.now c.split_at_mut-left.result.1.now c.nodes_in.result (omega arith) c.requires.tree.nodes c.split_at_mut-root.ensures.value c.split_at_mut-root.ensures.front_len c.split_at_mut-root.ensures.back_len c.split_at_mut-left.ensures.value c.split_at_mut-left.ensures.front_len c.split_at_mut-left.ensures.back_len c.nodes_in.ensures in
     let past : count_of c.split_at_mut-left.result.0.now ≤ c.args.i = omega (arith, c.from-in_left.ensures) in
     let half = c.take_from-else-i-in_left in
     right-removed fork c.requires.tree c.args.i c.requires.in_range past half.new.counts half.auto.counts first

@@ -1,5 +1,5 @@
 -- One turn.
-use Rattle.std.proofs.Common.{◌≡◌, ◌<◌, ◌≤◌, length, Some, None, sym, ◌∙◌, ap, subst, arith}
+use Rattle.std.proofs.Common.{◌≡◌, ◌<◌, ◌≤◌, length, Some, sym, ◌∙◌, ap, subst, arith}
 use Rattle.bit_tape.specs.Tape.{bits_of}
 use Rattle.bz_model.specs.Spec.{Spec}
 use Rattle.class_system.specs.Views.{spec_mode}
@@ -8,7 +8,7 @@ use Rattle.size_window.specs.Turn.{outcome_of, IfStraddles, Settles}
 use Rattle.size_window.specs.LabelTurn.{IsLabelTurn}
 use Rattle.size_window.specs.contracts.drawing.Drawing.{the_view}
 use Rattle.size_window.proofs.Turning.{idle-turn}
-use Rattle.size_window.proofs.Belonging.{Visits, IsLeft, left-then, left-on, left-visits, idle-belongs, open-node, six-raised}
+use Rattle.size_window.proofs.Belonging.{Visits, left-then, left-on, left-visits, idle-belongs, open-node, six-raised}
 use Rattle.size_window.proofs.Turns.{may-settle-seen, belongs-then, kept-then, counted-then, turn-then}
 use Rattle.size_window.proofs.LabelTurns.{shape-fits, labels-belong, labels-kept, label-turn}
 use Rattle.size_window.proofs.drawing.Drawing.turn.Goals as goal
@@ -114,6 +114,7 @@ returns-clause-turned g c =
     let v = left-visits w.0 (ap (λ (d : DrawingState). d.waiting) (sym w.1) ∙ nothing.0) in
     let mode = sym (c.mode.ensures.mode ∙ ap (λ (t : Spec). t.mode) c.system.ensures.system) in
     let settled = subst (λ n. Settles (spec_mode c.mode.result) c.outcome_by-outcome.result n (record (the_view c.self.inside) { session = c.step-answer.new.self }) c.settle.result c.settle.new.self) c.used.ensures c.settle.ensures in
-    let outcome = c.outcome_by-outcome.ensures ∙ ap (λ t. outcome_of t c.step-answer.result) c.step-answer.ensures.table in
+    let table = g.O.Oracle.table c.step-answer.new.oracle in
+    let outcome = ◌∙◌ {b = outcome_of table c.step-answer.result} c.outcome_by-outcome.ensures (ap (λ t. outcome_of t c.step-answer.result) c.step-answer.ensures.table) in
     turn-then c.args.founded.now (g.O.Oracle.x c.args.oracle.now) c.args.self.now (the_view c.self.inside) (c.self.view_is ∙ nothing.1 ∙ w.1) c.requires.drawing v c.step-answer.new.self c.step-answer.ensures.session c.step-answer.result c.step-answer.ensures.leaves c.step-answer.ensures.ideal (g.O.Oracle.table c.args.oracle.now) (spec_mode c.mode.result) mode c.outcome_by-outcome.result outcome c.step-answer.new.tape.used c.settle.result c.settle.new.self settled
     g.row.F (bits_of c.args.tape.now.source (g.S.Shelf.content c.args.shelf.now)) c.args.tape.now.used c.step-answer.ensures.used.0 c.step-answer.ensures.draws c.step-answer.ensures.exact
