@@ -1,6 +1,6 @@
 -- The member of a pool that was lent, and the pool with it written back.
 use Rattle.std.proofs.Common.{◌≡◌, ℕ, ◌<◌, List, length, refl, sym, ◌∙◌, ap, subst}
-use Rattle.std.specs.Prelude.{Option, Some, option_map, slice_get, slice_set, slice_index_or}
+use Rattle.std.specs.Prelude.{Option, Some, IfSome, option_map, slice_get, slice_set, slice_index_or}
 use Rattle.std.proofs.lemmas.List.{map-set, set-get_or}
 use Rattle.std.proofs.lemmas.List.Elements.{All-set}
 use Rattle.std.proofs.lemmas.Option.{slice_get_read, slice_get_within, get_or_from_slice_get, slice_get-map}
@@ -13,7 +13,7 @@ use Rattle.size_window.specs.Drawing.{DrawingBelongs}
 use Rattle.session_pool.specs.declared.pooled.Pooled.{Pooled}
 use Rattle.session_pool.specs.Member.{MemberState, bits_to_nodes}
 use Rattle.session_pool.specs.Turn.{IsMemberTurn, IsPoolTurn}
-use Rattle.session_pool.specs.Pool.{tapes_of, sources_of, PoolBelongs, TapesBelong, bits_between, bits_to_nodes_at, ending_at, ending_by}
+use Rattle.session_pool.specs.Pool.{tapes_of, sources_of, source_at, PoolBelongs, TapesBelong, bits_between, bits_to_nodes_at, ending_at, ending_by}
 use Rattle.session_pool.proofs.Replaced.{replaced-here}
 
 -- the tape that was lent belongs as all do
@@ -51,6 +51,14 @@ module _ (items pool : List MemberState) (number : ℕ) (m later : MemberState) 
 
   pub ending-is : ending_at (slice_set items number later) number ≡ later.drawing.ending
   ending-is = ap ending_by back-at
+
+  -- where its tape's bits come from
+  pub source-was : source_at pool number ≡ Some m.tape.source
+  source-was = ap (option_map (λ (k : MemberState). k.tape.source)) h.at
+
+  -- what is said of it
+  pub of-source : (P : TapeSource → Type 0) → P m.tape.source → IfSome (source_at pool number) P
+  of-source P p = subst (λ o. IfSome o P) (sym source-was) p
 
   -- the bits that its turn gave to numbers of nodes
   pub bits-lent : bits_to_nodes m later ≡ bits_to_nodes_at number pool (slice_set items number later)

@@ -1,5 +1,5 @@
 -- What contracts see of a pool: the list of its members.
-use Rattle.std.specs.Prelude.{◌≡◌, ℕ, List, map, slice_get, Option, Some, None}
+use Rattle.std.specs.Prelude.{◌≡◌, ℕ, List, map, slice_get, Option, Some, None, option_map}
 use Rattle.std.specs.List.{All}
 use Rattle.bz_model.specs.Fraction.{Fraction}
 use Rattle.bz_model.specs.Spec.{Spec}
@@ -16,6 +16,10 @@ tapes_of pool = map (λ m. m.tape) pool
 -- Where the bits of its tapes come from, in order.
 abbrev pub sources_of : List MemberState → List TapeSource
 sources_of pool = map (λ m. m.tape.source) pool
+
+-- Where the bits of the tape of this number come from.
+abbrev pub source_at : List MemberState → (number : ℕ) → Option TapeSource
+source_at pool number = option_map (λ m. m.tape.source) (slice_get pool number)
 
 -- A pool belongs to a specification and x where each of its drawings does.
 pub record PoolBelongs (s : Spec) (x : Fraction) (pool : List MemberState) : Type 0 where

@@ -1,8 +1,8 @@
 //! One drawing of a pool, with its tape and what it kept.
-ghost use Rattle.std.specs.Prelude.{◌≡◌, ◌≢◌, ℕ, ◌+◌, ◌≤◌, max, [], List, IfOk, IsSome, None};
+ghost use Rattle.std.specs.Prelude.{◌≡◌, ◌≢◌, ℕ, ◌+◌, ◌≤◌, max, [], List, IfOk, IsSome, Some, None};
 ghost use Rattle.bz_model.specs.Fraction.{Fraction};
 ghost use Rattle.bz_model.specs.Oracle.{cost_between};
-ghost use Rattle.bit_tape.specs.Tape.{Belongs};
+ghost use Rattle.bit_tape.specs.Tape.{TapeSource, Belongs, HasFault};
 ghost use Rattle.choice_draw.specs.Decision.{level_for};
 ghost use Rattle.size_window.specs.Drawing.{limits_of, AreLimits, DrawingBelongs};
 ghost use Rattle.session_pool.specs.Member.{IsNewMember, counts_of, bits_to_nodes};
@@ -85,6 +85,11 @@ impl Member {
         ensures drawing { DrawingBelongs founded.now (O.x oracle.old) self.new.drawing }
         ensures tape { Belongs (S.content shelf.new) self.new.tape }
         ensures source { self.new.tape.source ≡ self.old.tape.source }
+        ensures cause { self.old.drawing.ending ≡ None
+            → self.new.drawing.ending ≡ Some Ending.ReadFault
+            → HasFault self.old.tape.source (S.faults shelf.old) (S.faults shelf.new) }
+        ensures seeded { (seed : ℕ) → self.old.tape.source ≡ TapeSource.Seeded seed
+            → shelf.new ≡ shelf.old }
 
         ensures spec { O.spec oracle.new ≡ O.spec oracle.old }
         ensures x { O.x oracle.new ≡ O.x oracle.old }

@@ -1,14 +1,14 @@
 //! A pool of drawings.
-ghost use Rattle.std.specs.Prelude.{◌≡◌, ◌≢◌, ℕ, ◌+◌, ◌<◌, ◌≤◌, max, [], ◌∷◌, ◌++◌, List, length, map, slice_get, None, IfOk, IfSome, IsSome};
+ghost use Rattle.std.specs.Prelude.{◌≡◌, ◌≢◌, ℕ, ◌+◌, ◌<◌, ◌≤◌, max, [], ◌∷◌, ◌++◌, List, length, map, slice_get, Some, None, IfOk, IfSome, IsSome};
 ghost use Rattle.std.specs.List.{All};
 ghost use Rattle.bz_model.specs.Fraction.{Fraction};
 ghost use Rattle.bz_model.specs.Oracle.{cost_between};
 ghost use Rattle.choice_draw.specs.Decision.{level_for};
 ghost use Rattle.size_window.specs.RunByBits as run;
 ghost use Rattle.size_window.specs.Drawing.{limits_of, AreLimits};
-ghost use Rattle.bit_tape.specs.Tape.{TapeSource};
+ghost use Rattle.bit_tape.specs.Tape.{TapeSource, HasFault};
 ghost use Rattle.session_pool.specs.Member.{counts_of};
-ghost use Rattle.session_pool.specs.Pool.{IsNewPool, PoolBelongs, TapesBelong, tapes_of, sources_of, bits_to_nodes_at, ending_at};
+ghost use Rattle.session_pool.specs.Pool.{IsNewPool, PoolBelongs, TapesBelong, tapes_of, sources_of, source_at, bits_to_nodes_at, ending_at};
 ghost use Rattle.session_pool.specs.Turn.{IsPoolTurn, answer_of};
 ghost use Rattle.session_pool.specs.Interleaving.{Setting, setting, IsPoolAfter};
 
@@ -18,6 +18,7 @@ use bit_tape::tape::Tape;
 use bz_model::oracle::Oracle;
 use bz_model::steps::Steps;
 use bz_outside::shelf::Shelf;
+use size_window::ending::Ending;
 use size_window::limits::Limits;
 use std::alloc::{AllocError, Global};
 use std::marker::Model;
@@ -73,7 +74,8 @@ impl Pool {
     /// It answers `Going` exactly where that drawing goes on afterwards, and `Finished` exactly where
     /// it has ended. A drawing that had ended isn't touched. The object that a turn keeps is appended
     /// to the drawing's entries. Every other drawing stays as it was, with its tape and its entries.
-    /// All memory is taken before the first bit; `OutOfMemory` leaves pool, oracle and shelf as they
+    /// An ending becomes `ReadFault` only where the count of faults of that tape's name rose. All
+    /// memory is taken before the first bit; `OutOfMemory` leaves pool, oracle and shelf as they
     /// were.
     pub fn turn<const F: u32, O: Oracle<F>, S: Shelf, L: Ledger>(
         &mut self,
@@ -106,6 +108,10 @@ impl Pool {
             → IsPoolAfter (setting founded.now (O.x oracle.old) F (O.table oracle.old)
             (S.content shelf.old)) limits sources begun (S.faults shelf.new)
             (turns ++ number ∷ []) self.new }
+        ensures cause { ending_at self.old number ≡ None
+            → ending_at self.new number ≡ Some Ending.ReadFault
+            → IfSome (source_at self.old number)
+            (λ source. HasFault source (S.faults shelf.old) (S.faults shelf.new)) }
         ensures number { length self.new ≡ length self.old }
         ensures sources { sources_of self.new ≡ sources_of self.old }
         ensures drawings { PoolBelongs founded.now (O.x oracle.old) self.new }
@@ -122,6 +128,8 @@ impl Pool {
             + cost_between (O.cost oracle.old) (O.raised oracle.old) (O.raised oracle.new) }
         ensures content { S.content shelf.new ≡ S.content shelf.old }
         ensures faults { (other : List ℕ) → S.faults shelf.old other ≤ S.faults shelf.new other }
+        ensures seeded { (seed : ℕ) → source_at self.old number ≡ Some (TapeSource.Seeded seed)
+            → shelf.new ≡ shelf.old }
     {
         let member = &mut self.members[number];
         member.turn(founded, oracle, shelf, steps)

@@ -2,11 +2,12 @@
 use Rattle.std.proofs.Common.{max, sym, ◌∙◌, ap, subst, arith}
 use Rattle.choice_draw.specs.Decision.{level_for}
 use Rattle.std.specs.Prelude.{slice_set, IsSome}
-use Rattle.bit_tape.specs.Tape.{Belongs}
+use Rattle.std.proofs.lemmas.Option.{same_Some}
+use Rattle.bit_tape.specs.Tape.{TapeSource, Belongs, HasFault}
 use Rattle.session_pool.specs.Pool.{TapesBelong, tapes_of}
 use Rattle.session_pool.specs.Interleaving.{setting}
 use Rattle.session_pool.specs.Turn.{answer_of}
-use Rattle.session_pool.proofs.Lent.{lent-tape, is-lent, unchanged, ending-was, ending-is, bits-lent, drawings-back, tapes-back, sources-back, pool-turn}
+use Rattle.session_pool.proofs.Lent.{lent-tape, is-lent, unchanged, ending-was, ending-is, bits-lent, source-was, of-source, drawings-back, tapes-back, sources-back, pool-turn}
 use Rattle.session_pool.proofs.Pools.{pool-turns}
 use Rattle.session_pool.proofs.pool.Pool.turn.Goals as goal
 
@@ -68,3 +69,13 @@ returns-clause-node_bits g c =
     let given = c.turn.ensures.node_bits in
     let same = bits-lent c.self.inside.members.items c.args.self.now c.args.number c.index_mut-member.result.now c.turn.new.self lent in
     omega (arith, given, same)
+
+pub returns-clause-cause : goal.returns-clause-cause
+returns-clause-cause g c = λ going ended.
+    let lent = is-lent c.self.inside.members.items c.args.self.now c.args.number c.index_mut-member.result.now c.self.view_is c.requires.number c.index_mut-member.ensures.value in
+    of-source c.self.inside.members.items c.args.self.now c.args.number c.index_mut-member.result.now c.turn.new.self lent (λ source. HasFault source (g.S.Shelf.faults c.args.shelf.now) (g.S.Shelf.faults c.turn.new.shelf)) (c.turn.ensures.cause (sym (ending-was c.self.inside.members.items c.args.self.now c.args.number c.index_mut-member.result.now c.turn.new.self lent) ∙ going) (sym (ending-is c.self.inside.members.items c.args.self.now c.args.number c.index_mut-member.result.now c.turn.new.self lent) ∙ ended))
+
+pub returns-clause-seeded : goal.returns-clause-seeded
+returns-clause-seeded g c = λ seed is.
+    let lent = is-lent c.self.inside.members.items c.args.self.now c.args.number c.index_mut-member.result.now c.self.view_is c.requires.number c.index_mut-member.ensures.value in
+    c.turn.ensures.seeded seed (same_Some c.index_mut-member.result.now.tape.source (TapeSource.Seeded seed) (sym (source-was c.self.inside.members.items c.args.self.now c.args.number c.index_mut-member.result.now c.turn.new.self lent) ∙ is))
