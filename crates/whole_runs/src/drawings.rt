@@ -4,29 +4,31 @@ use crate::whole::compare;
 use std::test::Fail;
 
 #[test]
-fn words_of_no_command(rt: HostRuntime) -> Result<(), Fail> {
-    for words in [
-        "",
-        "spec",
-        "Spec s",
-        "spec ",
-        "spec -s",
-        "spec s t",
-        "sample s 1/2",
-        "sample s 0/2 --tape t",
-        "sample s 1 --tape t",
-        "sample s 1/1000001 --tape t",
-        "sample s 1/2 --tapes t",
-        "sample s 1/2 --tape -t",
+fn words_that_are_refused(rt: HostRuntime) -> Result<(), Fail> {
+    for (words, want) in [
+        ("", "refused words\n"),
+        ("spec", "refused words\n"),
+        ("Spec s", "refused words\n"),
+        ("spec ", "refused words\n"),
+        ("spec -s", "refused words\n"),
+        ("spec s t", "refused words\n"),
+        ("sample s 1/2", "refused words\n"),
+        ("sample s 1/2 --tapes t", "refused words\n"),
+        ("sample s 1/2 --tape -t", "refused words\n"),
+        ("sample s 0/2 --tape t", "refused value x\n"),
+        ("sample s 1 --tape t", "refused value x\n"),
+        ("sample s 1/1000001 --tape t", "refused value x\n"),
+        ("sample s 1/2 --seed 01", "refused value seed\n"),
+        (
+            "sample s 1/2 --tape t --min 9 --max 8",
+            "refused value min\n",
+        ),
+        ("oracle s 1/2 --fraction 47", "refused value fraction\n"),
+        ("pool s 1/2 s t", "refused not yet\n"),
+        ("bulk 1", "refused not yet\n"),
     ] {
-        compare(
-            &rt,
-            words,
-            "unlabelled\nC = Z + Z\n",
-            b"\x80",
-            2,
-            "refused words\n",
-        )?;
+        let text = "unlabelled\nC = Z + Z\n";
+        compare(&rt, words, text, b"\x80", 2, want)?;
     }
     Ok(())
 }
