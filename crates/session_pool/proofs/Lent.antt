@@ -8,12 +8,12 @@ use Rattle.std.proofs.Math.Seq.{map-set_same}
 use Rattle.bz_model.specs.declared.cell.Bounds.{Bounds}
 use Rattle.bz_model.specs.Fraction.{Fraction}
 use Rattle.bz_model.specs.Spec.{Spec}
-use Rattle.bit_tape.specs.Tape.{Belongs}
+use Rattle.bit_tape.specs.Tape.{TapeSource, Belongs}
 use Rattle.size_window.specs.Drawing.{DrawingBelongs}
 use Rattle.session_pool.specs.declared.pooled.Pooled.{Pooled}
 use Rattle.session_pool.specs.Member.{MemberState, bits_to_nodes}
 use Rattle.session_pool.specs.Turn.{IsMemberTurn, IsPoolTurn}
-use Rattle.session_pool.specs.Pool.{tapes_of, sources_of, source_at, PoolBelongs, TapesBelong, bits_between, bits_to_nodes_at, ending_at, ending_by}
+use Rattle.session_pool.specs.Pool.{tapes_of, sources_of, source_at, PoolBelongs, TapesBelong, bits_between, bits_to_nodes_at, ending_at, ending_of_member}
 use Rattle.session_pool.proofs.Replaced.{replaced-here}
 
 -- the tape that was lent belongs as all do
@@ -47,10 +47,10 @@ module _ (items pool : List MemberState) (number : ℕ) (m later : MemberState) 
 
   -- its ending, before and after
   pub ending-was : ending_at pool number ≡ m.drawing.ending
-  ending-was = ap ending_by h.at
+  ending-was = ap ending_of_member h.at
 
   pub ending-is : ending_at (slice_set items number later) number ≡ later.drawing.ending
-  ending-is = ap ending_by back-at
+  ending-is = ap ending_of_member back-at
 
   -- where its tape's bits come from
   pub source-was : source_at pool number ≡ Some m.tape.source

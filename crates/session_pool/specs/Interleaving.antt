@@ -26,6 +26,7 @@ pub record Setting : Type 0 where
   pub table : (level node : ℕ) → Bounds
   pub contents : List ℕ → Option (List ℕ)
 
+-- The setting of these.
 abbrev pub setting : Spec → Fraction → (F : ℕ) → (table : (level node : ℕ) → Bounds) → (contents : List ℕ → Option (List ℕ)) → Setting
 setting s x F table contents = record { spec = s; x = x; F = F; table = table; contents = contents }
 
@@ -38,7 +39,7 @@ abbrev pub WasAsked : (turns : ℕ) → DrawingState → Option Ending → Type 
 WasAsked turns d None = d.turns ≡ turns
 WasAsked turns d (Some ending) = d.turns + (1 - turns_of ending) ≤ turns
 
--- Why a drawing ended: Done comes only where as many objects as wanted are kept, the limit of turns only where so many turns were counted and fewer objects are kept, and a failed read only where the count of its tape's name rose. Of a number that was left open the bounds of level 6 are told.
+-- Why a drawing ended: Done comes only where as many objects as wanted are kept, the limit of turns only where so many turns were counted and fewer objects are kept, and a failed read only where the count of its tape's name rose. Of a node whose number was left open the bounds of level 6 are told.
 pub record EndedRightly (w : Setting) (limits : Limits) (source : TapeSource) (begun counts : List ℕ → ℕ) (d : DrawingState) (ending : Ending) : Type 0 where
   pub kept : ending ≡ Done → d.kept ≡ limits.count
   pub out_of_turns : ending ≡ TurnLimit → (d.kept ≢ limits.count) × (d.turns ≡ limits.turns)

@@ -34,6 +34,7 @@ pub record IsNewPool (limits : Limits) (tapes : List TapeState) (pool : List Mem
   pub same_tapes : tapes_of pool ≡ tapes
   pub each : All (λ m. IsNewMember limits m.tape m) pool
 
+-- The bits that a turn gave to numbers of nodes, where there is a drawing before and after it.
 abbrev pub bits_between : Option MemberState → Option MemberState → ℕ
 bits_between (Some m) (Some later) = bits_to_nodes m later
 bits_between _ _ = 0
@@ -42,10 +43,11 @@ bits_between _ _ = 0
 abbrev pub bits_to_nodes_at : (number : ℕ) → (pool later : List MemberState) → ℕ
 bits_to_nodes_at number pool later = bits_between (slice_get pool number) (slice_get later number)
 
-abbrev pub ending_by : Option MemberState → Option Ending
-ending_by (Some m) = m.drawing.ending
-ending_by None = None
+-- Why a drawing ended, where there is one and it ended.
+abbrev pub ending_of_member : Option MemberState → Option Ending
+ending_of_member (Some m) = m.drawing.ending
+ending_of_member None = None
 
 -- Why the drawing of this number ended, if it ended.
 abbrev pub ending_at : List MemberState → (number : ℕ) → Option Ending
-ending_at pool number = ending_by (slice_get pool number)
+ending_at pool number = ending_of_member (slice_get pool number)

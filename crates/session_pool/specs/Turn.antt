@@ -24,7 +24,7 @@ abbrev pub answer_of : Option Ending → Pooled
 answer_of None = Going
 answer_of (Some ending) = Finished
 
--- A drawing that hadn't ended answers Done exactly where as many objects as wanted are kept, and else TurnLimit exactly where as many turns as the limit were counted. It answers a failed read only where the count of its tape's name rose, and tells the bounds of level 6 of a number that it left open.
+-- A drawing that hadn't ended answers Done exactly where as many objects as wanted are kept, and else TurnLimit exactly where as many turns as the limit were counted. It answers a failed read only where the count of its tape's name rose, and tells the bounds of level 6 of a node whose number it left open.
 pub record AnswersRightly (table : (level node : ℕ) → Bounds) (m : MemberState) (before now : List ℕ → ℕ) (told : Turned) : Type 0 where
   pub done : (told ≡ turned.Finished Done) ↔ (m.drawing.kept ≡ m.drawing.limits.count)
   pub turn_limit : (told ≡ turned.Finished TurnLimit) ↔ ((m.drawing.kept ≢ m.drawing.limits.count) × (m.drawing.turns ≡ m.drawing.limits.turns))
