@@ -1,3 +1,5 @@
+pub mod Fractions
+pub mod CellLists
 pub mod Numbers
 pub mod Rows
 mod Examples

@@ -1,6 +1,6 @@
 //! A shelf over memory, whose reads fail where they are told to.
 ghost use Rattle.std.specs.Prelude.{◌≡◌, ℕ, ◌<◌, ◌≤◌, List, [], ◌∷◌, ◌++◌, length, All, IfSome, IsNone, IfOk, OnOk, OnErr, is_err, option_map};
-ghost use Rattle.bz_outside.specs.Outside.{IsPiece, Rose};
+ghost use Rattle.bz_outside.specs.Outside.{IsPiece, RoseOnce};
 ghost use Rattle.bz_outside.specs.Memory.{after_call, content_of, read_fails, piece_length};
 
 use crate::call_log::CallLog;
@@ -94,7 +94,7 @@ impl Shelf for MemoryShelf {
 
     fn piece(&mut self, name: &Word, place: u64, buf: &mut [u8]) -> Result<usize, Failed>
         ensures piece { IfOk result (λ n. IfSome (content_of self.old.files name.now) (λ bytes. IsPiece bytes place n buf.new)) }
-        ensures counts { (other : List ℕ) → self.old.calls.failed ≤ self.new.calls.failed }
+        ensures cause { OnErr result (RoseOnce self.old.calls.failed self.new.calls.failed) }
 
         // Exactly which reads fail, how many bytes the others give, and what stays.
         ensures fails { is_err result ≡ read_fails self.old name.now }

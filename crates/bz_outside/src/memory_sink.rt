@@ -1,6 +1,6 @@
 //! A sink over memory, whose writes fail where they are told to.
 ghost use Rattle.std.specs.Prelude.{◌≡◌, ◌<◌, ◌≤◌, [], ◌∷◌, ◌++◌, length, take, All, Some, IfOk, OnOk, OnErr, is_err, true, false};
-ghost use Rattle.bz_outside.specs.Outside.{Appends, Rose};
+ghost use Rattle.bz_outside.specs.Outside.{Appends, RoseOnce};
 ghost use Rattle.bz_outside.specs.Memory.{after_call, write_fails, taken_length};
 
 use crate::call_log::CallLog;
@@ -74,7 +74,7 @@ impl Sink for MemorySink {
     /// Takes no memory.
     fn put(&mut self, bytes: &[u8]) -> Result<usize, Failed>
         ensures some { IfOk result (λ n. 0 < length bytes.now → 0 < n) }
-        ensures counts { self.old.calls.failed ≤ self.new.calls.failed }
+        ensures cause { OnErr result (RoseOnce self.old.calls.failed self.new.calls.failed) }
 
         // Exactly which writes fail, how many bytes the others take, and what stays.
         ensures fails { is_err result ≡ write_fails self.old bytes.now }

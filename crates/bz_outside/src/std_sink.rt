@@ -50,6 +50,7 @@ impl<W: Write + Drop> Sink for StdSink<W> {
 
     ghost faults = { λ faults. faults };
 
+    /// The count rises at each `Err`, and at nothing else.
     fn put(&mut self, bytes: &[u8]) -> Result<usize, Failed> {
         match self.write_some(bytes) {
             Some(n) => Ok(n),
