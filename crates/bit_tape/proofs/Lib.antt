@@ -1,2 +1,4 @@
+pub mod GivenBits
+pub mod Leaving
 pub mod NewTapes
 pub mod NextBits

@@ -1,6 +1,7 @@
 pub mod Answers
 pub mod Bits
 pub mod Buffer
+pub mod Given
 pub mod Refill
 pub mod RefillsTape
 pub mod Source

@@ -1,6 +1,6 @@
 -- Tapes: where their bits come from, which bits they have, and how a tape fits a shelf.
-use Rattle.std.specs.Prelude.{◌≡◌, ℕ, ◌+◌, ◌/◌, List, length, take, drop, Bool, Option, Some, IfSome, option_map}
-use Rattle.bz_outside.specs.Outside.{Rose}
+use Rattle.std.specs.Prelude.{◌≡◌, ℕ, ◌+◌, ◌/◌, List, length, take, drop, Bool, true, false, Option, Some, IfSome, option_map}
+use Rattle.bz_outside.specs.Outside.{Rose, ReadFailed}
 use Rattle.bit_tape.specs.Bits.{file_bit, seed_bit}
 
 -- The bits come from the bytes under a name, or from a seed.
@@ -32,7 +32,21 @@ ReadsAhead (TapeSource.Seeded seed) contents place ahead = Unit {0}
 pub record Belongs (contents : List ℕ → Option (List ℕ)) (tape : TapeState) : Type 0 where
   pub ahead : ReadsAhead tape.source contents (tape.used / 8) tape.ahead
 
--- A read of the source failed: its name's count of faults rose. A seed has no name, so none fails.
+-- What a call leaves of the counts of faults: where it failed, the count of the source's name rose once; else every count stays. A seed has no name, so none fails.
+abbrev pub CountsFault : (failed : Bool) → TapeSource → (before now : List ℕ → ℕ) → Type 0
+CountsFault false source before now = now ≡ before
+CountsFault true (TapeSource.Named name) before now = ReadFailed name before now
+CountsFault true (TapeSource.Seeded seed) before now = ⊥
+
+-- What a call with a tape and a shelf leaves, its meanings being the shelf's contents and counts: the tape is of the same source and still belongs to the shelf, whose contents stay; a failed read is counted exactly where it is answered; over a seed the shelf is as it was.
+pub record LeavesTape {S : Type 0} (contents : S → List ℕ → Option (List ℕ)) (counts : S → List ℕ → ℕ) (failed : Bool) (before now : S) (old new : TapeState) : Type 0 where
+  pub source : new.source ≡ old.source
+  pub belongs : Belongs (contents now) new
+  pub content : contents now ≡ contents before
+  pub faults : CountsFault failed old.source (counts before) (counts now)
+  pub seeded : (seed : ℕ) → old.source ≡ TapeSource.Seeded seed → now ≡ before
+
+-- In a run of several calls a read of the source failed: its name's count of faults rose. A seed has no name, so none fails.
 abbrev pub HasFault : TapeSource → (before now : List ℕ → ℕ) → Type 0
 HasFault (TapeSource.Named name) before now = Rose (before name) (now name)
 HasFault (TapeSource.Seeded seed) before now = ⊥

@@ -1,7 +1,7 @@
 //! Bytes read ahead, given bit by bit.
-ghost use Rattle.std.specs.Prelude.{◌≡◌, ℕ, ◌+◌, ◌^◌, ◌<◌, ◌≤◌, ◌↔◌, List, [], length, slice_index, IsTrue, IfSome, IfOk, OnErr};
+ghost use Rattle.std.specs.Prelude.{◌≡◌, ℕ, ◌+◌, ◌^◌, ◌<◌, ◌≤◌, ◌↔◌, List, [], length, slice_index, IsTrue, IfSome, IfOk, OnOk, OnErr};
 ghost use Rattle.std.specs.Int.{w32, to_be_bytes};
-ghost use Rattle.bz_outside.specs.Outside.{Rose};
+ghost use Rattle.bz_outside.specs.Outside.{ReadFailed};
 ghost use Rattle.bit_tape.specs.Bits.{byte_bit};
 ghost use Rattle.bit_tape.specs.Buffer.{after_bit};
 ghost use Rattle.bit_tape.specs.Tape.{AreAt};
@@ -92,14 +92,14 @@ impl BitBuffer {
         requires empty { length self.old.bytes ≡ 0 }
         requires within { place < 2 ^ 60 }
         ensures content { S.content shelf.new ≡ S.content shelf.old }
-        ensures counts { (other : List ℕ) → S.faults shelf.old other ≤ S.faults shelf.new other }
         ensures length { IfOk result (λ n. length self.new.bytes ≡ n) }
         ensures room { IfOk result (λ n. place + n ≤ 2 ^ 60) }
         ensures told { IfOk result (λ n. IfSome (S.content shelf.old name.now) (AreAt self.new.bytes place)) }
         ensures end { IfOk result (λ n. IfSome (S.content shelf.old name.now) (λ bytes. n ≡ 0 → length bytes ≤ place)) }
         ensures bit { self.new.bit ≡ self.old.bit }
         ensures unchanged { OnErr result (self.new ≡ self.old) }
-        ensures cause { OnErr result (Rose (S.faults shelf.old name.now) (S.faults shelf.new name.now)) }
+        ensures steady { OnOk result (S.faults shelf.new ≡ S.faults shelf.old) }
+        ensures cause { OnErr result (ReadFailed name.now (S.faults shelf.old) (S.faults shelf.new)) }
     {
         let left = MOST_BYTES - place;
         let want = if left < ROOM as u64 {

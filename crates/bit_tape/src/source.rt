@@ -35,7 +35,6 @@ impl Source {
         requires within { place < 2 ^ 60 }
         requires goes_on { GoesOn self.old place buffer.old.bytes }
         ensures content { S.content shelf.new ≡ S.content shelf.old }
-        ensures counts { (other : List ℕ) → S.faults shelf.old other ≤ S.faults shelf.new other }
         ensures source { source_of self.new ≡ source_of self.old }
         ensures bit { buffer.new.bit ≡ buffer.old.bit }
         ensures refills { Refills result (source_of self.old) (S.content shelf.old) (S.faults shelf.old) (S.faults shelf.new) place buffer.old.bytes buffer.new.bytes }

@@ -1,6 +1,6 @@
 //! A tape of bits.
 ghost use Rattle.std.specs.Prelude.{◌≡◌, ℕ, ◌+◌, ◌^◌, ◌<◌, ◌≤◌, [], List, length, Option, IfSome, IsTrue, ◌↔◌};
-ghost use Rattle.bit_tape.specs.Tape.{TapeSource, Belongs, bits_of, HasFault, GivesBit};
+ghost use Rattle.bit_tape.specs.Tape.{TapeSource, Belongs, LeavesTape, bits_of, GivesBit};
 
 use crate::buffer::{BitBuffer, MOST_BYTES};
 use crate::source::{Refill, Source};
@@ -44,7 +44,7 @@ impl Model for Tape {
 }
 
 impl Tape {
-    ghost use Rattle.bit_tape.specs.Answers.{Tells, Leaves};
+    ghost use Rattle.bit_tape.specs.Answers.{Tells, Leaves, is_fault};
     ghost use Rattle.bit_tape.specs.RefillsTape.{RefillsTape};
 
     /// The tape over the bytes under a name. Its bits are those of the bytes in order, each byte's
@@ -87,19 +87,15 @@ impl Tape {
     ///
     /// `Ended` comes exactly where all bits of the told content are used, or 2^63 bits were used;
     /// this yields to a failed read. Over a content that isn't told it comes where a read gave no
-    /// byte, too. `ReadFault` comes only where the count of faults of the tape's name rose in this
-    /// call. Both leave the tape as it was. A seeded tape never asks the shelf.
+    /// byte, too. `ReadFault` comes exactly where the count of faults of the tape's name rose in this
+    /// call, by one. Both leave the tape as it was. A seeded tape never asks the shelf.
     pub fn next_bit<S: Shelf>(&mut self, shelf: &mut S) -> BitAnswer
         requires belongs { Belongs (S.content shelf.old) self.old }
-        ensures content { S.content shelf.new ≡ S.content shelf.old }
-        ensures counts { (other : List ℕ) → S.faults shelf.old other ≤ S.faults shelf.new other }
         ensures tells { IfSome (bits_of self.old.source (S.content shelf.old)) (λ bits. Tells result (bits self.old.used)) }
         ensures limit { 2 ^ 63 ≤ self.old.used → result ≡ BitAnswer.Ended }
         ensures leaves { Leaves result self.old self.new }
-        ensures cause { result ≡ BitAnswer.ReadFault → HasFault self.old.source (S.faults shelf.old) (S.faults shelf.new) }
-        ensures belongs { Belongs (S.content shelf.new) self.new }
         ensures asks { 0 < length self.old.ahead → shelf.new ≡ shelf.old }
-        ensures seeded { (seed : ℕ) → self.old.source ≡ TapeSource.Seeded seed → shelf.new ≡ shelf.old }
+        ensures tape { LeavesTape S.content S.faults (is_fault result) shelf.old shelf.new self.old self.new }
     {
         if !self.is_used_up() {
             return BitAnswer::Bit(self.take_bit());
@@ -135,7 +131,6 @@ impl Tape {
     fn refill<S: Shelf>(&mut self, shelf: &mut S) -> Refill
         requires { length self.old.ahead ≡ 0 }
         ensures content { S.content shelf.new ≡ S.content shelf.old }
-        ensures counts { (other : List ℕ) → S.faults shelf.old other ≤ S.faults shelf.new other }
         ensures same { (self.new.source ≡ self.old.source) × (self.new.used ≡ self.old.used) }
         ensures refills { RefillsTape result (S.content shelf.old) (S.faults shelf.old) (S.faults shelf.new) self.old self.new }
         ensures seeded { (seed : ℕ) → self.old.source ≡ TapeSource.Seeded seed → shelf.new ≡ shelf.old }
