@@ -1,5 +1,5 @@
 -- What an oracle of class values tells: a table of bounds for each node and the levels 1 to 6.
-use Rattle.std.specs.Prelude.{◌≡◌, ℕ, ◌-◌, ◌<◌, ◌≤◌, List, length, slice_index}
+use Rattle.std.specs.Prelude.{◌≡◌, ℕ, ◌+◌, ◌-◌, ◌<◌, ◌≤◌, List, length, slice_index}
 use Rattle.bz_model.specs.declared.cell.Bounds.{Bounds}
 use Rattle.bz_model.specs.Fraction.{Fraction, units}
 use Rattle.bz_model.specs.Spec.{Spec}
@@ -28,3 +28,12 @@ pub record AreCosts (costs : List ℕ) : Type 0 where
 -- What raising from one level to another ticks at most: the difference of the costs of the two.
 abbrev pub cost_between : (costs : List ℕ) → (from to : ℕ) → ℕ
 cost_between costs from to = slice_index costs to - slice_index costs from
+
+-- What calls that may raise an oracle leave, its meanings being given: specification, x, table and costs stay, no level is lost, and the ticks are at most what raising from the old highest level to the new one costs.
+pub record LeavesOracle {O : Type 0} (spec_of : O → Spec) (x_of : O → Fraction) (table_of : O → (level node : ℕ) → Bounds) (cost_of : O → List ℕ) (raised_of : O → ℕ) (old new : O) (before now : ℕ) : Type 0 where
+  pub spec : spec_of new ≡ spec_of old
+  pub x : x_of new ≡ x_of old
+  pub table : table_of new ≡ table_of old
+  pub cost : cost_of new ≡ cost_of old
+  pub rises : raised_of old ≤ raised_of new
+  pub ticks : now ≤ before + cost_between (cost_of old) (raised_of old) (raised_of new)

@@ -7,6 +7,7 @@ pub mod UnionScan
 pub mod UnionParts
 pub mod UnionIdeal
 pub mod DrawsOn
+pub mod GivenDraws
 pub mod ToldDraws
 pub mod Ticks
 pub mod TwoAtomsSound

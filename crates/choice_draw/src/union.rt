@@ -1,14 +1,15 @@
 //! Parts of a union, drawn from bits.
-ghost use Rattle.std.specs.Prelude.{◌≡◌, ℕ, suc, ◌+◌, ◌-◌, ◌*◌, ◌^◌, ◌<◌, ◌≤◌, max, map, length, List, IfSome, nat_le};
+ghost use Rattle.std.specs.Prelude.{◌≡◌, suc, ◌-◌, ◌*◌, ◌^◌, ◌<◌, ◌≤◌, max, map, length, IfSome, nat_le};
+ghost use Rattle.bz_model.specs.Fraction.{IsFractionBits};
 ghost use Rattle.bz_model.specs.Spec.{node_at};
 ghost use Rattle.bz_model.specs.Cell.{IsCell};
-ghost use Rattle.bz_model.specs.Oracle.{cost_between};
+ghost use Rattle.bz_model.specs.Oracle.{LeavesOracle};
 ghost use Rattle.class_system.specs.Views.{number};
 ghost use Rattle.class_system.specs.Each.{Each};
-ghost use Rattle.bit_tape.specs.Tape.{TapeSource, Belongs, bits_of, HasFault};
+ghost use Rattle.bit_tape.specs.Tape.{Belongs, LeavesTape, bits_of};
 ghost use Rattle.choice_draw.specs.Decision.{Choice, level_for, level_of, IsUnion, union_parts, union_choice, union_decision, taken};
 ghost use Rattle.choice_draw.specs.IdealOfCell.{IsIdealOfCell};
-ghost use Rattle.choice_draw.specs.Answer.{IsDrawn, OnValue, HasCell, UsesBits};
+ghost use Rattle.choice_draw.specs.Answer.{IsDraw, OnValue, told_draw, is_fault};
 
 use crate::cells::{half_of, level_at, power_of_two};
 use crate::drawn::Drawn;
@@ -24,10 +25,11 @@ use std::sync::ledger::Ledger;
 
 /// Draws the number of a union's part: takes bits until their cell decides one.
 ///
-/// The number is the ideal option of every number of its cell. At most 60 bits are taken. The level
-/// of b bits, one for each ten bits begun, is raised before they are looked at, and no other. Where
-/// the shelf tells its content, the answer is fixed by the tape's bits and the oracle's table. Takes
-/// no memory.
+/// The number is the ideal option of every number of its cell. At most 60 bits are taken, the least
+/// number that decides. The level of b bits, one for each ten bits begun, is raised before they are
+/// looked at, and no other. The answer is fixed by the bits that were given and the oracle's table,
+/// whether the shelf tells its content or not. `ReadFault` comes exactly where the count of faults of
+/// the tape's name rose, by one. Takes no memory.
 pub fn draw_union<const F: u32, O: Oracle<F>, S: Shelf, L: Ledger>(
     system: &System,
     node: ExprId,
@@ -36,35 +38,21 @@ pub fn draw_union<const F: u32, O: Oracle<F>, S: Shelf, L: Ledger>(
     shelf: &mut S,
     steps: &mut Steps<L>,
 ) -> Drawn
-    requires fraction { (24 ≤ F) × (F ≤ 56) }
+    requires fraction_bits { IsFractionBits F }
     requires union { IsUnion system.now node.0 }
     requires spec { O.spec oracle.old ≡ system.now }
     requires belongs { Belongs (S.content shelf.old) tape.old }
 
-    ensures exact { IfSome (bits_of tape.old.source (S.content shelf.old)) (λ bits. IsDrawn Choice.Take
-        (union_decision system.now (O.table oracle.old) node.0) bits tape.old.used result tape.new.used) }
+    ensures drawn { IsDraw (union_decision system.now (O.table oracle.old) node.0)
+        (bits_of tape.old.source (S.content shelf.old))
+        tape.old.used tape.new.used (told_draw Choice.Take result tape.new.used) }
     ensures ideal { OnValue result (λ i cell. IsIdealOfCell system.now (O.x oracle.old) node.0 cell i) }
     ensures in_range { OnValue result (λ i cell. i < length (union_parts (node_at system.now node.0))) }
-    ensures cell { HasCell result }
-
-    ensures spec { O.spec oracle.new ≡ O.spec oracle.old }
-    ensures x { O.x oracle.new ≡ O.x oracle.old }
-    ensures table { O.table oracle.new ≡ O.table oracle.old }
-    ensures cost { O.cost oracle.new ≡ O.cost oracle.old }
     ensures raised { O.raised oracle.new
         ≡ max (O.raised oracle.old) (level_for (tape.new.used - tape.old.used)) }
-    ensures ticks { steps.new ≤ steps.old
-        + cost_between (O.cost oracle.old) (O.raised oracle.old) (O.raised oracle.new) }
-
-    ensures used { UsesBits result tape.old.used tape.new.used }
-    ensures source { tape.new.source ≡ tape.old.source }
-    ensures belongs { Belongs (S.content shelf.new) tape.new }
-
-    ensures content { S.content shelf.new ≡ S.content shelf.old }
-    ensures counts { (other : List ℕ) → S.faults shelf.old other ≤ S.faults shelf.new other }
-    ensures cause { result ≡ Drawn.ReadFault
-        → HasFault tape.old.source (S.faults shelf.old) (S.faults shelf.new) }
-    ensures seeded { (seed : ℕ) → tape.old.source ≡ TapeSource.Seeded seed → shelf.new ≡ shelf.old }
+    ensures oracle { LeavesOracle O.spec O.x O.table O.cost O.raised
+        oracle.old oracle.new steps.old steps.new }
+    ensures tape { LeavesTape S.content S.faults (is_fault result) shelf.old shelf.new tape.old tape.new }
 {
     oracle.known();
     let parts = parts_of(system, node);
@@ -95,7 +83,7 @@ pub fn decide_union<const F: u32, O: Oracle<F>>(
     cell: Cell,
     oracle: &O,
 ) -> Option<u32>
-    requires fraction { (24 ≤ F) × (F ≤ 56) }
+    requires fraction_bits { IsFractionBits F }
     requires union { IsUnion system.now node.0 }
     requires cell { IsCell cell.k cell.b }
     requires spec { O.spec oracle.now ≡ system.now }

@@ -1,10 +1,10 @@
 //! Whole numbers below a number, drawn from bits.
-ghost use Rattle.std.specs.Prelude.{◌≡◌, ℕ, ◌<◌, ◌≤◌, List, IfSome, IfNone};
+ghost use Rattle.std.specs.Prelude.{◌≡◌, ℕ, ◌<◌, ◌≤◌, IfSome, IfNone};
 ghost use Rattle.bz_model.specs.Cell.{IsCell};
-ghost use Rattle.bit_tape.specs.Tape.{TapeSource, Belongs, bits_of, HasFault};
+ghost use Rattle.bit_tape.specs.Tape.{Belongs, LeavesTape, bits_of};
 ghost use Rattle.choice_draw.specs.Decision.{whole_decision};
 ghost use Rattle.choice_draw.specs.Whole.{Decides};
-ghost use Rattle.choice_draw.specs.Answer.{IsDrawn, OnValue, HasCell, UsesBits};
+ghost use Rattle.choice_draw.specs.Answer.{IsDraw, OnValue, told_draw, is_fault};
 
 use crate::cells::{half_of, power_of_two};
 use crate::drawn::Drawn;
@@ -14,28 +14,20 @@ use bz_outside::shelf::Shelf;
 
 /// Draws a whole number below `m`: takes bits until their cell decides one.
 ///
-/// The number is `floor(u * m)` for every number u of its cell. At most 60 bits are taken. Where the
-/// shelf tells its content, the answer is fixed by the tape's bits. Takes no memory.
+/// The number is `floor(u * m)` for every number u of its cell. At most 60 bits are taken, the least
+/// number that decides. The answer is fixed by the bits that were given, whether the shelf tells its
+/// content or not. `ReadFault` comes exactly where the count of faults of the tape's name rose, by
+/// one. Takes no memory.
 pub fn draw_whole<S: Shelf>(m: u64, tape: &mut Tape, shelf: &mut S) -> Drawn
     requires at_least_two { 2 ≤ m }
     requires within_limit { m ≤ 1000000 }
     requires belongs { Belongs (S.content shelf.old) tape.old }
 
-    ensures exact { IfSome (bits_of tape.old.source (S.content shelf.old)) (λ bits. IsDrawn (λ i. i)
-        (whole_decision m) bits tape.old.used result tape.new.used) }
+    ensures drawn { IsDraw (whole_decision m) (bits_of tape.old.source (S.content shelf.old))
+        tape.old.used tape.new.used (told_draw (λ i. i) result tape.new.used) }
     ensures decided { OnValue result (λ i cell. Decides cell.k cell.b m i) }
     ensures below { OnValue result (λ i cell. i < m) }
-    ensures cell { HasCell result }
-
-    ensures used { UsesBits result tape.old.used tape.new.used }
-    ensures source { tape.new.source ≡ tape.old.source }
-    ensures belongs { Belongs (S.content shelf.new) tape.new }
-
-    ensures content { S.content shelf.new ≡ S.content shelf.old }
-    ensures counts { (other : List ℕ) → S.faults shelf.old other ≤ S.faults shelf.new other }
-    ensures cause { result ≡ Drawn.ReadFault
-        → HasFault tape.old.source (S.faults shelf.old) (S.faults shelf.new) }
-    ensures seeded { (seed : ℕ) → tape.old.source ≡ TapeSource.Seeded seed → shelf.new ≡ shelf.old }
+    ensures tape { LeavesTape S.content S.faults (is_fault result) shelf.old shelf.new tape.old tape.new }
 {
     let mut cell = Cell { k: 0, b: 0 };
     'bits: while cell.b < 60 {

@@ -1,40 +1,46 @@
--- The draw goes on bit by bit as the definition's does, where the tape's bits are told.
-use Rattle.std.proofs.Common.{arith, sym, ◌∙◌, ap}
+-- The draw over the bits given goes on bit by bit as the definition's does.
+use Rattle.std.proofs.Common.{arith, sym, ap, false}
 use Rattle.bit_tape.specs.Tape.{bits_of}
+use Rattle.bit_tape.proofs.Leaving.{leaves-none, leaves-more}
 use Rattle.choice_draw.specs.Decision.{whole_decision}
-use Rattle.choice_draw.proofs.ToldDraws.{told-on, told-value, told-ended, told-failed, told-straddles}
+use Rattle.choice_draw.proofs.GivenDraws.{draw-begins, draw-on, draw-decides, draw-ends, draw-fails, draw-straddles}
 use Rattle.choice_draw.proofs.whole.draw_whole.Goals as goal
+
+pub bits-init : goal.bits-init
+bits-init g c = record {
+  few_bits = omega arith;
+  below = omega arith;
+  used = omega arith;
+  tape = leaves-none g.S.Shelf.content g.S.Shelf.faults c.args.shelf.now c.args.tape.now c.requires.belongs;
+  draws = draw-begins (whole_decision c.args.m) (bits_of c.args.tape.now.source (g.S.Shelf.content c.args.shelf.now)) c.args.tape.now.used;
+}
 
 pub bits-preserved : goal.bits-preserved
 bits-preserved g c =
     let kept = c.bits.invariant in
-    let told = rw (kept.source, kept.content) at c.in-Bit.ensures.tells in
+    let told = rw (kept.tape.source, kept.tape.content) at c.in-Bit.ensures.tells in
     record {
       few_bits = omega arith;
       below = c.half_of-cell.ensures.cell.below;
-      used = omega (arith, kept.used, c.in-Bit.ensures.leaves.1, ap (λ h. h.b) c.half_of-cell.ensures.exact);
-      source = c.in-Bit.ensures.leaves.0 ∙ kept.source;
-      belongs = c.in-Bit.ensures.belongs;
-      content = c.in-Bit.ensures.content ∙ kept.content;
-      counts = λ other. let later = kept.counts other in let now = c.in-Bit.ensures.counts other in omega arith;
-      seeded = λ seed is_seed. c.in-Bit.ensures.seeded seed (kept.source ∙ is_seed) ∙ kept.seeded seed is_seed;
-      draws = told-on (λ i. i) (whole_decision c.args.m) (bits_of c.args.tape.now.source (g.S.Shelf.content c.args.shelf.now)) c.args.tape.now.used c.bits.cell c.bits.tape.used kept.draws c.in-Bit.bit c.half_of-cell.result c.next_bit.new.self.used (omega arith) told c.half_of-cell.ensures.exact c.in-Bit.ensures.leaves.1 (sym c.in_default.ensures.exact);
+      used = omega (arith, kept.used, c.in-Bit.ensures.leaves, ap (λ h. h.b) c.half_of-cell.ensures.exact);
+      tape = leaves-more g.S.Shelf.content g.S.Shelf.faults false c.args.shelf.now c.bits.shelf c.next_bit.new.shelf c.args.tape.now c.bits.tape c.next_bit.new.self kept.tape c.in-Bit.ensures.tape;
+      draws = draw-on (whole_decision c.args.m) (bits_of c.args.tape.now.source (g.S.Shelf.content c.args.shelf.now)) c.args.tape.now.used c.bits.cell c.bits.tape.used kept.draws c.in-Bit.bit c.half_of-cell.result c.next_bit.new.self.used (omega arith) told c.half_of-cell.ensures.exact c.in-Bit.ensures.leaves (sym c.in_default.ensures.exact);
     }
 
-pub returns-in-Some-clause-exact : goal.returns-in-Some-clause-exact
-returns-in-Some-clause-exact g c =
+pub returns-in-Some-clause-drawn : goal.returns-in-Some-clause-drawn
+returns-in-Some-clause-drawn g c =
     let kept = c.bits.invariant in
-    let told = rw (kept.source, kept.content) at c.in-Bit.ensures.tells in
-    told-value (λ i. i) (whole_decision c.args.m) (bits_of c.args.tape.now.source (g.S.Shelf.content c.args.shelf.now)) c.args.tape.now.used c.bits.cell c.bits.tape.used kept.draws c.in-Bit.bit c.half_of-cell.result c.in-Some.value c.next_bit.new.self.used (omega arith) told c.half_of-cell.ensures.exact (sym c.in-Some.ensures.exact)
+    let told = rw (kept.tape.source, kept.tape.content) at c.in-Bit.ensures.tells in
+    draw-decides (whole_decision c.args.m) (bits_of c.args.tape.now.source (g.S.Shelf.content c.args.shelf.now)) c.args.tape.now.used c.bits.cell c.bits.tape.used kept.draws c.in-Bit.bit c.half_of-cell.result c.in-Some.value c.next_bit.new.self.used (omega arith) kept.used told c.half_of-cell.ensures.exact c.half_of-cell.ensures.cell c.in-Bit.ensures.leaves (sym c.in-Some.ensures.exact)
 
-pub returns-in-Ended-clause-exact : goal.returns-in-Ended-clause-exact
-returns-in-Ended-clause-exact g c =
+pub returns-in-Ended-clause-drawn : goal.returns-in-Ended-clause-drawn
+returns-in-Ended-clause-drawn g c =
     let kept = c.bits.invariant in
-    let told = rw (kept.source, kept.content) at c.in-Ended.ensures.tells in
-    told-ended (λ i. i) (whole_decision c.args.m) (bits_of c.args.tape.now.source (g.S.Shelf.content c.args.shelf.now)) c.args.tape.now.used c.bits.cell c.bits.tape.used kept.draws c.next_bit.new.self.used (omega arith) told (ap (λ t. t.used) c.in-Ended.ensures.leaves)
+    let told = rw (kept.tape.source, kept.tape.content) at c.in-Ended.ensures.tells in
+    draw-ends (whole_decision c.args.m) (bits_of c.args.tape.now.source (g.S.Shelf.content c.args.shelf.now)) c.args.tape.now.used c.bits.cell c.bits.tape.used kept.draws c.next_bit.new.self.used (omega arith) kept.used told (ap (λ t. t.used) c.in-Ended.ensures.leaves)
 
-pub returns-in-ReadFault-clause-exact : goal.returns-in-ReadFault-clause-exact
-returns-in-ReadFault-clause-exact g c = told-failed (λ i. i) (whole_decision c.args.m) (bits_of c.args.tape.now.source (g.S.Shelf.content c.args.shelf.now)) c.args.tape.now.used c.bits.cell c.bits.tape.used c.bits.invariant.draws c.next_bit.new.self.used (omega arith) (ap (λ t. t.used) c.in-ReadFault.ensures.leaves)
+pub returns-in-ReadFault-clause-drawn : goal.returns-in-ReadFault-clause-drawn
+returns-in-ReadFault-clause-drawn g c = draw-fails (whole_decision c.args.m) (bits_of c.args.tape.now.source (g.S.Shelf.content c.args.shelf.now)) c.args.tape.now.used c.bits.cell c.bits.tape.used c.bits.invariant.draws c.next_bit.new.self.used (omega arith) c.bits.invariant.used (ap (λ t. t.used) c.in-ReadFault.ensures.leaves)
 
-pub returns-clause-exact : goal.returns-clause-exact
-returns-clause-exact g c = told-straddles (λ i. i) (whole_decision c.args.m) (bits_of c.args.tape.now.source (g.S.Shelf.content c.args.shelf.now)) c.args.tape.now.used c.bits.cell c.bits.tape.used c.bits.invariant.draws c.bits.tape.used (omega arith)
+pub returns-clause-drawn : goal.returns-clause-drawn
+returns-clause-drawn g c = draw-straddles (whole_decision c.args.m) (bits_of c.args.tape.now.source (g.S.Shelf.content c.args.shelf.now)) c.args.tape.now.used c.bits.cell c.bits.tape.used c.bits.invariant.draws (omega arith) c.bits.invariant.below c.bits.invariant.used
