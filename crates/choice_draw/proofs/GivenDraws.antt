@@ -6,7 +6,8 @@ use Rattle.bz_model.specs.Cell.{IsCell}
 use Rattle.bit_tape.specs.Given.{HasBits, Gave}
 use Rattle.bit_tape.proofs.GivenBits.{has_bits-first, has_bits-more, gave-none, gave-append, gave-one}
 use Rattle.choice_draw.specs.Draw.{Draw, halved, draw, bit_of}
-use Rattle.choice_draw.specs.Answer.{IsDraw, EndsThere, fault_of}
+use Rattle.choice_draw.specs.Answer.{IsDraw}
+use Rattle.choice_draw.proofs.ToldDraws.{on_any}
 use Rattle.choice_draw.proofs.DrawsOn.{DrawsOn, whole_cell, draws-first, draws-on, draws-decided, draws-ended, draws-failed, draws-straddled}
 
 -- the draw was given these bits, and over every tape that has them there it goes on from this cell and place
@@ -14,11 +15,6 @@ pub record IsUnderWay {A : Type 0} (decide : Cell → Option A) (told : Option (
   pub given : List Bool
   pub gave : Gave told start place given
   pub goes : (bits : ℕ → Option Bool) → HasBits bits start given → DrawsOn decide bits start cell place
-
--- nothing is known to end a draw that goes on
-any-told : (told : Option (ℕ → Option Bool)) {P : (ℕ → Option Bool) → Type 0} → ((bits : ℕ → Option Bool) → P bits) → IfSome told P
-any-told None p = tt
-any-told (Some bits) p = p bits
 
 module _ {A : Type 0} (decide : Cell → Option A) (told : Option (ℕ → Option Bool)) (start : ℕ) where
   pub draw-begins : IsUnderWay decide told start whole_cell start
@@ -43,7 +39,7 @@ module _ {A : Type 0} (decide : Cell → Option A) (told : Option (ℕ → Optio
     draw-decides v half answer after more so_far there is_half is_cell is_after decided = record {
       given = way.given ++ v ∷ [];
       gave = gave-append told start used after way.given (v ∷ []) way.gave (gave-one told used after v is_after there);
-      ended = any-told told (λ bits. tt);
+      ended = on_any told (λ bits. tt);
       exact = λ bits have ends. subst (λ h. Draw.Decided answer h ≡ draw decide (bit_of bits None) start) (sym is_half)
           (sym (draws-decided decide bits start cell used (way.goes bits (has_bits-first bits start way.given (v ∷ []) have)) v answer more (bit_there bits v have) (subst (λ h. decide h ≡ Some answer) is_half decided)));
       cell = is_cell;
@@ -66,7 +62,7 @@ module _ {A : Type 0} (decide : Cell → Option A) (told : Option (ℕ → Optio
     draw-fails after more so_far is_after = subst (λ n. IsDraw decide told start n (Draw.Failed n)) (sym is_after) (record {
       given = way.given;
       gave = way.gave;
-      ended = any-told told (λ bits. tt);
+      ended = on_any told (λ bits. tt);
       exact = λ bits have ends. sym (draws-failed decide bits start cell used (way.goes bits have) more);
       cell = tt;
       uses = (refl, omega arith, omega arith);
@@ -77,7 +73,7 @@ module _ {A : Type 0} (decide : Cell → Option A) (told : Option (ℕ → Optio
     draw-straddles all below so_far = record {
       given = way.given;
       gave = way.gave;
-      ended = any-told told (λ bits. tt);
+      ended = on_any told (λ bits. tt);
       exact = λ bits have ends. sym (draws-straddled decide bits start cell used (way.goes bits have) all);
       cell = (record { some_bits = omega arith; few_bits = omega arith; below = below }, all);
       uses = so_far;

@@ -1,9 +1,8 @@
--- What the answer of a draw of a number of parts tells.
-use Rattle.std.specs.Prelude.{◌≡◌, ℕ, ◌+◌, ◌<◌, ◌≤◌, Bool, Option, Some, None}
+-- Which draw of a number of parts an answer tells.
+use Rattle.std.specs.Prelude.{ℕ, Bool, true, false}
 use Rattle.bz_model.specs.declared.cell.Cell.{Cell}
-use Rattle.bz_model.specs.Cell.{IsCell}
 use Rattle.choice_draw.specs.Decision.{Choice}
-use Rattle.choice_draw.specs.Draw.{Draw, bit_of, draw}
+use Rattle.choice_draw.specs.Draw.{Draw}
 use Rattle.count_draw.specs.declared.kind.CountChoice.{CountChoice}
 use Rattle.count_draw.specs.declared.kind.CountChoice.TheVariants as choice
 use Rattle.count_draw.specs.declared.drawn.CountDrawn.{CountDrawn}
@@ -22,14 +21,10 @@ told_count (Straddles cell) used = Draw.Straddled cell
 told_count Ended used = Draw.Ended used
 told_count ReadFault used = Draw.Failed used
 
--- The place at which the shelf failed, where the answer is that it did.
-abbrev pub fault_place : CountDrawn → (used : ℕ) → Option ℕ
-fault_place ReadFault used = Some used
-fault_place _ used = None
-
--- An answer is that of the draw that takes these bits from the start on, where the shelf fails only if the answer says so, and then after the bits used.
-pub record IsCountDrawn (decide : Cell → Option Choice) (bits : ℕ → Option Bool) (start : ℕ) (answer : CountDrawn) (used : ℕ) : Type 0 where
-  pub same : told_count answer used ≡ draw decide (bit_of bits (fault_place answer used)) start
+-- The answer is that the shelf failed.
+abbrev pub is_fault : CountDrawn → Bool
+is_fault ReadFault = true
+is_fault _ = false
 
 -- What is said of a number and its cell holds, where the answer is a number.
 abbrev pub OnCount : CountDrawn → (ℕ → Cell → Type 0) → Type 0
@@ -40,17 +35,3 @@ OnCount _ P = Unit {0}
 abbrev pub OnOver : CountDrawn → (Cell → Type 0) → Type 0
 OnOver (Over cell) P = P cell
 OnOver _ P = Unit {0}
-
--- The cell of an answer is a cell, and one that straddles has 60 bits.
-abbrev pub HasCell : CountDrawn → Type 0
-HasCell (Count value cell) = IsCell cell.k cell.b
-HasCell (Over cell) = IsCell cell.k cell.b
-HasCell (Straddles cell) = IsCell cell.k cell.b × (cell.b ≡ 60)
-HasCell _ = Unit {0}
-
--- The bits used from one number to another are those of the answer's cell; where it has none, they are fewer than 60.
-abbrev pub UsesBits : CountDrawn → (before after : ℕ) → Type 0
-UsesBits (Count value cell) before after = after ≡ before + cell.b
-UsesBits (Over cell) before after = after ≡ before + cell.b
-UsesBits (Straddles cell) before after = after ≡ before + cell.b
-UsesBits _ before after = (before ≤ after) × (after < before + 60)

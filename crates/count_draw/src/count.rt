@@ -1,16 +1,18 @@
 //! Numbers of parts, drawn from bits.
-ghost use Rattle.std.specs.Prelude.{◌≡◌, ℕ, ◌+◌, ◌-◌, ◌<◌, ◌≤◌, max, length, List, IfSome, Some};
+ghost use Rattle.std.specs.Prelude.{◌≡◌, ◌-◌, ◌<◌, ◌≤◌, max, length, Some};
+ghost use Rattle.bz_model.specs.Fraction.{IsFractionBits};
 ghost use Rattle.bz_model.specs.Spec.{node_at, range_at, IsInRange};
 ghost use Rattle.bz_model.specs.Cell.{IsCell};
-ghost use Rattle.bz_model.specs.Oracle.{cost_between};
+ghost use Rattle.bz_model.specs.Oracle.{LeavesOracle};
 ghost use Rattle.class_system.specs.Views.{spec_range};
-ghost use Rattle.bit_tape.specs.Tape.{TapeSource, Belongs, bits_of, HasFault};
+ghost use Rattle.bit_tape.specs.Tape.{Belongs, LeavesTape, bits_of};
 ghost use Rattle.choice_draw.specs.Decision.{level_for, level_of};
+ghost use Rattle.choice_draw.specs.Answer.{IsDraw};
 ghost use Rattle.choice_draw.specs.IdealOfCell.{IsIdealOfCell, IsOverOfCell};
 ghost use Rattle.count_draw.specs.Kinds.{kind_of, counted_node, IsCountedNode, SuitsRange};
 ghost use Rattle.count_draw.specs.Decision.{count_choice, count_decision, chosen_if, OnTake};
 ghost use Rattle.count_draw.specs.Decision as decision;
-ghost use Rattle.count_draw.specs.Answer.{IsCountDrawn, OnCount, OnOver, HasCell, UsesBits};
+ghost use Rattle.count_draw.specs.Answer.{OnCount, OnOver, told_count, is_fault};
 
 use crate::choice::top_of;
 use crate::drawn::CountDrawn;
@@ -44,37 +46,23 @@ pub fn draw_count<const F: u32, O: Oracle<F>, S: Shelf, L: Ledger>(
     shelf: &mut S,
     steps: &mut Steps<L>,
 ) -> CountDrawn
-    requires fraction { (24 ≤ F) × (F ≤ 56) }
+    requires fraction_bits { IsFractionBits F }
     requires counted { IsCountedNode system.now node.0 }
     requires room { room ≤ 1000000 }
     requires spec { O.spec oracle.old ≡ system.now }
     requires belongs { Belongs (S.content shelf.old) tape.old }
 
-    ensures exact { IfSome (bits_of tape.old.source (S.content shelf.old)) (λ bits. IsCountDrawn
-        (count_decision system.now F (O.table oracle.old) node.0 room) bits tape.old.used result tape.new.used) }
+    ensures drawn { IsDraw (count_decision system.now F (O.table oracle.old) node.0 room)
+        (bits_of tape.old.source (S.content shelf.old))
+        tape.old.used tape.new.used (told_count result tape.new.used) }
     ensures ideal { OnCount result (λ i cell. IsIdealOfCell system.now (O.x oracle.old) node.0 cell i) }
     ensures over { OnOver result (λ cell. IsOverOfCell system.now (O.x oracle.old) node.0 cell room) }
     ensures in_range { OnCount result (λ i cell. IsInRange i (range_at system.now node.0) × (i ≤ room)) }
-    ensures cell { HasCell result }
-
-    ensures spec { O.spec oracle.new ≡ O.spec oracle.old }
-    ensures x { O.x oracle.new ≡ O.x oracle.old }
-    ensures table { O.table oracle.new ≡ O.table oracle.old }
-    ensures cost { O.cost oracle.new ≡ O.cost oracle.old }
     ensures raised { O.raised oracle.new
         ≡ max (O.raised oracle.old) (level_for (tape.new.used - tape.old.used)) }
-    ensures ticks { steps.new ≤ steps.old
-        + cost_between (O.cost oracle.old) (O.raised oracle.old) (O.raised oracle.new) }
-
-    ensures used { UsesBits result tape.old.used tape.new.used }
-    ensures source { tape.new.source ≡ tape.old.source }
-    ensures belongs { Belongs (S.content shelf.new) tape.new }
-
-    ensures content { S.content shelf.new ≡ S.content shelf.old }
-    ensures counts { (other : List ℕ) → S.faults shelf.old other ≤ S.faults shelf.new other }
-    ensures cause { result ≡ CountDrawn.ReadFault
-        → HasFault tape.old.source (S.faults shelf.old) (S.faults shelf.new) }
-    ensures seeded { (seed : ℕ) → tape.old.source ≡ TapeSource.Seeded seed → shelf.new ≡ shelf.old }
+    ensures oracle { LeavesOracle O.spec O.x O.table O.cost O.raised
+        oracle.old oracle.new steps.old steps.new }
+    ensures tape { LeavesTape S.content S.faults (is_fault result) shelf.old shelf.new tape.old tape.new }
 {
     draw_by_rows(
         system,
@@ -100,37 +88,23 @@ pub fn draw_count_kept<const F: u32, O: Oracle<F>, S: Shelf, L: Ledger>(
     shelf: &mut S,
     steps: &mut Steps<L>,
 ) -> CountDrawn
-    requires fraction { (24 ≤ F) × (F ≤ 56) }
+    requires fraction_bits { IsFractionBits F }
     requires counted { IsCountedNode system.now node.0 }
     requires room { room ≤ 1000000 }
     requires spec { O.spec oracle.old ≡ system.now }
     requires belongs { Belongs (S.content shelf.old) tape.old }
 
-    ensures exact { IfSome (bits_of tape.old.source (S.content shelf.old)) (λ bits. IsCountDrawn
-        (count_decision system.now F (O.table oracle.old) node.0 room) bits tape.old.used result tape.new.used) }
+    ensures drawn { IsDraw (count_decision system.now F (O.table oracle.old) node.0 room)
+        (bits_of tape.old.source (S.content shelf.old))
+        tape.old.used tape.new.used (told_count result tape.new.used) }
     ensures ideal { OnCount result (λ i cell. IsIdealOfCell system.now (O.x oracle.old) node.0 cell i) }
     ensures over { OnOver result (λ cell. IsOverOfCell system.now (O.x oracle.old) node.0 cell room) }
     ensures in_range { OnCount result (λ i cell. IsInRange i (range_at system.now node.0) × (i ≤ room)) }
-    ensures cell { HasCell result }
-
-    ensures spec { O.spec oracle.new ≡ O.spec oracle.old }
-    ensures x { O.x oracle.new ≡ O.x oracle.old }
-    ensures table { O.table oracle.new ≡ O.table oracle.old }
-    ensures cost { O.cost oracle.new ≡ O.cost oracle.old }
     ensures raised { O.raised oracle.new
         ≡ max (O.raised oracle.old) (level_for (tape.new.used - tape.old.used)) }
-    ensures ticks { steps.new ≤ steps.old
-        + cost_between (O.cost oracle.old) (O.raised oracle.old) (O.raised oracle.new) }
-
-    ensures used { UsesBits result tape.old.used tape.new.used }
-    ensures source { tape.new.source ≡ tape.old.source }
-    ensures belongs { Belongs (S.content shelf.new) tape.new }
-
-    ensures content { S.content shelf.new ≡ S.content shelf.old }
-    ensures counts { (other : List ℕ) → S.faults shelf.old other ≤ S.faults shelf.new other }
-    ensures cause { result ≡ CountDrawn.ReadFault
-        → HasFault tape.old.source (S.faults shelf.old) (S.faults shelf.new) }
-    ensures seeded { (seed : ℕ) → tape.old.source ≡ TapeSource.Seeded seed → shelf.new ≡ shelf.old }
+    ensures oracle { LeavesOracle O.spec O.x O.table O.cost O.raised
+        oracle.old oracle.new steps.old steps.new }
+    ensures tape { LeavesTape S.content S.faults (is_fault result) shelf.old shelf.new tape.old tape.new }
 {
     match kept.place_of(node) {
         Some(place) => draw_by_rows(
@@ -158,38 +132,24 @@ fn draw_by_rows<const F: u32, O: Oracle<F>, S: Shelf, L: Ledger>(
     shelf: &mut S,
     steps: &mut Steps<L>,
 ) -> CountDrawn
-    requires fraction { (24 ≤ F) × (F ≤ 56) }
+    requires fraction_bits { IsFractionBits F }
     requires rows { 0 < length rows.old }
     requires counted { IsCountedNode system.now node.0 }
     requires room { room ≤ 1000000 }
     requires spec { O.spec oracle.old ≡ system.now }
     requires belongs { Belongs (S.content shelf.old) tape.old }
 
-    ensures exact { IfSome (bits_of tape.old.source (S.content shelf.old)) (λ bits. IsCountDrawn
-        (count_decision system.now F (O.table oracle.old) node.0 room) bits tape.old.used result tape.new.used) }
+    ensures drawn { IsDraw (count_decision system.now F (O.table oracle.old) node.0 room)
+        (bits_of tape.old.source (S.content shelf.old))
+        tape.old.used tape.new.used (told_count result tape.new.used) }
     ensures ideal { OnCount result (λ i cell. IsIdealOfCell system.now (O.x oracle.old) node.0 cell i) }
     ensures over { OnOver result (λ cell. IsOverOfCell system.now (O.x oracle.old) node.0 cell room) }
     ensures in_range { OnCount result (λ i cell. IsInRange i (range_at system.now node.0) × (i ≤ room)) }
-    ensures cell { HasCell result }
-
-    ensures spec { O.spec oracle.new ≡ O.spec oracle.old }
-    ensures x { O.x oracle.new ≡ O.x oracle.old }
-    ensures table { O.table oracle.new ≡ O.table oracle.old }
-    ensures cost { O.cost oracle.new ≡ O.cost oracle.old }
     ensures raised { O.raised oracle.new
         ≡ max (O.raised oracle.old) (level_for (tape.new.used - tape.old.used)) }
-    ensures ticks { steps.new ≤ steps.old
-        + cost_between (O.cost oracle.old) (O.raised oracle.old) (O.raised oracle.new) }
-
-    ensures used { UsesBits result tape.old.used tape.new.used }
-    ensures source { tape.new.source ≡ tape.old.source }
-    ensures belongs { Belongs (S.content shelf.new) tape.new }
-
-    ensures content { S.content shelf.new ≡ S.content shelf.old }
-    ensures counts { (other : List ℕ) → S.faults shelf.old other ≤ S.faults shelf.new other }
-    ensures cause { result ≡ CountDrawn.ReadFault
-        → HasFault tape.old.source (S.faults shelf.old) (S.faults shelf.new) }
-    ensures seeded { (seed : ℕ) → tape.old.source ≡ TapeSource.Seeded seed → shelf.new ≡ shelf.old }
+    ensures oracle { LeavesOracle O.spec O.x O.table O.cost O.raised
+        oracle.old oracle.new steps.old steps.new }
+    ensures tape { LeavesTape S.content S.faults (is_fault result) shelf.old shelf.new tape.old tape.new }
 {
     oracle.known();
     let counted = counted_at(system, node);
@@ -220,7 +180,7 @@ pub fn decide_count<const F: u32, O: Oracle<F>>(
     cell: Cell,
     oracle: &O,
 ) -> Option<CountChoice>
-    requires fraction { (24 ≤ F) × (F ≤ 56) }
+    requires fraction_bits { IsFractionBits F }
     requires counted { IsCountedNode system.now node.0 }
     requires room { room ≤ 1000000 }
     requires cell { IsCell cell.k cell.b }
@@ -274,7 +234,7 @@ fn decide_by_rows<const F: u32, O: Oracle<F>>(
     rows: &mut [KeptRows],
     oracle: &O,
 ) -> Option<CountChoice>
-    requires fraction { (24 ≤ F) × (F ≤ 56) }
+    requires fraction_bits { IsFractionBits F }
     requires rows { 0 < length rows.old }
     requires suits { SuitsRange (kind_of counted.kind) (spec_range counted.range) }
     requires room { room ≤ 1000000 }
