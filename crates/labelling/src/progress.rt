@@ -1,5 +1,6 @@
 //! Labellings under way.
 ghost use Rattle.std.specs.Prelude.{◌≡◌, ◌+◌, ◌<◌, ◌≤◌, [], ◌∷◌, ◌++◌, length, vec_len, vec_capacity, IfOk};
+ghost use Rattle.bz_model.specs.Cell.{IsCell};
 ghost use Rattle.bz_model.specs.Labels.{numbers_from};
 ghost use Rattle.labelling.specs.Progress.{one_given};
 
@@ -48,12 +49,13 @@ impl Progress {
     /// Gives the next atom the label with `i` remaining labels below it, `cell` being that of the
     /// number drawn for it. Takes no memory.
     pub(crate) fn give(&mut self, i: u64, cell: Cell)
-        requires { i < length self.old.remaining }
+        requires remains { i < length self.old.remaining }
+        requires cell { IsCell cell.k cell.b }
         ensures { self.new ≡ one_given self.old i cell }
     {
         let label = self.tree.take(i);
         put_label(&mut self.given, label);
-        put_cell(&mut self.cells, cell);
+        self.cells.put(cell);
     }
 
     /// Gives the last atom the label left, if there is one, and hands out labels and cells. Takes no
@@ -83,18 +85,6 @@ fn put_label(given: &mut Vec<u64>, label: u64)
     ensures spare { vec_capacity given.old ≤ vec_capacity given.new }
 {
     match given.push(label) {
-        Ok(()) => {}
-        Err(_) => unreachable!(),
-    }
-}
-
-/// Appends a cell.
-fn put_cell(cells: &mut Cells, cell: Cell)
-    requires { 0 < cells.old.spare }
-    ensures cell { cells.new.items ≡ cells.old.items ++ cell ∷ [] }
-    ensures spare { cells.old.spare ≤ cells.new.spare + 1 }
-{
-    match cells.push(cell) {
         Ok(()) => {}
         Err(_) => unreachable!(),
     }

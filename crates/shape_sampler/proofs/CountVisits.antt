@@ -1,10 +1,13 @@
 -- The visit of a sequence, set or cycle, from what was drawn and what was put.
-use Rattle.std.proofs.Common.{◌≡◌, ◌⊎◌, inl, inr, ℕ, ◌+◌, ◌≤◌, List, [], ◌∷◌, ◌++◌, replicate, refl, sym, ◌∙◌, ap, subst, cond, append-nil, zero-add, Bool, Option, Some, None, slice_get}
+use Rattle.std.proofs.Common.{◌≡◌, ◌⊎◌, inl, inr, ℕ, ◌+◌, ◌≤◌, List, [], ◌∷◌, ◌++◌, replicate, refl, sym, ◌∙◌, ap, subst, cond, append-nil, zero-add, arith, Bool, Option, Some, None, slice_get}
 use Rattle.std.specs.Prelude.{IsTrue, ◌↔◌}
 use Rattle.std.proofs.lemmas.Bool.{cases_Bool}
 use Rattle.bz_model.specs.declared.cell.Cell.{Cell}
 use Rattle.bz_model.specs.declared.cell.Bounds.{Bounds}
 use Rattle.bz_model.specs.Fraction.{Fraction}
+use Rattle.bz_model.specs.Cell.{IsCell}
+use Rattle.bit_tape.specs.Tape.{TapeSource, CountsFault, HasFault}
+use Rattle.bit_tape.proofs.Leaving.{fault-rose}
 use Rattle.bz_model.specs.Spec.{Spec, node_at, range_at, IsInRange}
 use Rattle.bz_model.specs.Measures.{HasZero}
 use Rattle.bz_model.specs.WellFounded.{IsWellFounded}
@@ -18,8 +21,8 @@ use Rattle.count_draw.specs.declared.drawn.CountDrawn.{CountDrawn}
 use Rattle.count_draw.specs.declared.drawn.CountDrawn.TheVariants as counted
 use Rattle.count_draw.specs.Kinds.{counted_node}
 use Rattle.count_draw.specs.Decision.{count_decision}
-use Rattle.count_draw.specs.Answer.{IsCountDrawn, OnCount, OnOver, HasCell, UsesBits, told_count}
-use Rattle.count_draw.specs.Answer as counting
+use Rattle.choice_draw.specs.Answer.{HasCell, UsesBits, fault_of}
+use Rattle.count_draw.specs.Answer.{OnCount, OnOver, told_count, is_fault}
 use Rattle.count_draw.proofs.CountedNodes.{form_of, is_counted, part_inside}
 use Rattle.object_store.specs.declared.token.Token.{Token}
 use Rattle.object_store.specs.declared.token.Token.TheVariants as token
@@ -107,7 +110,7 @@ module _ (node : ExprId) (part : ℕ) (before now : SessionState) (first : slice
   count-leaves counted.ReadFault t = stays before now ReadFault t.root t.whole t.pending t.tokens t.cells t.room t.stopped
 
   -- what was drawn stands after the cells before, or all bits of a cell were used
-  pub count-draws : (d : CountDrawn) (start used : ℕ) → CountSettled node part d before now → UsesBits d start used → HasCell d → Draws (count_answer node d now.pending) before now start used
+  pub count-draws : (d : CountDrawn) (start used : ℕ) → CountSettled node part d before now → UsesBits (told_count d used) start used → HasCell (told_count d used) → Draws (count_answer node d now.pending) before now start used
   count-draws (counted.Count value cell) start used t bits h = draws-for now.pending before now start used (record { more = cell ∷ []; whole = t.cells })
   count-draws (counted.Over cell) start used t bits h = record { more = cell ∷ []; whole = t.cells }
   count-draws (counted.Straddles cell) start used t bits h = record { first = first; bits = h.1; all_used = bits }
@@ -123,14 +126,14 @@ module _ (node : ExprId) (part : ℕ) (before now : SessionState) (first : slice
   gives-up cell start used t bits = same-attempt (attempt_of now used) (given_up (with_cell (attempt_of before start) cell)) t.pending (t.tokens ∙ append-nil before.tokens) t.cells t.room bits
 
   -- what is told is what the draw's end means
-  told : (d : CountDrawn) (start used : ℕ) → CountSettled node part d before now → UsesBits d start used → told_visit (count_answer node d now.pending) now used ≡ after_draw node.0 (counted_answered (attempt_of before start) part f.rest) (told_count d used)
+  told : (d : CountDrawn) (start used : ℕ) → CountSettled node part d before now → UsesBits (told_count d used) start used → told_visit (count_answer node d now.pending) now used ≡ after_draw node.0 (counted_answered (attempt_of before start) part f.rest) (told_count d used)
   told (counted.Count value cell) start used t bits = told-for now.pending now used ∙ ap Visited.Went (repeats value cell start used t bits)
   told (counted.Over cell) start used t bits = ap Visited.Over (gives-up cell start used t bits)
   told (counted.Straddles cell) start used t bits = refl
   told counted.Ended start used t bits = refl
   told counted.ReadFault start used t bits = refl
 
-  same-fault : (d : CountDrawn) (used : ℕ) → counting.fault_place d used ≡ fault_place (count_answer node d now.pending) used
+  same-fault : (d : CountDrawn) (used : ℕ) → fault_of (told_count d used) ≡ fault_place (count_answer node d now.pending) used
   same-fault (counted.Count value cell) used = fault-for now.pending used
   same-fault (counted.Over cell) used = refl
   same-fault (counted.Straddles cell) used = refl
@@ -138,8 +141,8 @@ module _ (node : ExprId) (part : ℕ) (before now : SessionState) (first : slice
   same-fault counted.ReadFault used = refl
 
   module _ (s : Spec) (at : HasCountedPart s node.0 part) (room : ℕ) (room_at : IsRoomFor s part before.room room) where
-    pub count-exact : (F : ℕ) (table : (level e : ℕ) → Bounds) (bits : ℕ → Option Bool) (d : CountDrawn) (start used : ℕ) → CountSettled node part d before now → UsesBits d start used → IsCountDrawn (count_decision s F table node.0 room) bits start d used → (c : Chooser) → ChoosesBy s F table c → IsVisit c bits before start (count_answer node d now.pending) now used
-    count-exact F table bits d start used t uses drawn c by = record { same = λ ne. same }
+    pub count-exact : (F : ℕ) (table : (level e : ℕ) → Bounds) (bits : ℕ → Option Bool) (d : CountDrawn) (start used : ℕ) → CountSettled node part d before now → UsesBits (told_count d used) start used → told_count d used ≡ draw (count_decision s F table node.0 room) (bit_of bits (fault_of (told_count d used))) start → (c : Chooser) → ChoosesBy s F table c → IsVisit c bits before start (count_answer node d now.pending) now used
+    count-exact F table bits d start used t uses drew_so c by = record { same = λ ne. same }
       where
         a : Attempt
         a = attempt_of before start
@@ -149,7 +152,7 @@ module _ (node : ExprId) (part : ℕ) (before now : SessionState) (first : slice
             let bit = bit_of bits (fault_place (count_answer node d now.pending) used) in
             let here : node_at c.spec node.0 ≡ Some (counted_node at.kind part) = ap (λ (z : Spec). node_at z node.0) by.same_spec ∙ at.here in
             let decide : c.decide node.0 (room_for c part before.room) ≡ count_decision s F table node.0 room = ap (c.decide node.0) (room-is s c part before.room room (by.frees part) room_at) ∙ by.at_counted node.0 room (record { kind = at.kind; part = part; here = at.here }) in
-            let drew : told_count d used ≡ draw (c.decide node.0 (room_for c part before.room)) bit start = drawn.same ∙ ap (λ p. draw (count_decision s F table node.0 room) (bit_of bits p) start) (same-fault d used) ∙ ap (λ (choose : Cell → Option Choice). draw choose bit start) (sym decide) in
+            let drew : told_count d used ≡ draw (c.decide node.0 (room_for c part before.room)) bit start = drew_so ∙ ap (λ p. draw (count_decision s F table node.0 room) (bit_of bits p) start) (same-fault d used) ∙ ap (λ (choose : Cell → Option Choice). draw choose bit start) (sym decide) in
             told d start used t uses
             ∙ ap (after_draw node.0 (counted_answered a part f.rest)) drew
             ∙ visited-is at.kind c bit a node.0 part f.rest
@@ -179,16 +182,51 @@ module _ (node : ExprId) (part : ℕ) (before now : SessionState) (first : slice
       count-session counted.Ended t ideal over within = still-belongs s x before now Ended 0 b (count-leaves counted.Ended t) (λ ne. tt)
       count-session counted.ReadFault t ideal over within = still-belongs s x before now ReadFault 0 b (count-leaves counted.ReadFault t) (λ ne. tt)
 
+-- the cell of a number is a cell, and so is that by which every number up to the room is passed over
+pub count-cell : (d : CountDrawn) (used : ℕ) → HasCell (told_count d used) → OnCount d (λ i cell. IsCell cell.k cell.b)
+count-cell (counted.Count value cell) used h = h
+count-cell (counted.Over cell) used h = tt
+count-cell (counted.Straddles cell) used h = tt
+count-cell counted.Ended used h = tt
+count-cell counted.ReadFault used h = tt
+
+pub over-cell : (d : CountDrawn) (used : ℕ) → HasCell (told_count d used) → OnOver d (λ cell. IsCell cell.k cell.b)
+over-cell (counted.Count value cell) used h = tt
+over-cell (counted.Over cell) used h = h
+over-cell (counted.Straddles cell) used h = tt
+over-cell counted.Ended used h = tt
+over-cell counted.ReadFault used h = tt
+
+-- a draw uses at most 60 bits
+pub count-few : (d : CountDrawn) (start used : ℕ) → HasCell (told_count d used) → UsesBits (told_count d used) start used → (start ≤ used) × (used ≤ start + 60)
+count-few (counted.Count value cell) start used h u = (omega arith, omega arith)
+count-few (counted.Over cell) start used h u = (omega arith, omega arith)
+count-few (counted.Straddles cell) start used h u = (omega arith, omega arith)
+count-few counted.Ended start used h u = (omega arith, omega arith)
+count-few counted.ReadFault start used h u = (omega arith, omega arith)
+
+-- a visit answers a failed read only where the draw does
+no-fault : (pending : List ℕ) → answer_for pending ≡ ReadFault → ⊥
+no-fault [] e = cc
+no-fault (p ∷ pending) e = cc
+
+pub count-cause : (node : ExprId) (pending : List ℕ) (d : CountDrawn) (source : TapeSource) (before now : List ℕ → ℕ) → CountsFault (is_fault d) source before now → count_answer node d pending ≡ ReadFault → HasFault source before now
+count-cause node pending (counted.Count value cell) source before now f e = absurd (no-fault pending e)
+count-cause node pending (counted.Over cell) source before now f e = cc
+count-cause node pending (counted.Straddles cell) source before now f e = cc
+count-cause node pending counted.Ended source before now f e = cc
+count-cause node pending counted.ReadFault source before now f e = fault-rose source before now f
+
 -- The same for an answer that is the draw's.
 module _ (node : ExprId) (part : ℕ) (before now : SessionState) (first : slice_get before.pending 0 ≡ Some node.0) (d : CountDrawn) (answer : Stepped) (answered : answer ≡ count_answer node d now.pending) (settled : CountSettled node part d before now) where
   pub counted-leaves : Leaves answer before now
   counted-leaves = subst (λ a. Leaves a before now) (sym answered) (count-leaves node part before now first d settled)
 
-  pub counted-draws : (start used : ℕ) → UsesBits d start used → HasCell d → Draws answer before now start used
+  pub counted-draws : (start used : ℕ) → UsesBits (told_count d used) start used → HasCell (told_count d used) → Draws answer before now start used
   counted-draws start used bits h = subst (λ a. Draws a before now start used) (sym answered) (count-draws node part before now first d start used settled bits h)
 
   module _ (s : Spec) (at : HasCountedPart s node.0 part) (room : ℕ) (room_at : IsRoomFor s part before.room room) where
-    pub counted-exact : (F : ℕ) (table : (level e : ℕ) → Bounds) (start used : ℕ) → UsesBits d start used → (bits : ℕ → Option Bool) → IsCountDrawn (count_decision s F table node.0 room) bits start d used → (c : Chooser) → ChoosesBy s F table c → IsVisit c bits before start answer now used
+    pub counted-exact : (F : ℕ) (table : (level e : ℕ) → Bounds) (start used : ℕ) → UsesBits (told_count d used) start used → (bits : ℕ → Option Bool) → told_count d used ≡ draw (count_decision s F table node.0 room) (bit_of bits (fault_of (told_count d used))) start → (c : Chooser) → ChoosesBy s F table c → IsVisit c bits before start answer now used
     counted-exact F table start used uses bits drawn c by = subst (λ a. IsVisit c bits before start a now used) (sym answered) (count-exact node part before now first s at room room_at F table bits d start used settled uses drawn c by)
 
     pub counted-session : (x : Fraction) → IsSound s → IsWellFounded s → HasZero s part ⊎ (¬ (HasZero s part)) → OnCount d (λ i cell. IsIdealOfCell s x node.0 cell i) → OnOver d (λ cell. IsOverOfCell s x node.0 cell room) → OnCount d (λ i cell. IsInRange i (range_at s node.0) × (i ≤ room)) → SessionBelongs s x before → SessionBelongs s x now × IsIdealAnswer s x answer now

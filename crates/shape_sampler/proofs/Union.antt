@@ -1,11 +1,13 @@
 -- The visit of a union, from what was drawn and what was put.
-use Rattle.std.proofs.Common.{◌≡◌, ℕ, ◌+◌, ◌<◌, List, [], ◌∷◌, ◌++◌, length, refl, sym, ◌∙◌, ap, subst, append-nil, zero-add, Bool, Option, Some, None, IfSome, slice_get, slice_index}
+use Rattle.std.proofs.Common.{◌≡◌, ℕ, ◌+◌, ◌<◌, ◌≤◌, arith, List, [], ◌∷◌, ◌++◌, length, refl, sym, ◌∙◌, ap, subst, append-nil, zero-add, Bool, Option, Some, None, IfSome, slice_get, slice_index}
 use Rattle.bz_model.specs.declared.cell.Cell.{Cell}
 use Rattle.bz_model.specs.declared.cell.Bounds.{Bounds}
 use Rattle.bz_model.specs.Fraction.{Fraction}
 use Rattle.bz_model.specs.Spec.{Spec, Node, node_at}
-use Rattle.bz_model.specs.Cell.{IsInCell}
+use Rattle.bz_model.specs.Cell.{IsCell, IsInCell}
 use Rattle.bz_model.specs.Ideal.{IsIdealOption}
+use Rattle.bit_tape.specs.Tape.{TapeSource, CountsFault, HasFault}
+use Rattle.bit_tape.proofs.Leaving.{fault-rose}
 use Rattle.std.proofs.lemmas.Option.{get_or_from_slice_get}
 use Rattle.bz_laws.proofs.Unions.{part_there}
 use Rattle.class_system.specs.Sound.{IsSound}
@@ -14,8 +16,7 @@ use Rattle.choice_draw.specs.declared.drawn.Drawn.{Drawn}
 use Rattle.choice_draw.specs.declared.drawn.Drawn.TheVariants as drawn
 use Rattle.choice_draw.specs.Decision.{Choice, union_decision}
 use Rattle.choice_draw.specs.Draw.{bit_of, draw}
-use Rattle.choice_draw.specs.Answer.{IsDrawn, OnValue, HasCell, UsesBits, told_draw}
-use Rattle.choice_draw.specs.Answer as drawing
+use Rattle.choice_draw.specs.Answer.{OnValue, HasCell, UsesBits, told_draw, fault_of, is_fault}
 use Rattle.object_store.specs.declared.token.Token.{Token}
 use Rattle.object_store.specs.declared.token.Token.TheVariants as token
 use Rattle.shape_sampler.specs.declared.stepped.Stepped.{Stepped}
@@ -83,7 +84,7 @@ module _ (node : ExprId) (parts : List ℕ) (before now : SessionState) (first :
   union-leaves drawn.ReadFault t = stays before now ReadFault t.root t.whole t.pending t.tokens t.cells t.room t.stopped
 
   -- what was drawn stands after the cells before, or all bits of a cell were used
-  pub union-draws : (d : Drawn) (start used : ℕ) → Settled node parts d before now → UsesBits d start used → HasCell d → Draws (union_answer node d) before now start used
+  pub union-draws : (d : Drawn) (start used : ℕ) → Settled node parts d before now → UsesBits (told_draw Choice.Take d used) start used → HasCell (told_draw Choice.Take d used) → Draws (union_answer node d) before now start used
   union-draws (drawn.Value value cell) start used t bits h = record { more = cell ∷ []; whole = t.cells }
   union-draws (drawn.Straddles cell) start used t bits h = record { first = first; bits = h.1; all_used = bits }
   union-draws drawn.Ended start used t bits h = tt
@@ -94,21 +95,21 @@ module _ (node : ExprId) (parts : List ℕ) (before now : SessionState) (first :
   picked value cell start used t bits = same-attempt (attempt_of now used) (with_pending (with_token (with_cell (attempt_of before start) cell) (token.Pick value)) (slice_index parts value ∷ f.rest)) (t.pending node.0 f.rest f.whole) t.tokens t.cells t.room bits
 
   -- what is told is what the draw's end means
-  told : (d : Drawn) (start used : ℕ) → Settled node parts d before now → UsesBits d start used → told_visit (union_answer node d) now used ≡ after_draw node.0 (union_answered (attempt_of before start) parts f.rest) (told_draw Choice.Take d used)
+  told : (d : Drawn) (start used : ℕ) → Settled node parts d before now → UsesBits (told_draw Choice.Take d used) start used → told_visit (union_answer node d) now used ≡ after_draw node.0 (union_answered (attempt_of before start) parts f.rest) (told_draw Choice.Take d used)
   told (drawn.Value value cell) start used t bits = ap Visited.Went (picked value cell start used t bits)
   told (drawn.Straddles cell) start used t bits = refl
   told drawn.Ended start used t bits = refl
   told drawn.ReadFault start used t bits = refl
 
-  same-fault : (d : Drawn) (used : ℕ) → drawing.fault_place d used ≡ fault_place (union_answer node d) used
+  same-fault : (d : Drawn) (used : ℕ) → fault_of (told_draw Choice.Take d used) ≡ fault_place (union_answer node d) used
   same-fault (drawn.Value value cell) used = refl
   same-fault (drawn.Straddles cell) used = refl
   same-fault drawn.Ended used = refl
   same-fault drawn.ReadFault used = refl
 
   module _ (s : Spec) (at : node_at s node.0 ≡ Some (Node.Union parts)) where
-    pub union-exact : (F : ℕ) (table : (level e : ℕ) → Bounds) (bits : ℕ → Option Bool) (d : Drawn) (start used : ℕ) → Settled node parts d before now → UsesBits d start used → IsDrawn Choice.Take (union_decision s table node.0) bits start d used → (c : Chooser) → ChoosesBy s F table c → IsVisit c bits before start (union_answer node d) now used
-    union-exact F table bits d start used t uses drawn c by = record { same = λ ne. same }
+    pub union-exact : (F : ℕ) (table : (level e : ℕ) → Bounds) (bits : ℕ → Option Bool) (d : Drawn) (start used : ℕ) → Settled node parts d before now → UsesBits (told_draw Choice.Take d used) start used → told_draw Choice.Take d used ≡ draw (union_decision s table node.0) (bit_of bits (fault_of (told_draw Choice.Take d used))) start → (c : Chooser) → ChoosesBy s F table c → IsVisit c bits before start (union_answer node d) now used
+    union-exact F table bits d start used t uses drew_so c by = record { same = λ ne. same }
       where
         a : Attempt
         a = attempt_of before start
@@ -118,7 +119,7 @@ module _ (node : ExprId) (parts : List ℕ) (before now : SessionState) (first :
             let bit = bit_of bits (fault_place (union_answer node d) used) in
             let here : node_at c.spec node.0 ≡ Some (Node.Union parts) = ap (λ (z : Spec). node_at z node.0) by.same_spec ∙ at in
             let decide : c.decide node.0 before.room ≡ union_decision s table node.0 = by.at_unions node.0 before.room (record { parts = parts; here = at }) in
-            let drew : told_draw Choice.Take d used ≡ draw (c.decide node.0 before.room) bit start = drawn.same ∙ ap (λ p. draw (union_decision s table node.0) (bit_of bits p) start) (same-fault d used) ∙ ap (λ (choose : Cell → Option Choice). draw choose bit start) (sym decide) in
+            let drew : told_draw Choice.Take d used ≡ draw (c.decide node.0 before.room) bit start = drew_so ∙ ap (λ p. draw (union_decision s table node.0) (bit_of bits p) start) (same-fault d used) ∙ ap (λ (choose : Cell → Option Choice). draw choose bit start) (sym decide) in
             told d start used t uses
             ∙ ap (after_draw node.0 (union_answered a parts f.rest)) drew
             ∙ ap (node_visited c bit a node.0 f.rest) (sym here)
@@ -135,16 +136,37 @@ module _ (node : ExprId) (parts : List ℕ) (before now : SessionState) (first :
     union-session x sound drawn.Ended t ideal within b = still-belongs s x before now Ended 0 b (union-leaves drawn.Ended t) (λ ne. tt)
     union-session x sound drawn.ReadFault t ideal within b = still-belongs s x before now ReadFault 0 b (union-leaves drawn.ReadFault t) (λ ne. tt)
 
+-- the cell of a value is a cell
+pub cell-of : (d : Drawn) (used : ℕ) → HasCell (told_draw Choice.Take d used) → OnValue d (λ i cell. IsCell cell.k cell.b)
+cell-of (drawn.Value value cell) used h = h
+cell-of (drawn.Straddles cell) used h = tt
+cell-of drawn.Ended used h = tt
+cell-of drawn.ReadFault used h = tt
+
+-- a draw uses at most 60 bits
+pub draw-few : (d : Drawn) (start used : ℕ) → HasCell (told_draw Choice.Take d used) → UsesBits (told_draw Choice.Take d used) start used → (start ≤ used) × (used ≤ start + 60)
+draw-few (drawn.Value value cell) start used h u = (omega arith, omega arith)
+draw-few (drawn.Straddles cell) start used h u = (omega arith, omega arith)
+draw-few drawn.Ended start used h u = (omega arith, omega arith)
+draw-few drawn.ReadFault start used h u = (omega arith, omega arith)
+
+-- a visit answers a failed read only where the draw does
+pub draw-cause : (node : ExprId) (d : Drawn) (source : TapeSource) (before now : List ℕ → ℕ) → CountsFault (is_fault d) source before now → union_answer node d ≡ ReadFault → HasFault source before now
+draw-cause node (drawn.Value value cell) source before now f e = cc
+draw-cause node (drawn.Straddles cell) source before now f e = cc
+draw-cause node drawn.Ended source before now f e = cc
+draw-cause node drawn.ReadFault source before now f e = fault-rose source before now f
+
 -- The same for an answer that is the draw's.
 module _ (node : ExprId) (parts : List ℕ) (before now : SessionState) (first : slice_get before.pending 0 ≡ Some node.0) (d : Drawn) (answer : Stepped) (answered : answer ≡ union_answer node d) (settled : Settled node parts d before now) where
   pub answer-leaves : Leaves answer before now
   answer-leaves = subst (λ a. Leaves a before now) (sym answered) (union-leaves node parts before now first d settled)
 
-  pub answer-draws : (start used : ℕ) → UsesBits d start used → HasCell d → Draws answer before now start used
+  pub answer-draws : (start used : ℕ) → UsesBits (told_draw Choice.Take d used) start used → HasCell (told_draw Choice.Take d used) → Draws answer before now start used
   answer-draws start used bits h = subst (λ a. Draws a before now start used) (sym answered) (union-draws node parts before now first d start used settled bits h)
 
   module _ (s : Spec) (at : node_at s node.0 ≡ Some (Node.Union parts)) where
-    pub answer-exact : (F : ℕ) (table : (level e : ℕ) → Bounds) (start used : ℕ) → UsesBits d start used → (bits : ℕ → Option Bool) → IsDrawn Choice.Take (union_decision s table node.0) bits start d used → (c : Chooser) → ChoosesBy s F table c → IsVisit c bits before start answer now used
+    pub answer-exact : (F : ℕ) (table : (level e : ℕ) → Bounds) (start used : ℕ) → UsesBits (told_draw Choice.Take d used) start used → (bits : ℕ → Option Bool) → told_draw Choice.Take d used ≡ draw (union_decision s table node.0) (bit_of bits (fault_of (told_draw Choice.Take d used))) start → (c : Chooser) → ChoosesBy s F table c → IsVisit c bits before start answer now used
     answer-exact F table start used uses bits drawn c by = subst (λ a. IsVisit c bits before start a now used) (sym answered) (union-exact node parts before now first s at F table bits d start used settled uses drawn c by)
 
     pub answer-session : (x : Fraction) → IsSound s → OnValue d (λ i cell. (u : Fraction) → IsInCell cell.k cell.b u → IsIdealOption s x u node.0 i) → OnValue d (λ i cell. i < length parts) → SessionBelongs s x before → SessionBelongs s x now × IsIdealAnswer s x answer now

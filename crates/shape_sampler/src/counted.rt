@@ -1,12 +1,13 @@
 //! Sequences, sets and cycles: their part, the room of their number of parts, and what a draw of it
 //! puts.
 ghost use Rattle.std.specs.Prelude.{◌≡◌, ◌<◌, ◌≤◌, ◌∷◌, ◌++◌, length, replicate, ℕ, List, IfSome, IfNone};
+ghost use Rattle.bz_model.specs.Cell.{IsCell};
 ghost use Rattle.bz_model.specs.Measures.{HasZero};
 ghost use Rattle.count_draw.specs.Kinds.{IsCountedNode};
-ghost use Rattle.count_draw.specs.Answer.{OnCount};
+ghost use Rattle.count_draw.specs.Answer.{OnCount, OnOver};
 ghost use Rattle.shape_sampler.specs.State.{HasCountedPart, PutsParts, count_answer, count_tokens, count_cells};
 
-use crate::placing::{answer, put_cell, put_token};
+use crate::placing::{answer, put_token};
 use crate::stepped::Stepped;
 use bz_model::cells::Cells;
 use class_system::expr::Expr;
@@ -54,6 +55,8 @@ pub(crate) fn put_counted(
     requires pending_spare { 0 < pending.old.spare }
     requires shape_spare { 0 < shape.old.spare }
     requires cells_spare { 0 < cells.old.spare }
+    requires cell { OnCount drawn (λ i cell. IsCell cell.k cell.b) }
+    requires over { OnOver drawn (λ cell. IsCell cell.k cell.b) }
     requires few { OnCount drawn (λ i cell. i ≤ 1000000) }
     ensures pending { PutsParts part.0 drawn pending.old.items pending.new.items }
     ensures tokens { shape.new.items ≡ shape.old.items ++ count_tokens drawn }
@@ -62,11 +65,11 @@ pub(crate) fn put_counted(
     match drawn {
         CountDrawn::Count { value, cell } => {
             put_token(shape, Token::Count(value as u32));
-            put_cell(cells, cell);
+            cells.put(cell);
             repeat_first(pending, part, value as u32);
         }
         CountDrawn::Over { cell } => {
-            put_cell(cells, cell);
+            cells.put(cell);
             pending.clear();
         }
         CountDrawn::Straddles { .. } | CountDrawn::Ended | CountDrawn::ReadFault => {}

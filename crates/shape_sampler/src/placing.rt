@@ -1,5 +1,6 @@
 //! Tokens, cells and nodes, put where there is spare room.
 ghost use Rattle.std.specs.Prelude.{◌≡◌, ◌<◌, ◌≤◌, [], ◌∷◌, ◌++◌, map, length, ℕ, List, OnOk};
+ghost use Rattle.bz_model.specs.Cell.{IsCell};
 ghost use Rattle.class_system.specs.Views.{number};
 ghost use Rattle.shape_sampler.specs.State.{answer_for, union_answer, stop_after, PutsPart, drawn_tokens, drawn_cells};
 ghost use Rattle.choice_draw.specs.Answer.{OnValue};
@@ -20,17 +21,6 @@ pub(crate) fn put_token(shape: &mut Shape, token: Token)
     ensures { shape.new.items ≡ shape.old.items ++ token ∷ [] }
 {
     match shape.push(token) {
-        Ok(()) => {}
-        Err(_) => unreachable!(),
-    }
-}
-
-/// Appends a cell.
-pub(crate) fn put_cell(cells: &mut Cells, cell: Cell)
-    requires { 0 < cells.old.spare }
-    ensures { cells.new.items ≡ cells.old.items ++ cell ∷ [] }
-{
-    match cells.push(cell) {
         Ok(()) => {}
         Err(_) => unreachable!(),
     }
@@ -89,6 +79,7 @@ pub(crate) fn put_drawn(
     requires pending_spare { 0 < pending.old.spare }
     requires shape_spare { 0 < shape.old.spare }
     requires cells_spare { 0 < cells.old.spare }
+    requires cell { OnValue drawn (λ i cell. IsCell cell.k cell.b) }
     requires in_range { OnValue drawn (λ i cell. i < length parts.now) }
     requires few { length parts.now ≤ 64 }
     ensures pending { PutsPart (map number parts.now) drawn pending.old.items pending.new.items }
@@ -99,7 +90,7 @@ pub(crate) fn put_drawn(
         return;
     };
     put_token(shape, Token::Pick(value as u32));
-    put_cell(cells, cell);
+    cells.put(cell);
     replace_first(pending, &[parts[value as usize]]);
 }
 

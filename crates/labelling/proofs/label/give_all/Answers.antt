@@ -1,10 +1,11 @@
 -- Each number names a label, and the labelling goes on; where none does, it ends as its bits say.
-use Rattle.std.proofs.Common.{◌≡◌, ◌+◌, ◌-◌, ◌++◌, length, remove, refl, sym, ◌∙◌, ap, subst, arith}
+use Rattle.std.proofs.Common.{◌≡◌, ◌+◌, ◌-◌, ◌++◌, length, remove, false, true, sym, ◌∙◌, ap, subst, arith}
 use Rattle.std.proofs.lemmas.List.Edits.{length-remove}
 use Rattle.std.specs.List.{AllByRecursion}
 use Rattle.std.specs.Prelude.{IfSome}
 use Rattle.bz_model.specs.Cell.{IsCell}
 use Rattle.bit_tape.specs.Tape.{bits_of}
+use Rattle.bit_tape.proofs.Leaving.{leaves-none, leaves-more, counts-kept, fault-rose}
 use Rattle.labelling.specs.Answer.{AreIdealLabels}
 use Rattle.labelling.specs.LabelsByBits.{bits_in}
 use Rattle.labelling.specs.Progress.{one_given}
@@ -27,53 +28,49 @@ atoms-init g c =
       names = subst (λ p. NamesIdeally c.args.n p) (sym begun) (names-first c.args.n);
       goes = subst (λ p. IfSome (bits_of c.args.tape.now.source (g.S.Shelf.content c.args.shelf.now)) (λ bits. LabelsOn bits c.args.n c.args.tape.now.used c.args.n p c.args.tape.now.used)) (sym begun)
           (told-first (bits_of c.args.tape.now.source (g.S.Shelf.content c.args.shelf.now)) c.args.n c.args.tape.now.used);
-      source = refl;
-      belongs = c.requires.belongs;
-      content = refl;
-      counts = λ other. omega arith;
-      seeded = λ seed is_seed. refl;
+      tape = leaves-none g.S.Shelf.content g.S.Shelf.faults c.args.shelf.now c.args.tape.now c.requires.belongs;
     }
 
 pub returns-in-Straddles-clause-labelled : goal.returns-in-Straddles-clause-labelled
 returns-in-Straddles-clause-labelled g c =
     let kept = c.atoms.invariant in
-    let told = rw (kept.source, kept.content) at c.in-Straddles.ensures.exact in
-    told-straddles (bits_of c.args.tape.now.source (g.S.Shelf.content c.args.shelf.now)) c.args.n c.args.tape.now.used c.atoms.m c.atoms.progress c.atoms.tape.used kept.goes kept.used c.atoms-test.true c.in-Straddles.cell c.draw_whole.new.tape.used told c.in-Straddles.ensures.used
+    let told = rw (kept.tape.source, kept.tape.content) at c.in-Straddles.ensures.drawn in
+    told-straddles (bits_of c.args.tape.now.source (g.S.Shelf.content c.args.shelf.now)) c.args.n c.args.tape.now.used c.atoms.m c.atoms.progress c.atoms.tape.used kept.goes kept.used c.atoms-test.true c.in-Straddles.cell c.draw_whole.new.tape.used told c.in-Straddles.ensures.drawn.uses
 
 pub returns-in-Straddles-clause-used : goal.returns-in-Straddles-clause-used
 returns-in-Straddles-clause-used g c =
     let kept = c.atoms.invariant in
     let few = bits_in-few c.atoms.progress.cells kept.each in
-    (omega (arith, c.in-Straddles.ensures.used), omega (arith, c.in-Straddles.ensures.used, c.in-Straddles.ensures.cell))
+    (omega (arith, c.in-Straddles.ensures.drawn.uses), omega (arith, c.in-Straddles.ensures.drawn.uses, c.in-Straddles.ensures.drawn.cell))
 
 pub returns-in-Ended-clause-labelled : goal.returns-in-Ended-clause-labelled
 returns-in-Ended-clause-labelled g c =
     let kept = c.atoms.invariant in
-    let told = rw (kept.source, kept.content) at c.in-Ended.ensures.exact in
-    told-ended (bits_of c.args.tape.now.source (g.S.Shelf.content c.args.shelf.now)) c.args.n c.args.tape.now.used c.atoms.m c.atoms.progress c.atoms.tape.used kept.goes kept.used c.atoms-test.true c.draw_whole.new.tape.used told c.in-Ended.ensures.used.0 c.in-Ended.ensures.used.1
+    let told = rw (kept.tape.source, kept.tape.content) at c.in-Ended.ensures.drawn in
+    told-ended (bits_of c.args.tape.now.source (g.S.Shelf.content c.args.shelf.now)) c.args.n c.args.tape.now.used c.atoms.m c.atoms.progress c.atoms.tape.used kept.goes kept.used c.atoms-test.true c.draw_whole.new.tape.used told c.in-Ended.ensures.drawn.uses.1 c.in-Ended.ensures.drawn.uses.2
 
 pub returns-in-Ended-clause-used : goal.returns-in-Ended-clause-used
 returns-in-Ended-clause-used g c =
     let kept = c.atoms.invariant in
     let few = bits_in-few c.atoms.progress.cells kept.each in
-    (omega (arith, c.in-Ended.ensures.used), omega (arith, c.in-Ended.ensures.used))
+    (omega (arith, c.in-Ended.ensures.drawn.uses), omega (arith, c.in-Ended.ensures.drawn.uses))
 
 pub returns-in-ReadFault-clause-labelled : goal.returns-in-ReadFault-clause-labelled
 returns-in-ReadFault-clause-labelled g c =
     let kept = c.atoms.invariant in
-    let told = rw (kept.source, kept.content) at c.in-ReadFault.ensures.exact in
-    told-failed (bits_of c.args.tape.now.source (g.S.Shelf.content c.args.shelf.now)) c.args.n c.args.tape.now.used c.atoms.m c.atoms.progress c.atoms.tape.used kept.goes kept.used c.atoms-test.true c.draw_whole.new.tape.used told c.in-ReadFault.ensures.used.0 c.in-ReadFault.ensures.used.1
+    let told = rw (kept.tape.source, kept.tape.content) at c.in-ReadFault.ensures.drawn in
+    told-failed (bits_of c.args.tape.now.source (g.S.Shelf.content c.args.shelf.now)) c.args.n c.args.tape.now.used c.atoms.m c.atoms.progress c.atoms.tape.used kept.goes kept.used c.atoms-test.true c.draw_whole.new.tape.used told c.in-ReadFault.ensures.drawn.uses.1 c.in-ReadFault.ensures.drawn.uses.2
 
 pub returns-in-ReadFault-clause-used : goal.returns-in-ReadFault-clause-used
 returns-in-ReadFault-clause-used g c =
     let kept = c.atoms.invariant in
     let few = bits_in-few c.atoms.progress.cells kept.each in
-    (omega (arith, c.in-ReadFault.ensures.used), omega (arith, c.in-ReadFault.ensures.used))
+    (omega (arith, c.in-ReadFault.ensures.drawn.uses), omega (arith, c.in-ReadFault.ensures.drawn.uses))
 
 pub atoms-preserved : goal.atoms-preserved
 atoms-preserved g c =
     let kept = c.atoms.invariant in
-    let told = rw (kept.source, kept.content) at c.in-Value.ensures.exact in
+    let told = rw (kept.tape.source, kept.tape.content) at c.in-Value.ensures.drawn in
     let next = one_given c.atoms.progress c.in-Value.value c.in-Value.cell in
     let now : c.give.new.self ≡ next = c.give.ensures in
     let below = c.in-Value.ensures.below in
@@ -85,16 +82,12 @@ atoms-preserved g c =
       some = λ any. omega arith;
       remaining = ap (λ p. length p.remaining) now ∙ (let e : length (remove c.atoms.progress.remaining c.in-Value.value) ≡ c.atoms.m - 1 = omega arith in e);
       cells = ap (λ p. length p.cells) now ∙ (let e : length next.cells ≡ c.args.n - (c.atoms.m - 1) = omega arith in e);
-      each = subst (λ p. AllByRecursion (λ d. IsCell d.k d.b) p.cells) (sym now) (each-more (λ d. IsCell d.k d.b) c.atoms.progress.cells c.in-Value.cell kept.each c.in-Value.ensures.cell);
-      used = (let e : c.draw_whole.new.tape.used ≡ c.args.tape.now.used + bits_in next.cells = omega (arith, c.in-Value.ensures.used) in e) ∙ ap (λ p. c.args.tape.now.used + bits_in p.cells) (sym now);
+      each = subst (λ p. AllByRecursion (λ d. IsCell d.k d.b) p.cells) (sym now) (each-more (λ d. IsCell d.k d.b) c.atoms.progress.cells c.in-Value.cell kept.each c.in-Value.ensures.drawn.cell);
+      used = (let e : c.draw_whole.new.tape.used ≡ c.args.tape.now.used + bits_in next.cells = omega (arith, c.in-Value.ensures.drawn.uses) in e) ∙ ap (λ p. c.args.tape.now.used + bits_in p.cells) (sym now);
       names = subst (λ p. NamesIdeally c.args.n p) (sym now) (names-on c.args.n c.atoms.m c.in-Value.value c.atoms.progress c.in-Value.cell kept.names kept.remaining c.atoms-test.true below c.in-Value.ensures.decided);
       goes = subst (λ p. IfSome (bits_of c.args.tape.now.source (g.S.Shelf.content c.args.shelf.now)) (λ bits. LabelsOn bits c.args.n c.args.tape.now.used (c.atoms.m - 1) p c.draw_whole.new.tape.used)) (sym now)
-          (told-on (bits_of c.args.tape.now.source (g.S.Shelf.content c.args.shelf.now)) c.args.n c.args.tape.now.used c.atoms.m c.atoms.progress c.atoms.tape.used kept.goes kept.used c.atoms-test.true c.in-Value.value c.in-Value.cell c.draw_whole.new.tape.used told c.in-Value.ensures.used);
-      source = c.in-Value.ensures.source ∙ kept.source;
-      belongs = c.in-Value.ensures.belongs;
-      content = c.in-Value.ensures.content ∙ kept.content;
-      counts = λ other. let later = kept.counts other in let once = c.in-Value.ensures.counts other in omega arith;
-      seeded = λ seed is_seed. c.in-Value.ensures.seeded seed (kept.source ∙ is_seed) ∙ kept.seeded seed is_seed;
+          (told-on (bits_of c.args.tape.now.source (g.S.Shelf.content c.args.shelf.now)) c.args.n c.args.tape.now.used c.atoms.m c.atoms.progress c.atoms.tape.used kept.goes kept.used c.atoms-test.true c.in-Value.value c.in-Value.cell c.draw_whole.new.tape.used told c.in-Value.ensures.drawn.uses);
+      tape = leaves-more g.S.Shelf.content g.S.Shelf.faults false c.args.shelf.now c.atoms.shelf c.draw_whole.new.shelf c.args.tape.now c.atoms.tape c.draw_whole.new.tape kept.tape c.in-Value.ensures.tape;
     }
 
 pub returns-clause-labelled : goal.returns-clause-labelled

@@ -1,8 +1,8 @@
-use Rattle.std.proofs.Common.{◌≡◌, ℕ, ◌+◌, ◌-◌, ◌≤◌, List, length}
+use Rattle.std.proofs.Common.{◌≡◌, ◌+◌, ◌-◌, ◌≤◌, false, length}
 use Rattle.std.specs.Prelude.{IfSome}
 use Rattle.std.specs.List.{AllByRecursion}
 use Rattle.bz_model.specs.Cell.{IsCell}
-use Rattle.bit_tape.specs.Tape.{TapeSource, Belongs, bits_of}
+use Rattle.bit_tape.specs.Tape.{LeavesTape, bits_of}
 use Rattle.labelling.specs.LabelsByBits.{bits_in}
 use Rattle.labelling.proofs.LabelsOn.{LabelsOn}
 use Rattle.labelling.proofs.Naming.{NamesIdeally}
@@ -19,11 +19,7 @@ invariant-atoms g l = record {
   used : l.tape.used ≡ l.fn.tape.used + bits_in l.progress.cells;
   names : NamesIdeally l.fn.n l.progress;
   goes : IfSome (bits_of l.fn.tape.source (g.S.Shelf.content l.fn.shelf)) (λ bits. LabelsOn bits l.fn.n l.fn.tape.used l.m l.progress l.tape.used);
-  source : l.tape.source ≡ l.fn.tape.source;
-  belongs : Belongs (g.S.Shelf.content l.shelf) l.tape;
-  content : g.S.Shelf.content l.shelf ≡ g.S.Shelf.content l.fn.shelf;
-  counts : (other : List ℕ) → g.S.Shelf.faults l.fn.shelf other ≤ g.S.Shelf.faults l.shelf other;
-  seeded : (seed : ℕ) → l.fn.tape.source ≡ TapeSource.Seeded seed → l.shelf ≡ l.fn.shelf;
+  tape : LeavesTape g.S.Shelf.content g.S.Shelf.faults false l.fn.shelf l.shelf l.fn.tape l.tape;
 }
 
 abbrev pub decreases-atoms : goal.decreases-atoms
