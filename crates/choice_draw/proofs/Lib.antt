@@ -11,3 +11,4 @@ pub mod GivenDraws
 pub mod ToldDraws
 pub mod Ticks
 pub mod TwoAtomsSound
+pub mod LeastCells

@@ -8,5 +8,6 @@
 
 pub mod cells;
 pub mod drawn;
+pub mod laws;
 pub mod union;
 pub mod whole;

@@ -15,7 +15,7 @@ ghost use Rattle.size_window.specs.LabelTurn.{IsLabelTurn, SettlesLabels};
 
 use crate::ending::{Ending, Straddle};
 use crate::limits::{Counts, Limits};
-use crate::made::{Made, append, place_before};
+use crate::made::{Made, place_before};
 use crate::turned::{Entry, Outcome, Turned};
 use bit_tape::tape::Tape;
 use bz_model::cell::Bounds;
@@ -285,7 +285,7 @@ impl Drawing {
     {
         match answer {
             Labelled::Labels { labels, cells } => {
-                append(&mut made.cells, cells.items());
+                made.cells.append(&cells);
                 self.counts.turns += 1;
                 Turned::Kept(self.keep(made, Some(labels), used))
             }
