@@ -2,9 +2,8 @@
 ghost use Rattle.std.specs.Prelude.{◌≡◌, ◌+◌, ◌<◌, ◌≤◌, [], ◌∷◌, ◌++◌, ◌↔◌, length, IsTrue, IsOk, IfOk, OnOk, OnErr};
 ghost use Rattle.object_store.specs.Tokens.{size_of, IsOf};
 
-use crate::pending::Pending;
 use crate::token::Token;
-use crate::walk::takes_all;
+use crate::walk::{Next, Walk};
 use class_system::ids::ClassId;
 use class_system::system::System;
 use std::alloc::{AllocError, Global};
@@ -86,16 +85,21 @@ impl Shape {
 
     /// Whether the tokens are those of one object of a class.
     ///
-    /// It walks over the tokens with a stack of nodes of its own, in steps that need a token or go
-    /// down a way without one, which is at most as long as there are nodes. A refusal comes for want
-    /// of memory alone.
+    /// It walks over the tokens with a stack of nodes of its own. A refusal comes for want of memory
+    /// alone.
     pub fn is_of(&self, system: &System, c: ClassId) -> Result<bool, AllocError>
         requires in_range { c.0 < length system.now.names }
         ensures is_of { IfOk result (λ b. IsTrue b ↔ IsOf system.now c.0 self.now.items) }
     {
         system.known();
-        let mut pending = Pending::new(*self.content.allocator());
-        pending.push(system.body(c), 1)?;
-        takes_all(system, &mut pending, self.tokens())
+        let alloc = *self.content.allocator();
+        let mut walk = Walk::new(alloc, system, system.body(c), self.tokens())?;
+        'visits: loop {
+            match walk.next()? {
+                Next::Node(..) => {}
+                Next::End => return Ok(true),
+                Next::NoObject => return Ok(false),
+            }
+        }
     }
 }
