@@ -1,16 +1,12 @@
--- The tokens are asked of the class's body.
-use Rattle.std.proofs.Common.{◌≡◌, ◌↔◌, ℕ, [], sym, subst, subst₂, ◌∙◌, refl}
+-- The tokens are asked of the nodes that wait.
+use Rattle.std.proofs.Common.{◌≡◌, ◌↔◌, [], sym, subst, subst₂, ◌∙◌, refl, ℕ}
 use Rattle.bz_model.specs.Spec.{Spec}
 use Rattle.object_store.specs.declared.visit.Visit.{Visit}
 use Rattle.object_store.specs.Tokens.{AreOf}
 use Rattle.object_store.specs.Walking.{Walking, IsNext, IsEnd, HasNoObject, IsVisit}
-use Rattle.object_store.proofs.InRange.{body-below}
 use Rattle.object_store.proofs.NextToken.{of-none}
-use Rattle.object_store.proofs.Walked.{of-body, never_true}
+use Rattle.object_store.proofs.Walked.{never_true}
 use Rattle.object_store.proofs.shape.Shape.is_of.Goals as goal
-
-pub new-requires : goal.new-requires
-new-requires c = record { in_range = body-below c.args.system.now c.known.ensures.sound c.args.c.0 c.body.result.0 c.body.ensures.body }
 
 all-taken : (s : Spec) (w now : Walking) → w.system ≡ s → IsEnd w now → AreOf s w.waiting w.left
 all-taken s w now same h = subst₂ (AreOf s) (sym h.nothing) (sym h.no_token) ((of-none s []).1 refl)
@@ -25,19 +21,13 @@ pub returns-in-End : goal.returns-in-End
 returns-in-End c =
     let end = subst (IsNext c.visits.walk c.next.new.self) c.in-End.is c.in_ok-next.ensures.next in
     let there = c.visits.invariant.same.1 (all-taken c.args.system.now c.visits.walk c.next.new.self c.visits.invariant.system end) in
-    let tokens = c.in_ok-walk.ensures.left ∙ c.tokens.ensures in
-    let of = (of-body c.args.system.now c.args.c.0 c.body.result.0 c.args.self.now.items c.body.ensures.body).0 (subst₂ (AreOf c.args.system.now) c.in_ok-walk.ensures.waiting tokens there) in
-    record { is_of = (λ t. of, λ h. refl) }
+    record { is_of = (λ t. c.in_ok-walk.ensures.asked.0 there, λ h. refl) }
 
 pub returns-in-NoObject : goal.returns-in-NoObject
 returns-in-NoObject c =
     let never = subst (IsNext c.visits.walk c.next.new.self) c.in-NoObject.is c.in_ok-next.ensures.next in
-    let tokens = c.in_ok-walk.ensures.left ∙ c.tokens.ensures in
     record {
-      is_of = never_true (λ h.
-          let asked = (of-body c.args.system.now c.args.c.0 c.body.result.0 c.args.self.now.items c.body.ensures.body).1 h in
-          let start = subst₂ (AreOf c.args.system.now) (sym c.in_ok-walk.ensures.waiting) (sym tokens) asked in
-          none-left c.args.system.now c.visits.walk c.next.new.self c.visits.invariant.system never (c.visits.invariant.same.0 start));
+      is_of = never_true (λ h. none-left c.args.system.now c.visits.walk c.next.new.self c.visits.invariant.system never (c.visits.invariant.same.0 (c.in_ok-walk.ensures.asked.1 h)));
     }
 
 pub visits-preserved : goal.visits-preserved
