@@ -1,0 +1,56 @@
+-- Lines put one after the other.
+use Rattle.std.proofs.Common.{◌≡◌, ℕ, zero, suc, ◌+◌, ◌<◌, List, [], ◌∷◌, ◌++◌, length, take, get_or, arith, refl, sym, ◌∙◌, ap, append_assoc, append-nil, add-one, Some}
+use Rattle.std.specs.Prelude.{slice_get, codes}
+use Rattle.certificate.specs.declared.certificate.Header.{Header}
+use Rattle.certificate.specs.Patterns.{filled}
+use Rattle.certificate.specs.Lines.{Line, text_of, whole_line}
+use Rattle.certificate.specs.Certificates.{spec_lines, base_lines, header_lines}
+
+pub text-append : (xs ys : List Line) → text_of (xs ++ ys) ≡ text_of xs ++ text_of ys
+text-append [] ys = refl
+text-append (x ∷ xs) ys = ap (λ t. whole_line x ++ t) (text-append xs ys) ∙ sym (append_assoc (whole_line x) (text_of xs) (text_of ys))
+
+-- the lines of a header, one after the other
+pub header-joined : (h : Header) (t0 t1 t2 t3 t4 t5 t6 t7 : List ℕ)
+    → t0 ≡ [] → t1 ≡ t0 ++ whole_line (Line.Version h.version) → t2 ≡ t1 ++ whole_line (Line.InMode h.mode)
+    → t3 ≡ t2 ++ text_of (spec_lines h.digest) → t4 ≡ t3 ++ whole_line (Line.X h.x.num h.x.den)
+    → t5 ≡ t4 ++ whole_line (Line.Fraction h.fraction) → t6 ≡ t5 ++ whole_line (Line.Window h.min h.max)
+    → t7 ≡ t6 ++ text_of (base_lines h.names h.base) → t7 ≡ text_of (header_lines h)
+header-joined h t0 t1 t2 t3 t4 t5 t6 t7 e0 e1 e2 e3 e4 e5 e6 e7 =
+    let v = whole_line (Line.Version h.version) in
+    let m = whole_line (Line.InMode h.mode) in
+    let d = text_of (spec_lines h.digest) in
+    let x = whole_line (Line.X h.x.num h.x.den) in
+    let f = whole_line (Line.Fraction h.fraction) in
+    let w = whole_line (Line.Window h.min h.max) in
+    let b = text_of (base_lines h.names h.base) in
+    let tail = text-append (spec_lines h.digest) (Line.X h.x.num h.x.den ∷ Line.Fraction h.fraction ∷ Line.Window h.min h.max ∷ base_lines h.names h.base) in
+    joined t0 t1 t2 t3 t4 t5 t6 t7 v m d x f w b e0 e1 e2 e3 e4 e5 e6 e7 ∙ ap (λ t. v ++ (m ++ t)) (sym tail)
+  where
+    joined : (t0 t1 t2 t3 t4 t5 t6 t7 v m d x f w b : List ℕ) → t0 ≡ [] → t1 ≡ t0 ++ v → t2 ≡ t1 ++ m → t3 ≡ t2 ++ d → t4 ≡ t3 ++ x → t5 ≡ t4 ++ f → t6 ≡ t5 ++ w → t7 ≡ t6 ++ b → t7 ≡ v ++ (m ++ (d ++ (x ++ (f ++ (w ++ b)))))
+    joined t0 t1 t2 t3 t4 t5 t6 t7 v m d x f w b e0 e1 e2 e3 e4 e5 e6 e7 =
+        e7 ∙ ap (λ t. t ++ b) e6 ∙ append_assoc t5 w b ∙ ap (λ t. t ++ (w ++ b)) e5 ∙ append_assoc t4 f (w ++ b)
+        ∙ ap (λ t. t ++ (f ++ (w ++ b))) e4 ∙ append_assoc t3 x (f ++ (w ++ b)) ∙ ap (λ t. t ++ (x ++ (f ++ (w ++ b)))) e3
+        ∙ append_assoc t2 d (x ++ (f ++ (w ++ b))) ∙ ap (λ t. t ++ (d ++ (x ++ (f ++ (w ++ b))))) e2 ∙ append_assoc t1 m (d ++ (x ++ (f ++ (w ++ b))))
+        ∙ ap (λ t. t ++ (m ++ (d ++ (x ++ (f ++ (w ++ b)))))) e1 ∙ ap (λ t. (t ++ v) ++ (m ++ (d ++ (x ++ (f ++ (w ++ b)))))) e0
+
+-- one class more
+base-more : (names : List (List ℕ)) (base : List ℕ) (i : ℕ) (name : List ℕ) → slice_get names i ≡ Some name → i < length base → base_lines (take (suc i) names) (take (suc i) base) ≡ base_lines (take i names) (take i base) ++ Line.Base name (get_or base i 0) ∷ []
+base-more [] base i name e lt = absurd (let f = e in cc)
+base-more (n ∷ names) [] i name e lt = absurd (omega arith)
+base-more (n ∷ names) (v ∷ base) zero name e lt = let same : n ≡ name = cc in ap (λ z. Line.Base z v ∷ []) same
+base-more (n ∷ names) (v ∷ base) (suc i) name e lt = ap (λ t. Line.Base n v ∷ t) (base-more names base i name e (omega arith))
+
+pub base-step : (names : List (List ℕ)) (base : List ℕ) (i : ℕ) (name start t t1 t2 t3 : List ℕ) → t ≡ start ++ text_of (base_lines (take i names) (take i base)) → slice_get names i ≡ Some name → i < length base → t1 ≡ t ++ codes "base " → t2 ≡ t1 ++ name → t3 ≡ t2 ++ (filled (codes " #") (get_or base i 0 ∷ []) ++ 10 ∷ []) → t3 ≡ start ++ text_of (base_lines (take (i + 1) names) (take (i + 1) base))
+base-step names base i name start t t1 t2 t3 e at lt e1 e2 e3 =
+    let field = filled (codes " #") (get_or base i 0 ∷ []) in
+    let line = Line.Base name (get_or base i 0) in
+    let before = base_lines (take i names) (take i base) in
+    let whole : t3 ≡ t ++ whole_line line =
+    e3 ∙ ap (λ u. u ++ (field ++ 10 ∷ [])) (e2 ∙ ap (λ u. u ++ name) e1) ∙ joined t (codes "base ") name field in
+    whole ∙ ap (λ u. u ++ whole_line line) e ∙ append_assoc start (text_of before) (whole_line line)
+    ∙ ap (λ u. start ++ (text_of before ++ u)) (sym (append-nil (whole_line line))) ∙ ap (λ u. start ++ u) (sym (text-append before (line ∷ [])))
+    ∙ ap (λ u. start ++ text_of u) (sym (base-more names base i name at lt)) ∙ rw (add-one i) refl
+  where
+    joined : (t a n f : List ℕ) → ((t ++ a) ++ n) ++ (f ++ 10 ∷ []) ≡ t ++ ((a ++ (n ++ f)) ++ 10 ∷ [])
+    joined t a n f = simp append_assoc
