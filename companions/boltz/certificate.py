@@ -86,6 +86,7 @@ class Certificate:
         self.line = 0
         self.partial = False
         self.closing: Closing | None = None
+        self._ahead: str | None = None
         self.header = self._read_header()
 
     def _next(self) -> str:
@@ -120,36 +121,47 @@ class Certificate:
         fraction = int(self._field("fraction"))
         low, high = self._field("window").split(" ")
         base: dict[str, int] = {}
-        self._ahead = self._next()
-        while self._ahead.startswith("base "):
-            _, name, value = self._ahead.split(" ")
+        line = self._next()
+        while line.startswith("base "):
+            _, name, value = line.split(" ")
             base[name] = int(value)
-            self._ahead = self._next()
+            line = self._next()
+        self._ahead = line
         return Header(first, mode, digest, Fraction(x_text), x_text, fraction, (int(low), int(high)), base)
 
     def __iter__(self) -> Iterator[Entry]:
         """The entries that haven't been read yet."""
-        while self.closing is None:
-            match = OBJECT.fullmatch(self._ahead)
-            if match is None:
-                self._close()
-                return
-            text = self._field("text")
-            cells = self._next()
-            if CELLS.fullmatch(cells) is None:
-                self._refuse("cells", cells)
-            number, place, size = match.groups()
-            yield Entry(int(number), int(place), int(size), text, cells[6:])
-            self._ahead = self._next()
+        return self
 
-    def _close(self) -> None:
-        """The closing, with the line before it where there is one."""
-        undecided = None
-        if self._ahead.startswith("undecided "):
-            undecided, self._ahead = self._ahead, self._next()
-        match = CLOSING.fullmatch(self._ahead)
+    def __next__(self) -> Entry:
+        """The next entry, as soon as its lines are there."""
+        if self.closing is not None:
+            raise StopIteration
+        line = self._taken()
+        match = OBJECT.fullmatch(line)
         if match is None:
-            self._refuse("an object or the closing", self._ahead)
+            self._close(line)
+            raise StopIteration
+        number, place, size = match.groups()
+        text = self._field("text")
+        cells = self._next()
+        if CELLS.fullmatch(cells) is None:
+            self._refuse("cells", cells)
+        return Entry(int(number), int(place), int(size), text, cells[6:])
+
+    def _taken(self) -> str:
+        """The line that was read ahead, else the next one."""
+        line, self._ahead = self._ahead, None
+        return self._next() if line is None else line
+
+    def _close(self, line: str) -> None:
+        """The closing that begins at this line, with the line before it where there is one."""
+        undecided = None
+        if line.startswith("undecided "):
+            undecided, line = line, self._next()
+        match = CLOSING.fullmatch(line)
+        if match is None:
+            self._refuse("an object or the closing", line)
         word, *numbers = match.groups()
         kept, rejected, bits, turns = map(int, numbers)
         self.closing = Closing(word, kept, rejected, bits, turns, undecided)
@@ -159,5 +171,3 @@ class Certificate:
         for _ in self:
             pass
         return self.closing
-
-
