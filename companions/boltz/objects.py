@@ -5,7 +5,7 @@ Nothing here recurses, so an object may be a million nodes deep.
 from __future__ import annotations
 
 import re
-from typing import Iterator, Sequence
+from typing import Callable, Iterable, Iterator, Sequence, TypeVar
 
 from boltz.spec import Node, Spec
 
@@ -81,22 +81,7 @@ class Tree:
 
     def text(self) -> str:
         """The object's text."""
-        pieces: list[str] = []
-        stack: list[Tree | str] = [self]
-        while stack:
-            item = stack.pop()
-            if isinstance(item, str):
-                pieces.append(item)
-            elif item.kind in OPEN:
-                pieces.append(OPEN[item.kind])
-                stack.append(CLOSE[item.kind])
-                stack.extend(separated(item.parts))
-            elif item.kind == "union":
-                pieces.append("%d." % item.option)
-                stack.append(item.parts[0])
-            else:
-                pieces.append(item.word if item.label is None else "%s#%d" % (item.word, item.label))
-        return "".join(pieces)
+        return render(self, text_pieces)
 
     def __eq__(self, other: object) -> bool:
         """The same text of the same class."""
@@ -109,13 +94,41 @@ class Tree:
         return "Tree(%r)" % self.text()
 
 
-def separated(parts: Sequence[Tree]) -> list[Tree | str]:
-    """The parts with blanks between them, last first."""
-    items: list[Tree | str] = []
-    for part in reversed(parts):
-        items.append(part)
-        items.append(" ")
-    return items[:-1]
+T = TypeVar("T")
+
+
+def render(root: T, pieces: Callable[[T], Iterable[T | str]]) -> str:
+    """The text of `root`, where `pieces` gives for each item the texts and items that it is made of."""
+    written: list[str] = []
+    stack: list[T | str] = [root]
+    while stack:
+        item = stack.pop()
+        if isinstance(item, str):
+            written.append(item)
+        else:
+            stack.extend(reversed(list(pieces(item))))
+    return "".join(written)
+
+
+def joined(items: Iterable[T], separator: str) -> Iterator[T | str]:
+    """The items with the separator between them."""
+    for number, item in enumerate(items):
+        if number:
+            yield separator
+        yield item
+
+
+def text_pieces(tree: Tree) -> Iterator[Tree | str]:
+    """What an object's text is made of."""
+    if tree.kind in OPEN:
+        yield OPEN[tree.kind]
+        yield from joined(tree.parts, " ")
+        yield CLOSE[tree.kind]
+    elif tree.kind == "union":
+        yield "%d." % tree.option
+        yield tree.parts[0]
+    else:
+        yield tree.word if tree.label is None else "%s#%d" % (tree.word, tree.label)
 
 
 class ObjectReader:

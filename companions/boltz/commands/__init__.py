@@ -8,15 +8,12 @@ import sys
 from typing import Sequence
 
 from boltz.certificate import CertificateError
+from boltz.commands.reading import Problem
 from boltz.objects import NotObject
 from boltz.program import ProgramError
 from boltz.spec import SpecRefused
 
-COMMANDS = ("nodes",)
-
-
-class Problem(Exception):
-    """What the user is told, without a trace."""
+COMMANDS = ("nodes", "convert")
 
 
 def parser() -> argparse.ArgumentParser:
