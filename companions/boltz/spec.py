@@ -146,6 +146,23 @@ class Spec:
         """For each node: whether it has an object, and whether it has one of size 0."""
         return self._least(True), self._least(False)
 
+    def zero_steps(self, number: int) -> set[int]:
+        """The classes that stand in a class's body with nothing but objects of size 0 beside them."""
+        _, zero = self.inhabited()
+        found, stack = set(), [self.bodies[number]]
+        while stack:
+            node = self.nodes[stack.pop()]
+            if node.kind == "class":
+                found.add(node.target)
+            elif node.kind == "union":
+                stack.extend(node.parts)
+            elif node.kind == "product":
+                stack.extend(part for i, part in enumerate(node.parts)
+                             if all(zero[other] for j, other in enumerate(node.parts) if j != i))
+            elif node.is_counted and (node.low < 2 or zero[node.parts[0]]):
+                stack.append(node.parts[0])
+        return found
+
     def _least(self, with_atoms: bool) -> list[bool]:
         """The least relation by which nodes have objects, those with atoms counted or not."""
         has = [False] * len(self.nodes)

@@ -83,7 +83,7 @@ def explain_zero_part(spec: Spec, node: Node) -> str:
 def zero_loop(spec: Spec, name: str) -> list[str]:
     """The shortest loop of classes through which the class reaches itself at size 0."""
     start = spec.names.index(name)
-    steps = {number: sorted(zero_steps(spec, number)) for number in range(len(spec.names))}
+    steps = {number: sorted(spec.zero_steps(number)) for number in range(len(spec.names))}
     before: dict[int, int] = {}
     queue = [start]
     for number in queue:
@@ -97,21 +97,3 @@ def zero_loop(spec: Spec, name: str) -> list[str]:
                 before[target] = number
                 queue.append(target)
     return [name, name]
-
-
-def zero_steps(spec: Spec, number: int) -> set[int]:
-    """The classes that stand in a class's body with nothing but objects of size 0 beside them."""
-    _, zero = spec.inhabited()
-    found, stack = set(), [spec.bodies[number]]
-    while stack:
-        node = spec.nodes[stack.pop()]
-        if node.kind == "class":
-            found.add(node.target)
-        elif node.kind == "union":
-            stack.extend(node.parts)
-        elif node.kind == "product":
-            stack.extend(part for i, part in enumerate(node.parts)
-                         if all(zero[other] for j, other in enumerate(node.parts) if j != i))
-        elif node.is_counted and (node.low < 2 or zero[node.parts[0]]):
-            stack.append(node.parts[0])
-    return found
