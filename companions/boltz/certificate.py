@@ -4,10 +4,12 @@ Only the form is read here; whether a certificate is right is for `boltz verify`
 """
 from __future__ import annotations
 
+import os
 import re
 from dataclasses import dataclass
 from fractions import Fraction
-from typing import IO, Iterable, Iterator, NoReturn
+from itertools import chain
+from typing import Iterable, Iterator, NoReturn
 
 ENDINGS = ("done", "tape-ended", "undecided", "turn-limit", "read-fault")
 FIRST_LINES = ("boltzmann 1", "boltzmann 2", "boltzmann fast")
@@ -159,15 +161,39 @@ class Certificate:
         undecided = None
         if line.startswith("undecided "):
             undecided, line = line, self._next()
-        match = CLOSING.fullmatch(line)
-        if match is None:
+        if CLOSING.fullmatch(line) is None:
             self._refuse("an object or the closing", line)
-        word, *numbers = match.groups()
-        kept, rejected, bits, turns = map(int, numbers)
-        self.closing = Closing(word, kept, rejected, bits, turns, undecided)
+        self.closing = closing_from(line, undecided or "")
 
     def read_to_end(self) -> Closing:
         """Passes over the entries that are left; the closing."""
         for _ in self:
             pass
         return self.closing
+
+
+def certificates(lines: Iterable[str] | Iterable[bytes]) -> Iterator[Certificate]:
+    """The certificates that stand one after another; each must be read to its end before the next."""
+    rest = iter(lines)
+    while (first := next(rest, None)) is not None:
+        yield Certificate(chain([first], rest))
+
+
+def closing_of(path: str) -> Closing:
+    """The closing of a certificate in a file, from its last two lines alone."""
+    with open(path, "rb") as file:
+        file.seek(max(0, os.path.getsize(path) - 4096))
+        lines = file.read().decode("ascii", "replace").splitlines(keepends=True)
+    if len(lines) < 2 or not lines[-1].endswith("\n"):
+        raise CertificateError(len(lines), "the certificate is cut off here")
+    return closing_from(lines[-1][:-1], lines[-2][:-1])
+
+
+def closing_from(line: str, before: str) -> Closing:
+    """The closing in a line, given the line before it."""
+    match = CLOSING.fullmatch(line)
+    if match is None:
+        raise CertificateError(1, "wanted the closing, found %r" % line[:60])
+    word, *numbers = match.groups()
+    kept, rejected, bits, turns = map(int, numbers)
+    return Closing(word, kept, rejected, bits, turns, before if before.startswith("undecided ") else None)

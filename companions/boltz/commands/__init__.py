@@ -13,7 +13,7 @@ from boltz.objects import NotObject
 from boltz.program import ProgramError
 from boltz.spec import SpecRefused
 
-COMMANDS = ("nodes", "convert", "picture", "stats", "tune")
+COMMANDS = ("nodes", "convert", "picture", "stats", "tune", "shards")
 
 
 def parser() -> argparse.ArgumentParser:

@@ -56,6 +56,6 @@ def draw(args: argparse.Namespace, reading: Reading) -> None:
     elif args.what == "cycles":
         plot_cycles(summary, args.output)
     else:
-        header = reading.certificate.header
+        header = reading.header
         law = None if args.law is None else size_weights(reading.spec, float(header.x), args.law)
         plot_sizes(summary, law, header.window, args.output)

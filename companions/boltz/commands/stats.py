@@ -3,6 +3,7 @@ from __future__ import annotations
 
 import argparse
 import json
+from collections import Counter
 
 from boltz.certificate import Closing
 from boltz.commands.reading import Reading, add_certificate
@@ -27,19 +28,24 @@ def run(args: argparse.Namespace) -> int:
     """Reads the whole run and prints its summary."""
     with Reading(args) as reading:
         summary = summarise(reading)
-        closing = reading.certificate.closing
     if args.json:
-        print(json.dumps(as_dict(summary, closing)))
+        print(json.dumps(as_dict(summary, reading.closings)))
     else:
-        for line in lines(summary, closing):
+        for line in lines(summary, reading.closings):
             print(line)
     return 0
 
 
-def as_dict(summary: Summary, closing: Closing) -> dict:
+def total_of(closings: list[Closing]) -> dict:
+    """The endings and the summed numbers of all closings."""
+    total = {name: sum(getattr(closing, name) for closing in closings) for name in ("kept", "rejected", "bits", "turns")}
+    return {"endings": dict(Counter(closing.word for closing in closings)), **total}
+
+
+def as_dict(summary: Summary, closings: list[Closing]) -> dict:
     """For JSON."""
     return {
-        "closing": vars(closing), "sizes": summary.sizes.as_dict(), "bits": summary.bits.as_dict(),
+        "closing": total_of(closings), "sizes": summary.sizes.as_dict(), "bits": summary.bits.as_dict(),
         "size_counts": {str(size): count for size, count in sorted(summary.sizes.counts.items())},
         "options": {str(node): dict(counts) for node, counts in sorted(summary.options.items())},
         "parts": {str(node): numbers.as_dict() for node, numbers in sorted(summary.parts.items())},
@@ -55,14 +61,15 @@ def spread(numbers: Numbers) -> str:
         numbers.mean, numbers.error, min(numbers.counts), max(numbers.counts), numbers.quantile(0.5))
 
 
-def lines(summary: Summary, closing: Closing) -> list[str]:
+def lines(summary: Summary, closings: list[Closing]) -> list[str]:
     """The summary in lines."""
-    spec, kept = summary.spec, max(closing.kept, 1)
+    spec, total = summary.spec, total_of(closings)
+    endings = ", ".join("%s%s" % (word, " %d times" % count if count > 1 else "") for word, count in total["endings"].items())
     found = ["ended by %s: %d kept, %d rejected, %d bits, %d turns" % (
-        closing.word, closing.kept, closing.rejected, closing.bits, closing.turns)]
+        endings, total["kept"], total["rejected"], total["bits"], total["turns"])]
     found.append("sizes: " + spread(summary.sizes))
     found.append("bits of an object: %s; with those of rejected attempts %.1f" % (
-        spread(summary.bits), closing.bits / kept))
+        spread(summary.bits), total["bits"] / max(total["kept"], 1)))
     for number, counts in sorted(summary.options.items()):
         total = sum(counts.values())
         shares = ("%d: %d (%.1f%%)" % (option, counts[option], 100 * counts[option] / total)
