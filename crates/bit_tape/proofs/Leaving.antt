@@ -1,6 +1,5 @@
 -- What calls with a tape leave, one after another.
-use Rattle.std.proofs.Common.{◌≡◌, ℕ, ◌≤◌, List, Option, Bool, true, false, refl, sym, subst, ◌∙◌, ap, arith}
-use Rattle.bz_outside.specs.Outside.{Rose, ReadFailed}
+use Rattle.std.proofs.Common.{◌≡◌, ℕ, ◌≤◌, List, Option, Bool, true, false, refl, subst, ◌∙◌, ap, arith}
 use Rattle.bit_tape.specs.Tape.{TapeSource, TapeState, Belongs, CountsFault, LeavesTape, HasFault}
 
 -- no call falls short of a count

@@ -3,7 +3,7 @@ use Rattle.std.proofs.Common.{◌≡◌, ℕ, Bool, Option, Some, None}
 use Rattle.std.specs.Prelude.{IfSome}
 use Rattle.bz_model.specs.declared.cell.Cell.{Cell}
 use Rattle.choice_draw.specs.Draw.{Draw, bit_of, draw}
-use Rattle.choice_draw.specs.Answer.{IsDraw, EndsThere, fault_of}
+use Rattle.choice_draw.specs.Answer.{IsDraw, fault_of}
 
 -- what follows for the value of an option from what holds of it
 pub on_some : {X : Type 0} (o : Option X) {P Q : X → Type 0} → ((x : X) → P x → Q x) → IfSome o P → IfSome o Q

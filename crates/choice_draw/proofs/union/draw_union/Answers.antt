@@ -1,11 +1,11 @@
 -- The draw over the bits given goes on bit by bit as the definition's does; each value is decided by the oracle's table, which is sound.
-use Rattle.std.proofs.Common.{◌≡◌, ◌+◌, ◌≤◌, max, false, true, map, Some, None, arith, sym, ◌∙◌, ap}
+use Rattle.std.proofs.Common.{◌≡◌, ◌+◌, ◌≤◌, false, true, map, Some, None, arith, sym, ◌∙◌, ap}
 use Rattle.std.proofs.lemmas.List.{length-map}
 use Rattle.bz_model.specs.Spec.{Node}
 use Rattle.bit_tape.specs.Tape.{bits_of}
 use Rattle.bit_tape.proofs.Leaving.{leaves-none, leaves-more}
 use Rattle.class_system.specs.Views.{number}
-use Rattle.choice_draw.specs.Decision.{Choice, level_for, union_decision}
+use Rattle.choice_draw.specs.Decision.{Choice, union_decision}
 use Rattle.choice_draw.proofs.UnionParts.{within}
 use Rattle.choice_draw.proofs.UnionIdeal.{decision-by, union-ideal}
 use Rattle.choice_draw.proofs.Ticks.{oracle-none, oracle-more}
