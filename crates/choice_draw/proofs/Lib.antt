@@ -9,4 +9,3 @@ pub mod UnionIdeal
 pub mod DrawsOn
 pub mod ToldDraws
 pub mod Ticks
-pub mod TwoAtomsSound

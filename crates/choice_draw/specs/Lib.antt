@@ -3,4 +3,3 @@ pub mod IdealOfCell
 pub mod Whole
 pub mod Draw
 pub mod Answer
-pub mod TwoAtoms

@@ -6,4 +6,3 @@ pub mod Walked
 pub mod NextToken
 pub mod Taken
 pub mod Descent
-mod ExampleSound

@@ -1,4 +1,3 @@
 pub mod Tokens
 pub mod Runs
 pub mod Walk
-pub mod Examples

@@ -7,7 +7,5 @@
 
 pub mod pending;
 pub mod shape;
-#[cfg(test)]
-mod tests;
 pub mod token;
 mod walk;
