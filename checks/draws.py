@@ -1,18 +1,23 @@
 #!/usr/bin/env python3
-"""Makes the tables of draws in crates/worked_attempts/src/draws.rt anew by a slow model, and compares.
+"""Makes the tables of draws in checks/draws.txt anew by a slow model, and compares; then draws objects of
+the same specifications by the model and by the built program, and compares their cells.
 
-    python3 checks/draws.py
+    python3 checks/draws.py [PROGRAM]
 
 The model shares no code with the program, nor with the one that wrote the tables. Values are in whole
 numbers of units of 2^-48. The base and the bounds of each level are found by sweeps, the bits by
 ChaCha20, and a draw looks at all options at each bit.
 """
 import os
-import re
+import subprocess
 import sys
+import tempfile
 
 HERE = os.path.dirname(os.path.abspath(__file__))
-TABLES = os.path.join(HERE, "..", "crates", "worked_attempts", "src", "draws.rt")
+PROGRAM = os.path.join(HERE, "..", "crates", "boltz_cli", "out", "boltz_cli")
+TABLES = os.path.join(HERE, "draws.txt")
+# How many objects of each specification the program draws.
+OBJECTS = 100
 ONE = 1 << 48
 GREATEST = (1 << 64) - 1
 MOST_BITS = 60
@@ -250,7 +255,7 @@ def decided(node, bounds, first, lows, highs, k, b):
 
 
 def drawn(node, levels, values, room, bits):
-    """A draw: what it decides, and how many bits it takes."""
+    """A draw: what it decides, and the cell of the bits that it takes."""
     k = 0
     for b in range(1, MOST_BITS + 1):
         k = 2 * k + next(bits)
@@ -260,45 +265,126 @@ def drawn(node, levels, values, room, bits):
             values[level] = option_values(node, bounds, room)
         option = decided(node, bounds, *values[level], k, b)
         if option is not None:
-            return "%s/%d" % (option, b)
-    return "straddles"
+            return option, k, b
+    return "straddles", k, MOST_BITS
 
 
 def whole(m, bits):
-    """A whole number below m, and how many bits it takes."""
+    """A whole number below m, and the cell of the bits that it takes."""
     k = 0
     for b in range(1, MOST_BITS + 1):
         k = 2 * k + next(bits)
         if k * m >> b == ((k + 1) * m - 1) >> b:
-            return "%d/%d" % (k * m >> b, b)
-    return "straddles"
+            return k * m >> b, k, b
+    return "straddles", k, MOST_BITS
 
 
 def table(name, count):
-    """So many draws of a table."""
+    """So many draws of a table, each with its number of bits."""
     if name == "WHOLE_NUMBERS":
         bits = bits_of(10)
-        return [whole(2 + 10 * i, bits) for i in range(count)]
+        draws = [whole(2 + 10 * i, bits) for i in range(count)]
+    else:
+        node, x, room, seed = CASES[name]
+        levels, values, bits = Levels(node, x), {}, bits_of(seed)
+        draws = [drawn(node, levels, values, room, bits) for _ in range(count)]
+    return ["%s/%d" % (option, b) for option, _, b in draws]
+
+
+# Objects, whose labels are drawn after their shape.
+
+def is_labelled(node):
+    return node[0] in ("Set", "Cyc")
+
+
+def attempt(node, levels, values, room, bits):
+    """The size of the object that an attempt makes, None where it goes over the room; and the cells."""
+    cells, size, waiting = [], 0, 1
+    while waiting:
+        option, k, b = drawn(node, levels, values, room, bits)
+        cells.append((k, b))
+        if option == "over":
+            return None, cells
+        if node[0] != "+":
+            size, waiting = option, 0
+        elif node[1][option] == "E":
+            waiting -= 1
+        else:
+            size, waiting = size + 1, waiting + (1 if node[1][option] != "Z" else -1)
+        if size > room:
+            return None, cells
+    if is_labelled(node):
+        cells += [whole(m, bits)[1:] for m in range(size, 1, -1)]
+    return size, cells
+
+
+def objects(name):
+    """The lines of objects and cells that the program prints, and the counts of its last line."""
     node, x, room, seed = CASES[name]
     levels, values, bits = Levels(node, x), {}, bits_of(seed)
-    return [drawn(node, levels, values, room, bits) for _ in range(count)]
+    lines, kept, thrown, used = [], 0, 0, 0
+    while kept < OBJECTS:
+        size, cells = attempt(node, levels, values, room, bits)
+        if size is None:
+            thrown += 1
+        else:
+            kept += 1
+            lines.append("object %d at %d size %d" % (kept, used, size))
+            lines.append("cells" + "".join(" %d/%d" % cell for cell in cells))
+        used += sum(b for _, b in cells)
+    return lines, "end done kept %d thrown %d bits %d" % (kept, thrown, used)
+
+
+def text_of(node):
+    if isinstance(node, str):
+        return node
+    kind, parts = node
+    if kind in "+*":
+        return kind.join(text_of(part) for part in parts)
+    return "%s(%s)" % (kind, text_of(parts[0]))
+
+
+def difference(program, name):
+    """What differs between the objects of the program and those of the model, None where nothing does."""
+    node, x, room, seed = CASES[name]
+    with tempfile.TemporaryDirectory() as folder:
+        with open(os.path.join(folder, "spec"), "w") as file:
+            mode = "labelled" if is_labelled(node) else "unlabelled"
+            file.write("%s\nC = %s\n" % (mode, text_of(node)))
+        words = ["sample", "spec", "%d/%d" % x, "--seed", str(seed), "--max", str(room), "--count", str(OBJECTS)]
+        ran = subprocess.run([program] + words, cwd=folder, stdin=subprocess.DEVNULL,
+                             stdout=subprocess.PIPE, stderr=subprocess.STDOUT, timeout=120)
+    got = [line.rstrip() for line in ran.stdout.decode(errors="replace").split("\n")]
+    lines, end = objects(name)
+    wanted = [line for line in got if line.startswith(("object ", "cells"))]
+    for i, line in enumerate(lines):
+        if i >= len(wanted) or wanted[i] != line:
+            return "%r, and the model has %r" % (wanted[i:i + 1] or got[-3:], line)
+    last = [line for line in got if line.startswith("end ")]
+    return None if last and last[0].startswith(end + " ") else "%r, and the model has %r" % (last, end)
 
 
 def main():
+    program = os.path.abspath(sys.argv[1] if len(sys.argv) > 1 else PROGRAM)
     with open(TABLES, encoding="utf-8") as file:
-        source = file.read()
-    tables = re.findall(r"const ([A-Z_]+): \[&str; 10\] = \[([^\]]*)\];", source)
+        blocks = [block for block in file.read().split("\n\n") if not block.startswith("#")]
     passed = failed = 0
-    for name, text in tables:
-        draws = " ".join(re.findall(r'"([^"]*)"', text)).split()
+    for block in blocks:
+        name, _, text = block.partition("\n")
+        draws = text.split()
         for i, (got, wanted) in enumerate(zip(draws, table(name, len(draws)))):
             if got == wanted:
                 passed += 1
             else:
                 failed += 1
                 print("%s: draw %d is %s, and the model's is %s" % (name, i, got, wanted))
+    for name in CASES:
+        line = difference(program, name)
+        passed, failed = passed + (line is None), failed + (line is not None)
+        if line is not None:
+            print("%s: the program has %s" % (name, line))
     print("%d passed, %d failed" % (passed, failed))
-    return 1 if failed or len(tables) != len(CASES) + 1 else 0
+    return 1 if failed or len(blocks) != len(CASES) + 1 else 0
 
 
 if __name__ == "__main__":

@@ -9,6 +9,4 @@
 mod buffer;
 mod source;
 pub mod tape;
-#[cfg(test)]
-mod tests;
 mod words;

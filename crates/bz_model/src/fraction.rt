@@ -92,30 +92,3 @@ fn read_part(text: &[u8]) -> Option<u64>
         part => part,
     }
 }
-
-#[cfg(test)]
-mod tests {
-    use super::{Fraction, FractionFault};
-
-    #[test]
-    fn a_fraction_is_two_numbers_within_the_limits(rt: HostRuntime) {
-        let not_a_fraction = Err(FractionFault::NotAFraction);
-        let out_of_range = Err(FractionFault::OutOfRange);
-        for (text, want) in [
-            ("3/16", Ok((3, 16))),
-            ("1000000/1", Ok((1_000_000, 1))),
-            ("1000001/1", out_of_range),
-            ("1/0", out_of_range),
-            ("0/99999999999999999999999999", out_of_range),
-            ("01/2", not_a_fraction),
-            ("1/2/3", not_a_fraction),
-            ("1/", not_a_fraction),
-            ("+1/2", not_a_fraction),
-            ("12", not_a_fraction),
-            ("", not_a_fraction),
-        ] {
-            let got = Fraction::read(text.as_bytes()).map(|x| (x.num, x.den));
-            assert_eq!(rt; got, want, "{text}");
-        }
-    }
-}

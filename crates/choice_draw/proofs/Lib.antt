@@ -10,5 +10,4 @@ pub mod DrawsOn
 pub mod GivenDraws
 pub mod ToldDraws
 pub mod Ticks
-pub mod TwoAtomsSound
 pub mod LeastCells

@@ -3,5 +3,4 @@ pub mod IdealOfCell
 pub mod Whole
 pub mod Draw
 pub mod Answer
-pub mod TwoAtoms
 pub mod LeastCell

@@ -5,4 +5,3 @@ pub mod Depths
 pub mod Soundness
 pub mod Texts
 pub mod Growth
-pub mod ExampleSound

@@ -8,4 +8,3 @@ pub mod NodeResults
 pub mod Limits
 pub mod CanonicalText
 pub mod Drafting
-pub mod Examples

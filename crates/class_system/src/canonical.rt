@@ -236,39 +236,3 @@ fn push_number(text: &mut Vec<u8>, sign: &[u8], n: u32) -> Result<(), AllocError
     text.extend_from_slice(sign)?;
     text.extend_from_slice(buffer.format(n).as_bytes())
 }
-
-#[cfg(test)]
-mod tests {
-    use super::*;
-    use std::test::Fail;
-
-    #[test]
-    fn a_bound_is_printed_as_its_operator(rt: HostRuntime) -> Result<(), Fail> {
-        for (plain_low, low, high, want) in [
-            (0, 0, None, b"".as_slice()),
-            (1, 1, None, b"".as_slice()),
-            (0, 1, None, b">=1".as_slice()),
-            (1, 1, Some(1), b"=1".as_slice()),
-            (1, 1, Some(64), b"<=64".as_slice()),
-            (0, 12, Some(12), b"=12".as_slice()),
-        ] {
-            let mut text: Vec<u8> = Vec::new(rt.alloc());
-            push_bound(&mut text, plain_low, Range { low, high })?;
-            assert!(rt; text.as_slice() == want);
-        }
-        Ok(())
-    }
-
-    #[test]
-    fn a_product_in_a_product_stands_in_parentheses(rt: HostRuntime) -> Result<(), Fail> {
-        let part = NodeText {
-            form: Form::Multiplied,
-            bytes: Vec::from_slice(rt.alloc(), b"A*B")?,
-        };
-        let mut text: Vec<u8> = Vec::new(rt.alloc());
-        push_part(&mut text, Form::Summed, &part)?;
-        push_part(&mut text, Form::Multiplied, &part)?;
-        assert!(rt; text.as_slice() == b"A*B(A*B)".as_slice());
-        Ok(())
-    }
-}

@@ -199,30 +199,3 @@ impl Draft {
         self.nodes.allocator()
     }
 }
-
-#[cfg(test)]
-mod tests {
-    use super::*;
-    use std::test::Fail;
-
-    #[test]
-    fn a_name_is_refused_twice(rt: HostRuntime) -> Result<(), Fail> {
-        let mut draft = Draft::new(rt.alloc(), Mode::Labelled);
-        let first = draft.add_class(Word::from_bytes(rt.alloc(), b"A")?)?;
-        let again = draft.add_class(Word::from_bytes(rt.alloc(), b"A")?);
-        assert!(rt; matches!(again, Err(ClassFault::Twice(c)) if c == first));
-        Ok(())
-    }
-
-    #[test]
-    fn a_counted_node_keeps_its_range(rt: HostRuntime) -> Result<(), Fail> {
-        let mut draft = Draft::new(rt.alloc(), Mode::Labelled);
-        let atom = draft.add_node(Expr::Atom(Word::from_bytes(rt.alloc(), b"")?))?;
-        let bounds = Range { low: 2, high: None };
-        let set = draft.add_counted(Expr::Set(atom), bounds)?;
-        assert!(rt; set == ExprId(1));
-        assert!(rt; draft.ranges().len() == 2);
-        assert!(rt; draft.ranges()[1] == bounds);
-        Ok(())
-    }
-}

@@ -53,18 +53,3 @@ impl Parts {
         self.content.as_slice()
     }
 }
-
-#[cfg(test)]
-mod tests {
-    use super::*;
-    use std::test::Fail;
-
-    #[test]
-    fn parts_stay_in_order(rt: HostRuntime) -> Result<(), Fail> {
-        let mut parts = Parts::new(rt.alloc());
-        parts.push(ExprId(4))?;
-        parts.push(ExprId(2))?;
-        assert!(rt; parts.items() == [ExprId(4), ExprId(2)].as_slice());
-        Ok(())
-    }
-}

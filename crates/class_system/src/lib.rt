@@ -7,8 +7,6 @@
 
 pub mod canonical;
 pub mod draft;
-#[cfg(test)]
-mod examples;
 pub mod expr;
 pub mod ids;
 pub mod limits;

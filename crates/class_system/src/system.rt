@@ -151,39 +151,3 @@ impl System {
         canonical::print(self.content.allocator(), &self.content)
     }
 }
-
-#[cfg(test)]
-mod tests {
-    use super::*;
-    use crate::examples::one_atom_system;
-    use std::test::Fail;
-
-    #[test]
-    fn a_system_is_built_and_printed(rt: HostRuntime) -> Result<(), Fail> {
-        let system = one_atom_system(rt.alloc())?;
-        let text = system.to_text()?;
-        assert!(rt; text.as_slice() == b"unlabelled\nA = Z\n".as_slice());
-        Ok(())
-    }
-
-    #[test]
-    fn a_system_tells_its_class(rt: HostRuntime) -> Result<(), Fail> {
-        let system = one_atom_system(rt.alloc())?;
-        let name = Word::from_bytes(rt.alloc(), b"A")?;
-        assert!(rt; system.class_count() == 1);
-        assert!(rt; system.class_of(&name) == Some(ClassId(0)));
-        assert!(rt; system.name(ClassId(0)).bytes() == b"A".as_slice());
-        assert!(rt; system.body(ClassId(0)) == ExprId(0));
-        Ok(())
-    }
-
-    #[test]
-    fn a_system_tells_its_node(rt: HostRuntime) -> Result<(), Fail> {
-        let system = one_atom_system(rt.alloc())?;
-        assert!(rt; system.mode() == Mode::Unlabelled);
-        assert!(rt; system.node_count() == 1);
-        assert!(rt; matches!(system.node(ExprId(0)), Expr::Atom(_)));
-        assert!(rt; system.range(ExprId(0)).low == 0);
-        Ok(())
-    }
-}

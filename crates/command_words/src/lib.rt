@@ -17,7 +17,5 @@ pub mod laws;
 mod names;
 pub mod read;
 mod settings;
-#[cfg(test)]
-mod tests;
 mod values;
 pub mod word_list;

@@ -102,32 +102,3 @@ impl<const F: u32> CountTable<F> {
         self.sums.least_from(end, &mut run)
     }
 }
-
-#[cfg(test)]
-mod tests {
-    use super::*;
-
-    const ONE: u64 = 1 << 24;
-
-    #[test]
-    fn a_table_of_sequences_tells_values_and_the_least_option(rt: HostRuntime) {
-        let half = Bounds {
-            lo: ONE / 2,
-            hi: ONE / 2,
-        };
-        let two = Bounds {
-            lo: 2 * ONE - 1,
-            hi: 2 * ONE,
-        };
-        let table = CountTable::<24>::fill(CountKind::Seq, 0, half, two, 300);
-        assert_eq!(rt; (table.lower(3), table.upper(3)), (31457280, 31457280));
-        assert_eq!(rt;
-            (table.lower(300), table.upper(300)),
-            (2 * ONE - 1, 2 * ONE)
-        );
-        for (k, want) in [(0, Some(0)), (1, Some(0)), (2, Some(1)), (3, None)] {
-            assert!(rt; k < 4);
-            assert_eq!(rt; table.least(Cell { k, b: 2 }), want, "cell {k}/2");
-        }
-    }
-}

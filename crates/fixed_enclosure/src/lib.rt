@@ -14,6 +14,3 @@ pub mod upper;
 
 pub use lower::Lo;
 pub use upper::Hi;
-
-#[cfg(test)]
-mod tests;

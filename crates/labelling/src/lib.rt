@@ -10,6 +10,4 @@ pub mod labelled;
 pub mod labels;
 pub mod laws;
 mod progress;
-#[cfg(test)]
-mod tests;
 pub mod tree;

@@ -58,25 +58,3 @@ impl Trials {
         self.content.as_slice()
     }
 }
-
-#[cfg(test)]
-mod tests {
-    use super::*;
-    use std::test::Fail;
-
-    #[test]
-    fn a_trial_is_pushed(rt: HostRuntime) -> Result<(), Fail> {
-        let mut values = Values::new(rt.alloc());
-        values.push(7)?;
-        let mut trials = Trials::new(rt.alloc());
-        trials.push(Trial {
-            values,
-            class_id: ClassId(0),
-            got: Some(8),
-        })?;
-        assert_eq!(rt; trials.items().len(), 1);
-        assert!(rt; trials.items()[0].values.items() == [7].as_slice());
-        assert_eq!(rt; trials.items()[0].got, Some(8));
-        Ok(())
-    }
-}

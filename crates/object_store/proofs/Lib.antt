@@ -8,4 +8,3 @@ pub mod Waiting
 pub mod Steps
 pub mod Descent
 pub mod Walks
-mod ExampleSound

@@ -5,4 +5,3 @@ pub mod Descent
 pub mod Seen
 pub mod Waiting
 pub mod Walking
-pub mod Examples

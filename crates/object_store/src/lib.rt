@@ -7,8 +7,6 @@
 
 pub mod pending;
 pub mod shape;
-#[cfg(test)]
-mod tests;
 pub mod token;
 pub mod visit;
 pub mod walk;

@@ -11,7 +11,7 @@ use std::alloc::{AllocError, Global};
 use std::marker::Model;
 
 /// A list of which a part is read.
-#[derive(Clone, Copy, Debug)]
+#[derive(Clone, Copy)]
 pub(crate) struct Counted {
     pub kind: Kind,
     pub part: ExprId,
@@ -21,7 +21,7 @@ pub(crate) struct Counted {
 }
 
 /// What is expected behind an object.
-#[derive(Clone, Copy, Debug)]
+#[derive(Clone, Copy)]
 pub(crate) enum Expected {
     /// A closing parenthesis.
     Close,

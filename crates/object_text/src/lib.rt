@@ -21,7 +21,5 @@ pub mod read;
 mod reader;
 mod scan;
 mod taken;
-#[cfg(test)]
-mod tests;
 mod todo;
 mod walk;

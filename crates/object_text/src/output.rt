@@ -12,7 +12,7 @@ use std::marker::Model;
 use std::mem;
 
 /// What is arranged: the parts of a set, or those of a cycle.
-#[derive(Clone, Copy, Debug)]
+#[derive(Clone, Copy)]
 pub(crate) enum Form {
     Set,
     Cycle,

@@ -9,7 +9,7 @@ use std::alloc::AllocError;
 const MOST_LABEL: u64 = 1_000_000;
 
 /// Why reading stops.
-#[derive(Clone, Copy, Debug)]
+#[derive(Clone, Copy)]
 pub(crate) enum Stop {
     /// A byte can't stand where this many bytes are left, it among them; or bytes are missing.
     At(usize),

@@ -11,7 +11,7 @@ use std::alloc::{AllocError, Global};
 use std::marker::Model;
 
 /// The kind of a list of parts.
-#[derive(Clone, Copy, Debug)]
+#[derive(Clone, Copy)]
 pub(crate) enum Kind {
     Sequence,
     Set,
@@ -19,7 +19,7 @@ pub(crate) enum Kind {
 }
 
 /// A list that is open.
-#[derive(Clone, Copy, Debug)]
+#[derive(Clone, Copy)]
 struct OpenList {
     kind: Kind,
     /// The place of the token that tells its number of parts.

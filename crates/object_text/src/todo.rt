@@ -8,7 +8,7 @@ use std::alloc::{AllocError, Global};
 use std::marker::Model;
 
 /// A thing to do.
-#[derive(Clone, Copy, Debug)]
+#[derive(Clone, Copy)]
 pub(crate) enum Todo {
     /// Print a byte.
     Byte(u8),
@@ -23,7 +23,7 @@ pub(crate) enum Todo {
 }
 
 /// Things to do that stand together.
-#[derive(Clone, Copy, Debug)]
+#[derive(Clone, Copy)]
 enum Entry {
     /// One thing.
     One(Todo),

@@ -20,6 +20,3 @@ pub use cycles::{
 };
 pub use sequences::{seq_from_hi, seq_from_lo, seq_part_hi, seq_part_lo, seq_range_hi};
 pub use sets::{exp_hi, exp_lo, set_from_hi, set_from_lo, set_part_hi, set_part_lo, set_range_hi};
-
-#[cfg(test)]
-mod tests;

@@ -77,7 +77,7 @@ fn syntax_at(tokens: &[Placed], place: usize) -> SpecFault
 }
 
 /// Why lines give no tables: a token can't stand, or memory ran out.
-#[derive(Debug, Drop)]
+#[derive(Drop)]
 enum Stop {
     At(usize),
     OutOfMemory,
@@ -125,13 +125,10 @@ fn parse(alloc: Global, mode: Mode, lines: &[Placed]) -> Result<Draft, Stop>
     let expects = Expects::Line;
     let mut reader = Reader { sums, expects };
     match reader.take_all(alloc, lines) {
-        Ok(None) => {}
-        Ok(Some(place)) => return Err(Stop::At(place)),
-        Err(_) => return Err(Stop::OutOfMemory),
+        Ok(None) => Ok(reader.sums.draft),
+        Ok(Some(place)) => Err(Stop::At(place)),
+        Err(_) => Err(Stop::OutOfMemory),
     }
-    let Reader { sums, expects: _ } = reader;
-    let Sums { draft, .. } = sums;
-    Ok(draft)
 }
 
 /// The tables of a text's tokens.
@@ -201,87 +198,5 @@ pub fn read_spec(alloc: Global, bytes: &[u8]) -> Result<System, SpecFault>
     match System::build(alloc, draft) {
         Ok(system) => Ok(system),
         Err(fault) => Err(limit_fault(fault)),
-    }
-}
-
-#[cfg(test)]
-mod tests {
-    use super::*;
-    use std::test::Fail;
-
-    fn fault_of(alloc: Global, text: &[u8]) -> Option<SpecFault> {
-        match read_spec(alloc, text) {
-            Ok(_) => None,
-            Err(fault) => Some(fault),
-        }
-    }
-
-    fn syntax(line: u32, column: u32) -> Option<SpecFault> {
-        Some(SpecFault::Syntax { line, column })
-    }
-
-    #[test]
-    fn each_refusal_has_its_place(rt: HostRuntime) {
-        let undefined = Some(SpecFault::Undefined { line: 2, column: 7 });
-        let undefined_first = Some(SpecFault::Undefined { line: 2, column: 5 });
-        let twice = Some(SpecFault::Twice { line: 3 });
-        let needs_labels = Some(SpecFault::NeedsLabels { line: 2, column: 5 });
-        let not_text = Some(SpecFault::NotText { place: 15 });
-        let table = [
-            (b"unlabelled\nC = Set(Z)\n".as_slice(), needs_labels),
-            (b"unlabelled\nC = Z +\n".as_slice(), syntax(2, 8)),
-            (b"unlabelled\nC = Z +".as_slice(), syntax(2, 8)),
-            (b"unlabelled\nC = Z*D\n".as_slice(), undefined),
-            (b"unlabelled\nC = Z\nC = E\n".as_slice(), twice),
-            (b"unlabelled\nC = D\nC = E\n".as_slice(), undefined_first),
-            (b"unlabelled\nC = Seq=0(Z)\n".as_slice(), syntax(2, 9)),
-            (b"unlabelled\nC = Seq>=65(Z)\n".as_slice(), syntax(2, 10)),
-            (b"unlabelled\nC = Seq<=3(E)\n".as_slice(), None),
-            (b"labelled\nC = Cyc>=1(Z)\n".as_slice(), None),
-            (b"unlabelled\nC = E:_1 + Z:2b # two\n\n".as_slice(), None),
-            (b"unlabelled\nC = E:\n".as_slice(), syntax(2, 6)),
-            (b"unlabelled\n".as_slice(), syntax(2, 1)),
-            (b"".as_slice(), syntax(1, 1)),
-            (b"unlabelled\nC = \x00".as_slice(), not_text),
-        ];
-        for (text, want) in table {
-            assert_eq!(rt; fault_of(rt.alloc(), text), want);
-        }
-    }
-
-    #[test]
-    fn parentheses_make_no_node_of_their_own(rt: HostRuntime) -> Result<(), Fail> {
-        let mut text = b"unlabelled\nC = ".to_vec(rt.alloc())?;
-        text.extend_from_slice(vec![in rt.alloc(); b'('; 30_000]?.as_slice())?;
-        assert_eq!(rt; fault_of(rt.alloc(), text.as_slice()), syntax(2, 30_005));
-        text.push(b'Z')?;
-        text.push(b'\n')?;
-        assert_eq!(rt; fault_of(rt.alloc(), text.as_slice()), syntax(2, 30_006));
-        Ok(())
-    }
-
-    #[test]
-    fn what_is_read_is_printed(rt: HostRuntime) -> Result<(), Fail> {
-        let text = b"labelled\nT = (E + Z:x) + Set>=2(T*U)\nU = (Z*Z)*Cyc(Z)\n".as_slice();
-        let Ok(system) = read_spec(rt.alloc(), text) else {
-            assert!(rt; false);
-            return Ok(());
-        };
-        assert_eq!(rt; system.to_text()?.as_slice(), text);
-        Ok(())
-    }
-
-    #[test]
-    fn limits_are_told(rt: HostRuntime) -> Result<(), Fail> {
-        let mut text = b"unlabelled\nC = Z".to_vec(rt.alloc())?;
-        for _ in 0..64 {
-            text.extend_from_slice(b"+Z")?;
-        }
-        let parts = Some(SpecFault::Limit(BuildFault::TooManyParts { count: 65 }));
-        assert_eq!(rt; fault_of(rt.alloc(), text.as_slice()), parts);
-        let blanks = vec![in rt.alloc(); b' '; 65_537]?;
-        let long = Some(SpecFault::TooLong { len: 65_537 });
-        assert_eq!(rt; fault_of(rt.alloc(), blanks.as_slice()), long);
-        Ok(())
     }
 }

@@ -16,7 +16,7 @@ use std::alloc::{AllocError, Global};
 use std::mem;
 
 /// What a parenthesis makes of its sum: the sum itself, or a counted node over it.
-#[derive(Clone, Copy, Debug)]
+#[derive(Clone, Copy)]
 pub enum Wrap {
     Bare,
     Over(Counting, Range),
@@ -24,14 +24,14 @@ pub enum Wrap {
 
 /// What was read of a sum: the nodes of its products before, and of the factors of the product that
 /// is read.
-#[derive(Debug, Drop)]
+#[derive(Drop)]
 pub struct Frame {
     pub products: Parts,
     pub factors: Parts,
 }
 
 /// A sum whose parenthesis is open: what was read of it before, and what the parenthesis makes.
-#[derive(Debug, Drop)]
+#[derive(Drop)]
 pub struct Outer {
     pub frame: Frame,
     pub wrap: Wrap,
@@ -47,7 +47,7 @@ pub struct Sums {
 
 /// What may come next: a definition or the end, an equals sign, a factor, a bound or a parenthesis,
 /// a bound's number, a bound's parenthesis, what stands behind a factor, or nothing.
-#[derive(Clone, Copy, Debug)]
+#[derive(Clone, Copy)]
 pub enum Expects {
     Line,
     Equals,

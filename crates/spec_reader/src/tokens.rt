@@ -3,7 +3,7 @@
 use bz_outside::word::Word;
 
 /// What a counted node stands for: sequences, sets or cycles of its part.
-#[derive(Clone, Copy, Debug, PartialEq, Eq)]
+#[derive(Clone, Copy, PartialEq, Eq)]
 pub enum Counting {
     Seq,
     Set,
@@ -11,7 +11,7 @@ pub enum Counting {
 }
 
 /// The sign of a bound on the number of parts: `>=`, `<=` or `=`.
-#[derive(Clone, Copy, Debug, PartialEq, Eq)]
+#[derive(Clone, Copy, PartialEq, Eq)]
 pub enum Sign {
     Least,
     Most,
@@ -21,7 +21,7 @@ pub enum Sign {
 /// A token. `Empty` and `Atom` are the leaves, whose word is empty where the leaf is plain.
 ///
 /// `Bad` stands for a run, a leaf, a number or a byte that breaks a rule of the text: it stands nowhere.
-#[derive(Debug, Drop)]
+#[derive(Drop)]
 pub enum Token {
     Name(Word),
     Empty(Word),
@@ -41,7 +41,7 @@ pub enum Token {
 }
 
 /// A token with the line and the column of its first byte, which count from 1.
-#[derive(Debug, Drop)]
+#[derive(Drop)]
 pub struct Placed {
     pub token: Token,
     pub line: u32,
@@ -49,7 +49,7 @@ pub struct Placed {
 }
 
 /// What begins at a byte, with how many bytes after this one belong to it.
-#[derive(Debug, Drop)]
+#[derive(Drop)]
 pub enum Front {
     LineFeed,
     Blank,
@@ -58,7 +58,7 @@ pub enum Front {
 }
 
 /// Where the reading stands: whether the line has a token so far, the line and the column.
-#[derive(Clone, Copy, Debug)]
+#[derive(Clone, Copy)]
 pub struct Spot {
     pub some: bool,
     pub line: u32,

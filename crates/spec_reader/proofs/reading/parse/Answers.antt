@@ -21,8 +21,8 @@ returns-in-Ok-Some-clause-stops c =
     let begun = begins_so mode lines (kept (record { draft = c.in-Ok.draft; frame = c.new-frame.result; outers = c.new-outers.result })) c.in-Ok.ensures.named (ap (λ es. map number es) c.new-frame.ensures.products) (ap (λ es. map number es) c.new-frame.ensures.factors) (ap (λ os. map outer_kept os) c.new-outers.ensures.items) in
     subst (λ o. StopsAt names from lines o c.take_all.new.self.expects (kept c.take_all.new.self.sums)) c.in-Ok-Some.field-0-is (c.in-Ok-Some.ensures.read names from begun)
 
-pub returns-clause-ok : goal.returns-clause-ok
-returns-clause-ok c =
+pub returns-in-Ok-None-clause-ok : goal.returns-in-Ok-None-clause-ok
+returns-in-Ok-None-clause-ok c =
     let lines = c.args.lines.now in
     let mode = spec_mode c.args.mode in
     let names = with_names [] (line_names true (plain_tokens lines)) in

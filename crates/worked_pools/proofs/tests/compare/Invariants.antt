@@ -1,4 +1,0 @@
-use Rattle.worked_pools.proofs.tests.compare.Given as goal
-
-abbrev pub ghosts-run_pool : goal.ghosts-run_pool
-ghosts-run_pool g a = record { name = a.blank.name; parts = a.blank.parts }
