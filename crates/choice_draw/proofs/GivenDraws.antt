@@ -31,7 +31,7 @@ module _ {A : Type 0} (decide : Cell → Option A) (told : Option (ℕ → Optio
       given = way.given ++ v ∷ [];
       gave = gave-append told start used after way.given (v ∷ []) way.gave (gave-one told used after v is_after there);
       goes = λ bits have. subst (λ h. DrawsOn decide bits start h after) (sym is_half) (subst (λ n. DrawsOn decide bits start (halved cell v) n) (let e : suc used ≡ after = omega arith in e)
-      (draws-on decide bits start cell used (way.goes bits (has_bits-first bits start way.given (v ∷ []) have)) v more (bit_there bits v have) (subst (λ h. decide h ≡ None) is_half undecided)));
+          (draws-on decide bits start cell used (way.goes bits (has_bits-first bits start way.given (v ∷ []) have)) v more (bit_there bits v have) (subst (λ h. decide h ≡ None) is_half undecided)));
     }
 
     -- a bit that decides ends the draw
