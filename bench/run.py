@@ -53,7 +53,7 @@ def main():
     print("| Words | Seconds | Objects per second |\n|---|---|---|")
     for words, count in rows:
         least = min(seconds(program, words) for _ in range(runs))
-        rate = "" if count is None else "%.2g" % (count / max(least, 0.001))
+        rate = "" if count is None else format(float("%.2g" % (count / max(least, 0.001))), ",.0f")
         print("| `%s` | %.3f | %s |" % (" ".join(words), least, rate))
 
 

@@ -165,4 +165,3 @@ fn begins_after(cell: Cell, hi: u64, lo: u64) -> bool
 {
     power_of_two(cell.b) * u128::from(hi) <= u128::from(cell.k) * u128::from(lo)
 }
-

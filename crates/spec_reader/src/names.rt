@@ -127,12 +127,25 @@ pub fn first_fault(
     ensures exact { IfOk result (λ f. f ≡ first_fault draft.now.mode draft.now.names [] true tokens.now) }
 {
     let mut seen = Names::new(alloc);
+    fault_behind(alloc, draft, &mut seen, tokens)
+}
+
+/// The first fault of tokens that begin a line, where these names were seen before.
+fn fault_behind(
+    alloc: Global,
+    draft: &Draft,
+    seen: &mut Names,
+    tokens: &[Placed],
+) -> Result<Option<SpecFault>, AllocError>
+    requires few { length draft.now.names < 2 ^ 32 }
+    ensures exact { IfOk result (λ f. f ≡ first_fault draft.now.mode draft.now.names seen.old true tokens.now) }
+{
     let mut starts = true;
     for placed in tokens {
-        if let Some(fault) = token_fault(draft, &seen, starts, placed) {
+        if let Some(fault) = token_fault(draft, seen, starts, placed) {
             return Ok(Some(fault));
         }
-        see(alloc, &mut seen, starts, &placed.token)?;
+        see(alloc, seen, starts, &placed.token)?;
         starts = ends_line(&placed.token);
     }
     Ok(None)
