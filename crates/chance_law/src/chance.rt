@@ -22,7 +22,7 @@ use well_founded::examination::Founded;
 ///
 /// `root` has bounds of the value of the class's body, in units of `2^-F`. In labelled mode this is
 /// the chance of the shape before it is labelled. It walks over the tokens with a stack of nodes of
-/// its own; a refusal comes for out of memory alone.
+/// its own, and fails only where memory runs out.
 pub fn chance<const F: u32>(
     founded: &Founded,
     x: Fraction,

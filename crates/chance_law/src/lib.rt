@@ -10,5 +10,6 @@
 
 pub mod chance;
 pub mod laws;
+pub mod line;
 pub mod scaled;
 mod weights;
