@@ -6,4 +6,6 @@ use Rattle.chance_law.specs.declared.scaled.ChanceBounds.{ChanceBounds}
 -- The line of a chance: the lower and the upper bound, each with its digits and its exponent in
 -- decimal, and a line feed.
 abbrev pub chance_line : ChanceBounds → List ℕ
-chance_line b = codes "chance lo " ++ (decimal b.lo.m ++ (codes " " ++ (signed_decimal b.lo.e ++ (codes " hi " ++ (decimal b.hi.m ++ (codes " " ++ (signed_decimal b.hi.e ++ (10 ∷ []))))))))
+chance_line b =
+    codes "chance lo " ++ (decimal b.lo.m ++ (codes " " ++ (signed_decimal b.lo.e
+    ++ (codes " hi " ++ (decimal b.hi.m ++ (codes " " ++ (signed_decimal b.hi.e ++ (10 ∷ []))))))))

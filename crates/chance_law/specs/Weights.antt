@@ -19,7 +19,8 @@ pub record AreWithin (bound : ℕ) (w : Weights) : Type 0 where
   pub lo_near : IsNear bound w.lo.e
   pub hi_near : IsNear bound w.hi.e
 
--- What a visit multiplies the weights by: x for an atom, one part in each of 2 to k for a set of k parts, and one part in k for a cycle of k parts.
+-- What a visit multiplies the weights by: x for an atom, one part in each of 2 to k for a set of k
+-- parts, and one part in k for a cycle of k parts.
 abbrev pub visit_factors : Visit → List Factor
 visit_factors (visit.Class body) = []
 visit_factors visit.Product = []
@@ -30,9 +31,11 @@ visit_factors (visit.Seq parts part) = []
 visit_factors (visit.Set parts part) = over_two_to parts
 visit_factors (visit.Cyc parts part) = Factor.Over parts ∷ []
 
--- The walk over an object has come to these weights, with these objects waiting: what their factors lead to from here is what the object's factors lead to from 1.
+-- The walk over an object has come to these weights, with these objects waiting: what their factors
+-- lead to from here is what the object's factors lead to from 1.
 pub record HasCome (x w : Weights) (o : Object) (os : Objects) : Type 0 where
-  pub down : (v : Scaled) → LeadsDown x.lo w.lo (all_factors os) v → LeadsDown x.lo one (factors o) v
+  pub down : (v : Scaled) → LeadsDown x.lo w.lo (all_factors os) v
+      → LeadsDown x.lo one (factors o) v
   pub up : (v : Scaled) → LeadsUp x.hi w.hi (all_factors os) v → LeadsUp x.hi one (factors o) v
 
 -- The factors of an object lead from 1 to these weights.
@@ -40,8 +43,11 @@ pub record AreWeightsOf (x : Weights) (o : Object) (w : Weights) : Type 0 where
   pub down : LeadsDown x.lo one (factors o) w.lo
   pub up : LeadsUp x.hi one (factors o) w.hi
 
--- The state of the walk over an object: objects of the nodes that wait have the tokens that are left, and after n factors the weights are those that the walk has come to, with exponents of at most 512 (n + 1).
-pub record IsOnTheWay (s : Spec) (x : Weights) (o : Object) (es : List ℕ) (tokens : List Token) (w : Weights) : Type 0 where
+-- The state of the walk over an object: objects of the nodes that wait have the tokens that are
+-- left, and after n factors the weights are those that the walk has come to, with exponents of at
+-- most 512 (n + 1).
+pub record IsOnTheWay (s : Spec) (x : Weights) (o : Object) (es : List ℕ) (tokens : List Token)
+    (w : Weights) : Type 0 where
   pub objects : Objects
   pub waits : Waits s es objects tokens
   pub come : HasCome x w o objects
