@@ -30,3 +30,4 @@ pub mod Canonical
 pub mod First
 pub mod Rooms
 pub mod Pending
+pub mod ByOption

@@ -7,3 +7,4 @@ pub mod Spelled
 pub mod Parts
 pub mod Pending
 pub mod InOrder
+pub mod ByOption

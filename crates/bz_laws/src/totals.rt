@@ -5,9 +5,11 @@ ghost use Rattle.bz_model.specs.Fraction.{Fraction, AtMost, plus, times};
 ghost use Rattle.bz_model.specs.Spec.{Spec};
 ghost use Rattle.bz_model.specs.Object.{Object, Belongs};
 ghost use Rattle.bz_model.specs.Measures.{weight};
-ghost use Rattle.bz_model.specs.Totals.{IsDistinct, AboveBy, BelowBy, Above, Below, total, total_by};
+ghost use Rattle.bz_model.specs.Ideal.{Upto};
+ghost use Rattle.bz_model.specs.Totals.{IsDistinct, IsSample, AboveBy, BelowBy, Above, Below, total, total_by};
 ghost use Rattle.bz_laws.specs.Terms.{AreEqual};
 ghost use Rattle.bz_laws.specs.Lists.{IsOneOf, pairs_of};
+ghost use Rattle.bz_laws.specs.ByOption.{SplitsAt};
 
 /// A list of distinct objects that all stand in another list totals at most as much.
 pub fn a_sub_list_totals_no_more()
@@ -22,6 +24,13 @@ pub fn a_list_splits_by_a_test()
     ensures total { (x : Fraction) (test : Object → Bool) (os : List Object)
         → AreEqual (total x os) (plus (total x (filter test os)) (total x (filter (λ o. cond (test
         o) false true) os))) }
+{}
+
+/// A list of distinct objects with options up to i splits into one of those with a lesser option
+/// and one of those with the option i, and the totals add up.
+pub fn a_list_splits_at_its_greatest_option()
+    ensures { (s : Spec) (x : Fraction) (e i : ℕ) (os : List Object) → IsSample (Upto s e i) os
+        → SplitsAt s x e i os }
 {}
 
 /// Two lists of distinct objects without a common one join without repeats, and the totals add up.

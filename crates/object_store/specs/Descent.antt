@@ -1,4 +1,5 @@
--- Ways down from a node through classes and first parts of products, which have no token of their own.
+-- Ways down from a node through classes and first parts of products, which have no token of their
+-- own.
 use Rattle.std.specs.Prelude.{◌≡◌, ◌↔◌, ℕ, ◌+◌, List, [], ◌∷◌, length, Some}
 use Rattle.std.proofs.Common.{eqb}
 use Rattle.std.specs.List.{IsDistinct, AllByRecursion}
@@ -22,7 +23,8 @@ abbrev pub LeadTo : Spec → List ℕ → List ℕ → Type 0
 LeadTo s passed [] = Unit {0}
 LeadTo s passed (e ∷ es) = AllByRecursion (λ p. Leads s p e) passed
 
--- What holds on a way down: the same tokens are asked for, and no node was passed twice, if there is an object.
+-- What holds on a way down: the same tokens are asked for, and no node was passed twice, if there
+-- is an object.
 pub record Descent (s : Spec) (start now : List ℕ) (left : ℕ) : Type 0 where
   pub same : (ts : List Token) → AreOf s start ts ↔ AreOf s now ts
   pub in_range : AllBelow (length s.nodes) now

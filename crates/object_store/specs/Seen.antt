@@ -19,7 +19,8 @@ pub record IsProductAt (s : Spec) (e : ℕ) : Type 0 where
   pub is_node : node_at s e ≡ Some (Node.Product parts)
 
 -- The node is a leaf of this kind, and its token is the first.
-pub record IsLeafAt (node : List ℕ → Node) (t : Token) (s : Spec) (e : ℕ) (ts : List Token) : Type 0 where
+pub record IsLeafAt (node : List ℕ → Node) (t : Token) (s : Spec) (e : ℕ)
+    (ts : List Token) : Type 0 where
   pub word : List ℕ
   pub later : List Token
   pub is_node : node_at s e ≡ Some (node word)
@@ -34,13 +35,15 @@ pub record IsUnionAt (s : Spec) (e : ℕ) (ts : List Token) (option part : ℕ) 
   pub is_token : ts ≡ token.Pick option ∷ later
 
 -- The node has lists of objects of a part, and the first token is a number of parts in its range.
-pub record IsListAt (node : ℕ → Node) (s : Spec) (e : ℕ) (ts : List Token) (parts part : ℕ) : Type 0 where
+pub record IsListAt (node : ℕ → Node) (s : Spec) (e : ℕ) (ts : List Token)
+    (parts part : ℕ) : Type 0 where
   pub later : List Token
   pub is_node : node_at s e ≡ Some (node part)
   pub in_range : IsInRange parts (range_at s e)
   pub is_token : ts ≡ token.Count parts ∷ later
 
--- What is seen of an object of node e that the tokens begin with: the node's kind, and what the first token says of the object.
+-- What is seen of an object of node e that the tokens begin with: the node's kind, and what the
+-- first token says of the object.
 abbrev pub Seen : Spec → (e : ℕ) → List Token → Visit → Type 0
 Seen s e ts (visit.Class body) = IsClassAt s e body.0
 Seen s e ts visit.Product = IsProductAt s e
@@ -87,7 +90,9 @@ pub record IsPickOf (parts : List ℕ) (ts : List Token) (option part : ℕ) : T
 
 -- The first token is no pick of a part.
 abbrev pub IsNoPick : List ℕ → List Token → Type 0
-IsNoPick parts ts = (option part : ℕ) → (later : List Token) → slice_get parts option ≡ Some part → ¬ (ts ≡ token.Pick option ∷ later)
+IsNoPick parts ts =
+    (option part : ℕ) → (later : List Token) → slice_get parts option ≡ Some part
+    → ¬ (ts ≡ token.Pick option ∷ later)
 
 -- The first token is this number of parts, which lies in the range.
 pub record IsCountIn (r : Option Range) (ts : List Token) (parts : ℕ) : Type 0 where
@@ -97,4 +102,5 @@ pub record IsCountIn (r : Option Range) (ts : List Token) (parts : ℕ) : Type 0
 
 -- The first token is no number of parts in the range.
 abbrev pub IsNoCount : Option Range → List Token → Type 0
-IsNoCount r ts = (parts : ℕ) → (later : List Token) → IsInRange parts r → ¬ (ts ≡ token.Count parts ∷ later)
+IsNoCount r ts =
+    (parts : ℕ) → (later : List Token) → IsInRange parts r → ¬ (ts ≡ token.Count parts ∷ later)

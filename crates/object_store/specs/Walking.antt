@@ -10,14 +10,16 @@ use Rattle.object_store.specs.Tokens.{AreOf}
 use Rattle.object_store.specs.Waiting.{Waits, Shows}
 use Rattle.object_store.specs.Descent.{Descent}
 
--- A walk over tokens by a specification: the nodes that wait, the next one first, the tokens that are left, and how many classes and products may be passed before the next token.
+-- A walk over tokens by a specification: the nodes that wait, the next one first, the tokens that
+-- are left, and how many classes and products may be passed before the next token.
 pub record Walking : Type 0 where
   pub system : Spec
   pub waiting : List ℕ
   pub left : List Token
   pub way : ℕ
 
--- A bound on the visits that are still to come: to each token, and after the last one, a way leads down that passes no node twice.
+-- A bound on the visits that are still to come: to each token, and after the last one, a way leads
+-- down that passes no node twice.
 abbrev pub visits_left : Walking → ℕ
 visits_left w = length w.left * suc (length w.system.nodes) + w.way
 
@@ -26,14 +28,18 @@ pub record IsOnItsWay (s : Spec) (waiting : List ℕ) (way : ℕ) : Type 0 where
   pub start : List ℕ
   pub descent : Descent s start waiting way
 
--- Node e was the first that waited. Whatever objects waited, the visit shows what the first of them is and what waits now; the tokens before are those of objects exactly where those now are; and fewer visits are left.
+-- Node e was the first that waited. Whatever objects waited, the visit shows what the first of them
+-- is and what waits now; the tokens before are those of objects exactly where those now are; and
+-- fewer visits are left.
 pub record IsVisit (before now : Walking) (e : ℕ) (v : Visit) : Type 0 where
   pub others : List ℕ
   pub first : before.waiting ≡ e ∷ others
   pub in_range : e < length before.system.nodes
   pub system : now.system ≡ before.system
-  pub shows : (os : Objects) → Waits before.system before.waiting os before.left → Shows before.system e others os before.left v now.waiting now.left
-  pub same : AreOf before.system before.waiting before.left ↔ AreOf before.system now.waiting now.left
+  pub shows : (os : Objects) → Waits before.system before.waiting os before.left
+      → Shows before.system e others os before.left v now.waiting now.left
+  pub same : AreOf before.system before.waiting before.left
+      ↔ AreOf before.system now.waiting now.left
   pub fewer : visits_left now < visits_left before
 
 -- At the end nothing waits and no token is left.

@@ -108,8 +108,8 @@ impl Shape {
 
     /// Whether the tokens are those of one object of a class.
     ///
-    /// It walks over the tokens with a stack of nodes of its own. A refusal comes for want of memory
-    /// alone.
+    /// It walks over the tokens with a stack of nodes of its own, and fails only where memory runs
+    /// out.
     pub fn is_of(&self, system: &System, c: ClassId) -> Result<bool, AllocError>
         requires in_range { c.0 < length system.now.names }
         ensures is_of { IfOk result (λ b. IsTrue b ↔ IsOf system.now c.0 self.now.items) }

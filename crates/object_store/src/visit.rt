@@ -38,8 +38,8 @@ pub enum Visit {
 impl Visit {
     /// What node `e` shows of an object whose tokens are the first of `tokens`.
     ///
-    /// None exactly where no object of the node has such tokens that its first one says so: the
-    /// first token isn't of the node's kind, or isn't there. Takes no memory.
+    /// None only where no object of the node has tokens that begin so: the first token isn't of the
+    /// node's kind, or isn't there. Takes no memory.
     pub fn at(system: &System, e: ExprId, tokens: &[Token]) -> Option<Visit>
         requires in_range { e.0 < length system.now.nodes }
         ensures seen { IfSome result (Seen system.now e.0 tokens.now) }

@@ -76,8 +76,8 @@ impl<'a> Walk<'a> {
     /// Visits the next node.
     ///
     /// The objects right below the object that is visited wait in its place, and its token is taken,
-    /// if it has one. At the end, where there is no object, and after a refusal, which comes for out
-    /// of memory alone, the walk stays as it was.
+    /// if it has one. At the end, and where there is no object, the walk stays as it was; so it does
+    /// at an error, which comes only where memory runs out.
     pub fn next(&mut self) -> Result<Next, AllocError>
         ensures next { IfOk result (IsNext self.old self.new) }
         ensures err { OnErr result (self.new ≡ self.old) }
@@ -108,7 +108,7 @@ impl<'a> Walk<'a> {
     }
 }
 
-/// Puts the nodes right below a visit in the place of the first pending one. A refusal leaves what
+/// Puts the nodes right below a visit in the place of the first pending one. An error leaves what
 /// waits as it was.
 fn put_below(
     system: &System,

@@ -1,0 +1,6 @@
+pub mod Scaled
+pub mod Factors
+pub mod Chance
+pub mod Line
+pub mod Weights
+pub mod WorkedChances
