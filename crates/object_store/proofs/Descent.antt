@@ -4,7 +4,7 @@ use Rattle.std.specs.List.{list_any, IsDistinct, AllByRecursion}
 use Rattle.std.proofs.lemmas.Bool.Decides.{eqb_tells}
 use Rattle.std.proofs.lemmas.Map.Keys.{IsDistinct-cons}
 use Rattle.std.proofs.lemmas.Map.Steps.{length-le_from_distinct_below}
-use Rattle.bz_model.specs.Spec.{Spec, Node, node_at, range_at, node_of, range_of, body_of}
+use Rattle.bz_model.specs.Spec.{Spec, Node, node_at, range_at, node_of, range_of}
 use Rattle.bz_model.specs.Object.{Object, none, more, Has, ClassHas, HasWithin, Belongs}
 use Rattle.bz_model.specs.Object.Object.{Unit_, Dot, Pick, Tuple, SeqOf, SetOf, CycOf}
 use Rattle.bz_model.specs.Measures.{tree_nodes}
@@ -14,18 +14,9 @@ use Rattle.class_system.specs.Sound.{IsSound}
 use Rattle.object_store.specs.declared.token.Token.{Token}
 use Rattle.object_store.specs.Tokens.{AreOf}
 use Rattle.object_store.specs.Walk.{AllBelow, Expands}
+pub use Rattle.object_store.specs.Descent.{StepsTo, Leads, LeadTo, Descent}
 use Rattle.object_store.proofs.InRange.{body-below, two-parts, product-parts}
 use Rattle.object_store.proofs.NextToken.{first, of-class, of-product}
-
--- One step down: from a class to its body, from a product to its first part.
-pub data StepsTo (s : Spec) (e f : ℕ) : Type 0 where
-  to_body : (c : ℕ) → node_at s e ≡ Some (Node.Class c) → body_of s c ≡ Some f → StepsTo s e f
-  to_part : (parts : List ℕ) → node_at s e ≡ Some (Node.Product (f ∷ parts)) → StepsTo s e f
-
--- One step down or more.
-pub data Leads (s : Spec) (e : ℕ) : ℕ → Type 0 where
-  one : {f : ℕ} → StepsTo s e f → Leads s e f
-  further : {f g : ℕ} → Leads s e f → StepsTo s f g → Leads s e g
 
 -- A node has an object whose height and tree nodes are at most m together.
 pub record HasSmall (s : Spec) (e m : ℕ) : Type 0 where
@@ -81,21 +72,6 @@ module _ (s : Spec) where
   -- a node that leads back to itself has no object
   pub no_loop : {e : ℕ} → Leads s e e → (o : Object) → ¬ (Belongs s e o)
   no_loop {e} l o b = no_loop_below (suc (b.0 + tree_nodes o)) (b.0 + tree_nodes o) (omega arith) l (record { height = b.0; object = o; within = b.1; small = omega arith })
-
--- Each of these nodes leads to the first pending one, if there is one.
-abbrev pub LeadTo : Spec → List ℕ → List ℕ → Type 0
-LeadTo s passed [] = Unit {0}
-LeadTo s passed (e ∷ es) = AllByRecursion (λ p. Leads s p e) passed
-
--- What holds on a way down: the same tokens are asked for, and no node was passed twice, if there is an object.
-pub record Descent (s : Spec) (start now : List ℕ) (left : ℕ) : Type 0 where
-  pub same : (ts : List Token) → AreOf s start ts ↔ AreOf s now ts
-  pub in_range : AllBelow (length s.nodes) now
-  pub passed : List ℕ
-  pub few : length passed + left ≡ length s.nodes
-  pub lead : LeadTo s passed now
-  pub below : AllBelow (length s.nodes) passed
-  pub distinct : (ts : List Token) → AreOf s start ts → IsDistinct eqb passed
 
 none_twice : IsDistinct eqb []
 unfolding IsDistinct

@@ -4,6 +4,8 @@ pub mod Unrolled
 pub mod InRange
 pub mod Walked
 pub mod NextToken
-pub mod Taken
+pub mod Waiting
+pub mod Steps
 pub mod Descent
+pub mod Walks
 mod ExampleSound

@@ -10,11 +10,7 @@ use Rattle.bz_laws.proofs.Nodes.{ClassBelongs, known, unknown, belongs-has, belo
 use Rattle.object_store.specs.declared.token.Token.{Token}
 use Rattle.object_store.specs.declared.token.Token.TheVariants as token
 use Rattle.object_store.specs.Tokens.{tokens_of, tokens_all, BelongEach, AreOf}
-
--- The objects of two lists, one after the other.
-abbrev pub joined : Objects → Objects → Objects
-joined none ps = ps
-joined (more o os) ps = more o (joined os ps)
+pub use Rattle.object_store.specs.Waiting.{joined}
 
 pub tokens_all-joined : (os ps : Objects) → tokens_all (joined os ps) ≡ tokens_all os ++ tokens_all ps
 tokens_all-joined none ps = refl

@@ -10,4 +10,5 @@ pub mod shape;
 #[cfg(test)]
 mod tests;
 pub mod token;
-mod walk;
+pub mod visit;
+pub mod walk;

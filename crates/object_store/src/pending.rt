@@ -1,5 +1,5 @@
 //! Nodes that wait to be visited, with spare room.
-ghost use Rattle.std.specs.Prelude.{◌≡◌, ◌+◌, ◌<◌, ◌≤◌, [], ◌∷◌, ◌++◌, map, length, replicate, option_map, option_to_list, IsOk, OnOk, OnErr, IfNone, IsTrue, ◌↔◌, slice_get};
+ghost use Rattle.std.specs.Prelude.{◌≡◌, ◌+◌, ◌<◌, ◌≤◌, [], ◌∷◌, ◌++◌, map, length, replicate, option_map, option_to_list, IsOk, OnOk, OnErr, IfNone, IsTrue, ◌↔◌, slice_get, ℕ, List};
 ghost use Rattle.class_system.specs.Views.{number};
 
 use class_system::ids::ExprId;
@@ -117,5 +117,33 @@ impl Pending {
             self.push(nodes[i], 1)?;
         }
         Ok(())
+    }
+
+    /// Puts nodes in the place of the first, in their order. A refusal leaves what waits as it was.
+    pub fn replace_first(&mut self, nodes: &[ExprId]) -> Result<(), AllocError>
+        ensures ok { OnOk result ((first : ℕ) (rest : List ℕ) → self.old.items ≡ first ∷ rest
+            → self.new.items ≡ map number nodes.now ++ rest) }
+        ensures err { OnErr result (self.new.items ≡ self.old.items) }
+    {
+        self.reserve(nodes.len())?;
+        let _first = self.pop();
+        match self.push_all(nodes) {
+            Ok(()) => Ok(()),
+            Err(_) => unreachable!(),
+        }
+    }
+
+    /// Puts a node so many times in the place of the first. A refusal leaves what waits as it was.
+    pub fn repeat_first(&mut self, node: ExprId, times: u32) -> Result<(), AllocError>
+        ensures ok { OnOk result ((first : ℕ) (rest : List ℕ) → self.old.items ≡ first ∷ rest
+            → self.new.items ≡ replicate times node.0 ++ rest) }
+        ensures err { OnErr result (self.new.items ≡ self.old.items) }
+    {
+        self.reserve(1)?;
+        let _first = self.pop();
+        match self.push(node, times) {
+            Ok(()) => Ok(()),
+            Err(_) => unreachable!(),
+        }
     }
 }

@@ -1,10 +1,11 @@
 //! Shapes: lists of tokens in preorder, with spare room.
 ghost use Rattle.std.specs.Prelude.{◌≡◌, ◌+◌, ◌<◌, ◌≤◌, [], ◌∷◌, ◌++◌, ◌↔◌, length, IsTrue, IsOk, IfOk, OnOk, OnErr};
-ghost use Rattle.object_store.specs.Tokens.{size_of, IsOf};
+ghost use Rattle.bz_model.specs.Object.{none, more};
+ghost use Rattle.object_store.specs.Tokens.{size_of, IsOf, AreOf};
+ghost use Rattle.object_store.specs.Waiting.{Waits};
 
-use crate::pending::Pending;
 use crate::token::Token;
-use crate::walk::takes_all;
+use crate::walk::{Next, Walk};
 use class_system::ids::ClassId;
 use class_system::system::System;
 use std::alloc::{AllocError, Global};
@@ -84,18 +85,42 @@ impl Shape {
         self.content.as_slice()
     }
 
+    /// The walk over the tokens, as those of an object of a class: the class's body waits, and all
+    /// tokens are left.
+    pub fn walk<'a>(&'a self, system: &'a System, c: ClassId) -> Result<Walk<'a>, AllocError>
+        requires in_range { c.0 < length system.now.names }
+        ensures system { IfOk result (λ w. w.system ≡ system.now) }
+        ensures left { IfOk result (λ w. w.left ≡ self.now.items) }
+        ensures asked { IfOk result (λ w. AreOf system.now w.waiting w.left
+            ↔ IsOf system.now c.0 self.now.items) }
+        ensures waits { IfOk result (λ w. (of : IsOf system.now c.0 self.now.items)
+            → (w.waiting ≡ of.body ∷ [])
+            × Waits system.now w.waiting (more of.object none) w.left) }
+    {
+        system.known();
+        Walk::new(
+            *self.content.allocator(),
+            system,
+            system.body(c),
+            self.tokens(),
+        )
+    }
+
     /// Whether the tokens are those of one object of a class.
     ///
-    /// It walks over the tokens with a stack of nodes of its own, in steps that need a token or go
-    /// down a way without one, which is at most as long as there are nodes. A refusal comes for want
-    /// of memory alone.
+    /// It walks over the tokens with a stack of nodes of its own. A refusal comes for want of memory
+    /// alone.
     pub fn is_of(&self, system: &System, c: ClassId) -> Result<bool, AllocError>
         requires in_range { c.0 < length system.now.names }
         ensures is_of { IfOk result (λ b. IsTrue b ↔ IsOf system.now c.0 self.now.items) }
     {
-        system.known();
-        let mut pending = Pending::new(*self.content.allocator());
-        pending.push(system.body(c), 1)?;
-        takes_all(system, &mut pending, self.tokens())
+        let mut walk = self.walk(system, c)?;
+        'visits: loop {
+            match walk.next()? {
+                Next::Node(..) => {}
+                Next::End => return Ok(true),
+                Next::NoObject => return Ok(false),
+            }
+        }
     }
 }

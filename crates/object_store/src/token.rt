@@ -26,24 +26,4 @@ impl Token {
             Token::Pick(_) | Token::Count(_) | Token::Unit => 0,
         }
     }
-
-    /// Whether this is the token of a neutral object.
-    pub(crate) fn is_unit(self) -> bool
-        ensures { IsTrue result ↔ (self ≡ Token.Unit) }
-    {
-        match self {
-            Token::Unit => true,
-            Token::Pick(_) | Token::Count(_) | Token::Dot => false,
-        }
-    }
-
-    /// Whether this is the token of an atom.
-    pub(crate) fn is_dot(self) -> bool
-        ensures { IsTrue result ↔ (self ≡ Token.Dot) }
-    {
-        match self {
-            Token::Dot => true,
-            Token::Pick(_) | Token::Count(_) | Token::Unit => false,
-        }
-    }
 }

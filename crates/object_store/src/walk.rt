@@ -1,153 +1,133 @@
-//! Whether tokens are those of objects of some nodes: a walk with a stack of its own.
+//! A walk over the tokens of objects, from node to node in preorder.
 //!
 //! Classes and products have no token, so the walk goes down through them to the next node that has
 //! one. A way down that is longer than there are nodes passes a node twice, and a node that leads
 //! back to itself without a token has no object.
-ghost use Rattle.std.specs.Prelude.{◌≡◌, ◌<◌, ◌↔◌, length, map, Some, IfOk, IsTrue};
-ghost use Rattle.bz_model.specs.Spec.{IsInRange};
-ghost use Rattle.class_system.specs.Views.{number, spec_range};
-ghost use Rattle.object_store.specs.Tokens.{AreOf};
-ghost use Rattle.object_store.specs.Walk.{AllBelow, HasToken, ExpandsIf, IsFront, PicksIf, CountsIf, TakesIf};
+ghost use Rattle.std.specs.Prelude.{◌≡◌, ℕ, ◌<◌, ◌∷◌, ◌++◌, [], List, length, IfOk, OnOk, OnErr};
+ghost use Rattle.bz_model.specs.Object.{Object, none, more, Belongs};
+ghost use Rattle.object_store.specs.Tokens.{tokens_of};
+ghost use Rattle.object_store.specs.Seen.{nodes_below};
+ghost use Rattle.object_store.specs.Waiting.{Waits};
+ghost use Rattle.object_store.specs.Walking.{IsNext};
 
 use crate::pending::Pending;
 use crate::token::Token;
-use class_system::expr::Expr;
+use crate::visit::Visit;
 use class_system::ids::ExprId;
-use class_system::ranges::Range;
 use class_system::system::System;
-use std::alloc::AllocError;
+use std::alloc::{AllocError, Global};
+use std::marker::Model;
 
-/// What stands first after the way down through classes and products.
-#[derive(Clone, Copy, Debug)]
-pub(crate) enum Front {
-    /// This node, which has a token.
-    Node(ExprId),
-    /// Nothing.
-    Nothing,
-    /// The way came back to a node, so there is no object.
-    Loop,
+/// What a walk comes to next.
+#[derive(Clone, Copy, Debug, PartialEq, Eq)]
+pub enum Next {
+    /// This node, and what it shows of the first object that waits.
+    Node(ExprId, Visit),
+    /// Nothing waits, and no token is left.
+    End,
+    /// The tokens that are left aren't those of objects of the nodes that wait.
+    NoObject,
 }
 
-/// Whether the tokens are those of one object of each pending node, one object after the other.
-pub(crate) fn takes_all(
-    system: &System,
-    pending: &mut Pending,
-    tokens: &[Token],
-) -> Result<bool, AllocError>
-    requires in_range { AllBelow (length system.now.nodes) pending.old.items }
-    ensures all { IfOk result (λ b. IsTrue b ↔ AreOf system.now pending.old.items tokens.now) }
-{
-    for token in tokens {
-        let e = match descend(system, pending)? {
-            Front::Node(e) => e,
-            Front::Nothing => return Ok(false),
-            Front::Loop => return Ok(false),
+/// A walk over tokens: the nodes whose objects wait, the next one first, and the tokens left.
+#[derive(Drop)]
+pub struct Walk<'a> {
+    system: &'a System,
+    pending: Pending,
+    left: &'a [Token],
+    way: u32,
+}
+
+impl<'a> Model for Walk<'a> {
+    ghost use Rattle.object_store.specs.Walking.{Walking, IsOnItsWay};
+
+    ghost Value = { Walking };
+
+    ghost view = { λ w. record { system = w.system.now; waiting = w.pending.items; left = w.left.now; way = w.way } };
+
+    ghost invariant = { λ w. IsOnItsWay w.system.now w.pending.items w.way };
+}
+
+impl<'a> Walk<'a> {
+    /// The walk over the tokens of an object of node `e`: the node waits, and all tokens are left.
+    pub fn new(
+        alloc: Global,
+        system: &'a System,
+        e: ExprId,
+        tokens: &'a [Token],
+    ) -> Result<Walk<'a>, AllocError>
+        requires in_range { e.0 < length system.now.nodes }
+        ensures system { IfOk result (λ w. w.system ≡ system.now) }
+        ensures waiting { IfOk result (λ w. w.waiting ≡ e.0 ∷ []) }
+        ensures left { IfOk result (λ w. w.left ≡ tokens.now) }
+        ensures waits { IfOk result (λ w. (o : Object) → Belongs system.now e.0 o
+            → tokens_of o ≡ tokens.now → Waits w.system w.waiting (more o none) w.left) }
+    {
+        let mut pending = Pending::new(alloc);
+        pending.push(e, 1)?;
+        Ok(Walk {
+            system,
+            pending,
+            left: tokens,
+            way: system.node_count(),
+        })
+    }
+
+    /// Visits the next node.
+    ///
+    /// The objects right below the object that is visited wait in its place, and its token is taken,
+    /// if it has one. At the end, where there is no object, and after a refusal, which comes for out
+    /// of memory alone, the walk stays as it was.
+    pub fn next(&mut self) -> Result<Next, AllocError>
+        ensures next { IfOk result (IsNext self.old self.new) }
+        ensures err { OnErr result (self.new ≡ self.old) }
+    {
+        let Some(e) = self.pending.first() else {
+            return Ok(if self.left.is_empty() {
+                Next::End
+            } else {
+                Next::NoObject
+            });
         };
-        if !take_token(system, e, *token, pending)? {
-            return Ok(false);
+        self.system.known();
+        let Some(visit) = Visit::at(self.system, e, self.left) else {
+            return Ok(Next::NoObject);
+        };
+        if !visit.is_way_down() {
+            put_below(self.system, e, visit, &mut self.pending)?;
+            self.left = &self.left[1..];
+            self.way = self.system.node_count();
+        } else {
+            if self.way == 0 {
+                return Ok(Next::NoObject);
+            }
+            put_below(self.system, e, visit, &mut self.pending)?;
+            self.way -= 1;
         }
-    }
-    match descend(system, pending)? {
-        Front::Nothing => Ok(true),
-        Front::Node(_) => Ok(false),
-        Front::Loop => Ok(false),
+        Ok(Next::Node(e, visit))
     }
 }
 
-/// Goes down from the first pending node, through classes and products, to a node with a token.
-fn descend(system: &System, pending: &mut Pending) -> Result<Front, AllocError>
-    requires in_range { AllBelow (length system.now.nodes) pending.old.items }
-    ensures front { IfOk result (IsFront system.now pending.old.items pending.new.items) }
-{
-    system.known();
-    let mut left = system.node_count();
-    while let Some(e) = pending.pop() {
-        if !expand(system, e, pending)? {
-            return Ok(Front::Node(e));
-        }
-        if left == 0 {
-            return Ok(Front::Loop);
-        }
-        left -= 1;
-    }
-    Ok(Front::Nothing)
-}
-
-/// Puts a class's body, or a product's parts, in its place. False for any other node.
-fn expand(system: &System, e: ExprId, pending: &mut Pending) -> Result<bool, AllocError>
+/// Puts the nodes right below a visit in the place of the first pending one. A refusal leaves what
+/// waits as it was.
+fn put_below(
+    system: &System,
+    e: ExprId,
+    visit: Visit,
+    pending: &mut Pending,
+) -> Result<(), AllocError>
     requires in_range { e.0 < length system.now.nodes }
-    ensures expands { IfOk result (ExpandsIf system.now e.0 pending.old.items pending.new.items) }
+    ensures ok { OnOk result ((first : ℕ) (rest : List ℕ) → pending.old.items ≡ first ∷ rest
+        → pending.new.items ≡ nodes_below system.now e.0 visit ++ rest) }
+    ensures err { OnErr result (pending.new.items ≡ pending.old.items) }
 {
-    system.known();
-    match system.node(e) {
-        Expr::Class(c) => pending.push(system.body(*c), 1)?,
-        Expr::Product(parts) => pending.push_all(parts.items())?,
-        _ => return Ok(false),
+    match visit {
+        Visit::Class(body) => pending.repeat_first(body, 1),
+        Visit::Product => pending.replace_first(system.node(e).parts()),
+        Visit::Empty | Visit::Atom => pending.replace_first(&[]),
+        Visit::Union(_, part) => pending.repeat_first(part, 1),
+        Visit::Seq(parts, part) | Visit::Set(parts, part) | Visit::Cyc(parts, part) => {
+            pending.repeat_first(part, parts)
+        }
     }
-    Ok(true)
-}
-
-/// Lets a node take its token. False where the token isn't the first of an object of the node.
-fn take_token(
-    system: &System,
-    e: ExprId,
-    token: Token,
-    pending: &mut Pending,
-) -> Result<bool, AllocError>
-    requires node { e.0 < length system.now.nodes }
-    requires has_token { HasToken system.now e.0 }
-    ensures takes { IfOk result (TakesIf system.now e.0 token pending.old.items pending.new.items) }
-{
-    system.known();
-    match system.node(e) {
-        Expr::Empty(_) => Ok(token.is_unit()),
-        Expr::Atom(_) => Ok(token.is_dot()),
-        Expr::Union(parts) => take_pick(parts.items(), token, pending),
-        Expr::Seq(part) => take_count(system, e, *part, token, pending),
-        Expr::Set(part) => take_count(system, e, *part, token, pending),
-        Expr::Cyc(part) => take_count(system, e, *part, token, pending),
-        Expr::Class(_) | Expr::Product(_) => unreachable!(),
-    }
-}
-
-/// Puts the part that a token picks in front.
-fn take_pick(parts: &[ExprId], token: Token, pending: &mut Pending) -> Result<bool, AllocError>
-    ensures picks { IfOk result (PicksIf (map number parts.now) token pending.old.items pending.new.items) }
-{
-    let Token::Pick(i) = token else {
-        return Ok(false);
-    };
-    let Some(part) = parts.get(i as usize) else {
-        return Ok(false);
-    };
-    pending.push(*part, 1)?;
-    Ok(true)
-}
-
-/// Puts the part of a counted node in front, so many times as a token says.
-fn take_count(
-    system: &System,
-    e: ExprId,
-    part: ExprId,
-    token: Token,
-    pending: &mut Pending,
-) -> Result<bool, AllocError>
-    requires node { e.0 < length system.now.nodes }
-    ensures counts { IfOk result (CountsIf system.now e.0 part.0 token pending.old.items pending.new.items) }
-{
-    let Token::Count(k) = token else {
-        return Ok(false);
-    };
-    if !is_within(k, system.range(e)) {
-        return Ok(false);
-    }
-    pending.push(part, k)?;
-    Ok(true)
-}
-
-/// Whether a number of parts lies in a range.
-fn is_within(parts: u32, range: Range) -> bool
-    ensures { IsTrue result ↔ IsInRange parts (Some (spec_range range)) }
-{
-    range.low <= parts && range.high.is_none_or(|high| parts <= high)
 }

@@ -1,0 +1,12 @@
+pub mod Multiplied
+pub mod Enclosed
+pub mod Worked
+pub mod Rounding
+pub mod Determined
+pub mod Digits
+pub mod Exponents
+pub mod Upward
+pub mod Come
+pub mod FewFactors
+pub mod Equal
+pub mod Shares

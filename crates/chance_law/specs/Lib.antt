@@ -1,0 +1,5 @@
+pub mod Scaled
+pub mod Factors
+pub mod Chance
+pub mod Weights
+pub mod WorkedChances
