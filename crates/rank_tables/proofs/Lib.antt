@@ -30,3 +30,5 @@ pub mod Settling
 pub mod FilledSizes
 pub mod Replaced
 pub mod Ranked
+pub mod StackTold
+pub mod Walked

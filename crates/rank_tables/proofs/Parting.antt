@@ -176,7 +176,7 @@ list-last s t e part n r rest tasks from row =
     from.whole s [] (list-none s t e part rest (omega arith))
 
 -- What the tails tell of the parts from a place on.
-tail-row : (t : ℕ → ℕ → ℕ) (tails : Cells) (ps rest : List ℕ) (k n q : ℕ) → drop k ps ≡ q ∷ rest → ((m : ℕ) → m ≤ n → AreSuffixes t tails ps m) → TellRow tails q n (tuples t (drop k ps))
+pub tail-row : (t : ℕ → ℕ → ℕ) (tails : Cells) (ps rest : List ℕ) (k n q : ℕ) → drop k ps ≡ q ∷ rest → ((m : ℕ) → m ≤ n → AreSuffixes t tails ps m) → TellRow tails q n (tuples t (drop k ps))
 tail-row t tails ps rest k n q is h = λ j le. subst (λ z. Tells (cell tails q j) (tuples t z j)) (sym is) (let a : AreSuffixes t tails (q ∷ rest) j = subst (λ z. AreSuffixes t tails z j) is (suffixes-drop t tails k j ps (h j le)) in a.0)
 
 -- The split of what is left of a tuple.

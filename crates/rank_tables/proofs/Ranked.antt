@@ -1,8 +1,8 @@
 -- What a table of the counts gives to ranks and to objects by their numbers.
-use Rattle.std.proofs.Common.{◌≡◌, ℕ, suc, ◌≤◌, List, [], ◌∷◌, length, Some, arith, refl, sym, ◌∙◌, ap, subst}
+use Rattle.std.proofs.Common.{◌≡◌, ℕ, suc, ◌≤◌, List, [], ◌∷◌, map, length, Some, arith, refl, sym, ◌∙◌, ap, subst}
 use Rattle.std.proofs.lemmas.Option.{same_Some}
 use Rattle.bz_model.specs.Spec.{Spec, Node, body_of}
-use Rattle.bz_model.specs.Object.{Object}
+use Rattle.bz_model.specs.Object.{Object, none, more}
 use Rattle.bz_model.specs.Measures.{size, HasZero}
 use Rattle.bz_model.specs.Totals.{IsSample}
 use Rattle.bz_model.specs.WellFounded.{IsWellFounded}
@@ -18,6 +18,13 @@ use Rattle.rank_tables.specs.TableRule.{IsRankable}
 use Rattle.rank_tables.specs.Tables.{AreKnown, AreCounts, IsNumberOf}
 use Rattle.rank_tables.specs.Unranking.{IsCounted, IsTask, Fulfils}
 use Rattle.rank_tables.specs.declared.tasks.Task.{Task}
+use Rattle.rank_tables.specs.Capped.{Tells}
+use Rattle.rank_tables.specs.Places.{IsPlace}
+use Rattle.rank_tables.specs.RankSteps.{AreStepsOf, IsFirstTold, TellStack, visit_of}
+use Rattle.rank_tables.specs.Visits.{Told, all_visited, TellPlaces}
+use Rattle.rank_tables.specs.declared.places_stack.Placed.{Placed}
+use Rattle.rank_tables.specs.declared.rank_steps.Step.{Step}
+use Rattle.rank_tables.proofs.Visited.{visits-tell}
 use Rattle.rank_tables.proofs.Counting.{count-unique}
 use Rattle.rank_tables.proofs.LaidOut.{laid_out}
 use Rattle.rank_tables.proofs.NodeParts.{parts-inside}
@@ -63,3 +70,16 @@ module _ (s : Spec) (sound : IsSound s) (founded : IsWellFounded s) (most : ℕ)
       let tokens_size : size_of tokens ≡ size f.object = ap size_of (sym f.spelled) ∙ size_of-tokens f.object in
       let ranked = place-rank s (number_at counts) most (laid_out s sound) can (λ e n there fits. table.counts e n there fits) task.node.0 f.object task.number inside (omega arith) f.place in
       (tokens_size ∙ sized, record { body = task.node.0; is_body = is; object = f.object; spelled = f.spelled; ranked = subst (λ n. IsRanked s task.node.0 n task.number f.object) (sym tokens_size) ranked })
+
+  -- what the steps of a shape tell is its rank
+  pub placed-ranked : (tokens : List Token) (steps : List Step) (p : Placed) (r : ℕ) → AreStepsOf s 0 tokens steps → IsFirstTold p (all_visited s (number_at counts) (map visit_of steps)) → p.place ≡ Some r → size_of tokens ≤ most → IsRankOf s 0 tokens r
+  placed-ranked tokens steps p r k first is fits = go (all_visited s (number_at counts) (map visit_of steps)) (visits-tell s (number_at counts) (k.shape.body ∷ []) (more k.shape.object none) (map visit_of steps) k.visits) first.all
+    where
+      go : (told : List Told) → TellPlaces s (number_at counts) (k.shape.body ∷ []) (more k.shape.object none) told → TellStack (p ∷ first.rest) told → IsRankOf s 0 tokens r
+      go [] h t = elim h [ ]
+      go (q ∷ qs) h t =
+          let tokens_size : size_of tokens ≡ size k.shape.object = ap size_of (sym k.shape.spelled) ∙ size_of-tokens k.shape.object in
+          let at_place : r ≡ q.place = subst (λ v. Tells v q.place) is (t.0).place in
+          let placed : IsPlace s (number_at counts) k.shape.body k.shape.object r = subst (IsPlace s (number_at counts) k.shape.body k.shape.object) (sym at_place) h.1 in
+          let ranked = place-rank s (number_at counts) most (laid_out s sound) can (λ e n there le. table.counts e n there le) k.shape.body k.shape.object r (body_in_range s sound 0 k.shape.body k.shape.is_body) (omega arith) placed in
+          record { body = k.shape.body; is_body = k.shape.is_body; object = k.shape.object; spelled = k.shape.spelled; ranked = subst (λ n. IsRanked s k.shape.body n r k.shape.object) (sym tokens_size) ranked }

@@ -10,4 +10,5 @@ pub mod Shapes
 pub mod Grids
 pub mod Filling
 pub mod Unranking
+pub mod RankSteps
 pub mod Examples

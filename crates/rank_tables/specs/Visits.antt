@@ -3,6 +3,7 @@ use Rattle.std.specs.Prelude.{◌≡◌, ℕ, ◌+◌, ◌-◌, ◌*◌, ◌<◌
 use Rattle.bz_model.specs.Spec.{Spec, Node, node_at, body_of}
 use Rattle.bz_model.specs.Object.{Object, Objects, none, more, count}
 use Rattle.bz_model.specs.Measures.{size}
+use Rattle.object_store.specs.Waiting.{joined}
 use Rattle.rank_tables.specs.TableRule.{sum_below, tuples}
 use Rattle.rank_tables.specs.Places.{IsPlace}
 
@@ -13,11 +14,6 @@ pub data Visit : Type 0 where
   Tupled : (product : ℕ) → Visit
   Listed : (sequence parts : ℕ) → Visit
 
--- The objects of one list before those of another.
-abbrev pub before : Objects → Objects → Objects
-before none ps = ps
-before (more o os) ps = more o (before os ps)
-
 -- These are the visits of one object of each node, one object after the other.
 pub data AreVisits (s : Spec) : List ℕ → Objects → List Visit → Type 0 where
   done : AreVisits s [] none []
@@ -25,8 +21,8 @@ pub data AreVisits (s : Spec) : List ℕ → Objects → List Visit → Type 0 w
   atom : {e : ℕ} {es : List ℕ} {os : Objects} {vs : List Visit} (word : List ℕ) → node_at s e ≡ Some (Node.Atom word) → AreVisits s es os vs → AreVisits s (e ∷ es) (more Object.Dot os) (Leaf 1 ∷ vs)
   class : {e : ℕ} {es : List ℕ} {o : Object} {os : Objects} {vs : List Visit} (c body : ℕ) → node_at s e ≡ Some (Node.Class c) → body_of s c ≡ Some body → AreVisits s (body ∷ es) (more o os) vs → AreVisits s (e ∷ es) (more o os) vs
   union : {e : ℕ} {es : List ℕ} {o : Object} {os : Objects} {vs : List Visit} (parts : List ℕ) (i part : ℕ) → node_at s e ≡ Some (Node.Union parts) → slice_get parts i ≡ Some part → AreVisits s (part ∷ es) (more o os) vs → AreVisits s (e ∷ es) (more (Object.Pick i o) os) (Picked e i ∷ vs)
-  product : {e : ℕ} {es : List ℕ} {os all : Objects} {vs : List Visit} (parts whole : List ℕ) (ps : Objects) → node_at s e ≡ Some (Node.Product parts) → length parts ≡ count ps → whole ≡ parts ++ es → all ≡ before ps os → AreVisits s whole all vs → AreVisits s (e ∷ es) (more (Object.Tuple ps) os) (Tupled e ∷ vs)
-  sequence : {e k : ℕ} {es : List ℕ} {os all : Objects} {vs : List Visit} (part : ℕ) (whole : List ℕ) (ps : Objects) → node_at s e ≡ Some (Node.Seq part) → k ≡ count ps → whole ≡ replicate k part ++ es → all ≡ before ps os → AreVisits s whole all vs → AreVisits s (e ∷ es) (more (Object.SeqOf ps) os) (Listed e k ∷ vs)
+  product : {e : ℕ} {es : List ℕ} {os all : Objects} {vs : List Visit} (parts whole : List ℕ) (ps : Objects) → node_at s e ≡ Some (Node.Product parts) → length parts ≡ count ps → whole ≡ parts ++ es → all ≡ joined ps os → AreVisits s whole all vs → AreVisits s (e ∷ es) (more (Object.Tuple ps) os) (Tupled e ∷ vs)
+  sequence : {e k : ℕ} {es : List ℕ} {os all : Objects} {vs : List Visit} (part : ℕ) (whole : List ℕ) (ps : Objects) → node_at s e ≡ Some (Node.Seq part) → k ≡ count ps → whole ≡ replicate k part ++ es → all ≡ joined ps os → AreVisits s whole all vs → AreVisits s (e ∷ es) (more (Object.SeqOf ps) os) (Listed e k ∷ vs)
 
 -- What a part tells: its size and its place.
 pub record Told : Type 0 where

@@ -80,6 +80,38 @@ impl Grid {
         self.cells[e.0 as usize * self.sizes + n] = number;
     }
 
+    /// How many sizes there are. Takes no memory.
+    pub fn sizes(&self) -> usize
+        ensures { result ≡ self.now.sizes }
+    {
+        self.sizes
+    }
+
+    /// The sum over the first so many j of the number of a node at j times that of another grid's
+    /// node at n - j. Takes no memory.
+    pub fn sum_before(
+        &self,
+        e: ExprId,
+        other: &Grid,
+        d: ExprId,
+        n: usize,
+        terms: usize,
+    ) -> Option<u128>
+        requires node { e.0 < self.now.nodes }
+        requires size { n < self.now.sizes }
+        requires other_node { d.0 < other.now.nodes }
+        requires other_size { n < other.now.sizes }
+        requires within { terms ≤ n + 1 }
+        ensures { (f g : ℕ → ℕ) → TellRow self.now e.0 n f → TellRow other.now d.0 n g
+            → Tells result (sum_below terms (λ j. f j * g (n - j))) }
+    {
+        let mut sum = Some(0);
+        for j in 0..terms {
+            sum = plus(sum, times(self.at(e, j), other.at(d, n - j)));
+        }
+        sum
+    }
+
     /// The sum over j from 0 to n of the number of a node at j times that of another grid's node at
     /// n - j. Takes no memory.
     pub fn sum_of_products(&self, e: ExprId, other: &Grid, d: ExprId, n: usize) -> Option<u128>
@@ -91,11 +123,7 @@ impl Grid {
         ensures { (f g : ℕ → ℕ) → TellRow self.now e.0 n f → TellRow other.now d.0 n g
             → Tells result (sum_below (suc n) (λ j. f j * g (n - j))) }
     {
-        let mut sum = Some(0);
-        for j in 0..n + 1 {
-            sum = plus(sum, times(self.at(e, j), other.at(d, n - j)));
-        }
-        sum
+        self.sum_before(e, other, d, n, n + 1)
     }
 
     /// The sum of the numbers of some nodes at a size. Takes no memory.

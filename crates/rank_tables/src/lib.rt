@@ -8,9 +8,11 @@
 //! (Nijenhuis and Wilf 1978; Flajolet, Zimmermann and Van Cutsem 1994). As equations it has more
 //! than one solution: at size 0 the class `B = Z + B*B` has the equation b = b * b. So a table is
 //! filled by passes from zero, and its clause speaks of objects. `RankTables::make` refuses labels,
-//! ranges and numbers above `2^128 - 1`, each exactly where it is so; `unrank` makes the object of
-//! a number task by task. Most other public functions do nothing, and their contracts are laws. No
-//! clause says how many passes are made, or that memory suffices.
+//! ranges and numbers above `2^128 - 1`, each exactly where it is so. `unrank` makes the object of a
+//! number task by task, and `rank` takes the steps of an object from the last to the first; no body
+//! calls itself. By their clauses they are inverse to each other, and number the objects of each
+//! size from 0 without a gap (`shapes`). Most other public functions do nothing, and their contracts
+//! are laws. No clause says how many passes are made, or that memory suffices.
 #![tactic(auto)]
 
 pub mod capped;
@@ -20,6 +22,8 @@ pub mod founded;
 pub mod grid;
 pub mod orders;
 pub mod places;
+pub mod places_stack;
+pub mod rank_steps;
 pub mod rank_tables;
 pub mod ranks;
 pub mod shapes;

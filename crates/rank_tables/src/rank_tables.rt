@@ -11,6 +11,7 @@ ghost use Rattle.rank_tables.specs.Tables.{AreCounts, TellsFault, IsNumberOf, to
 
 use crate::filling::{first_passing, settle};
 use crate::grid::Grid;
+use crate::rank_steps::{first_placed, steps_of};
 use crate::tasks::Task;
 use crate::unranking::made;
 use class_system::draft::Mode;
@@ -101,6 +102,25 @@ impl RankTables {
             unreachable!()
         };
         number
+    }
+
+    /// How many objects of class 0 and of the shape's size come before the shape.
+    pub fn rank(&self, founded: &Founded, shape: &Shape) -> Result<u128, AllocError>
+        requires tables { (most : ℕ) × AreCounts founded.now most self.now × (size_of
+            shape.now.items ≤ most) }
+        requires object { IsOf founded.now 0 shape.now.items }
+        ensures rank { IfOk result (IsRankOf founded.now 0 shape.now.items) }
+    {
+        founded.known();
+        let system = founded.system();
+        system.known();
+        let alloc = self.counts.allocator();
+        let steps = steps_of(alloc, system, shape)?;
+        let first = first_placed(alloc, system, &self.counts, &self.tails, &steps)?;
+        match first.place {
+            Some(rank) => Ok(rank),
+            None => Err(AllocError),
+        }
     }
 
     /// The object of class 0 and this size before which so many come.
