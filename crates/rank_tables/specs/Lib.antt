@@ -1,0 +1,14 @@
+pub mod Counting
+pub mod RankOrder
+pub mod TableRule
+pub mod Capped
+pub mod Places
+pub mod Refusals
+pub mod Tables
+pub mod Visits
+pub mod Shapes
+pub mod Grids
+pub mod Filling
+pub mod Unranking
+pub mod RankSteps
+pub mod Examples
