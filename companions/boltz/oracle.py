@@ -70,6 +70,15 @@ def nearest(x: Fraction) -> Fraction:
     return x.limit_denominator(MOST) if x < 1 else 1 / (1 / x).limit_denominator(MOST)
 
 
+def beside(x: Fraction, step: int, sign: int) -> Fraction:
+    """A fraction within the limits about x (1 + sign 2^-step), farther off where x itself is the nearest one."""
+    for wider in range(step, 0, -1):
+        found = nearest(x * (1 + Fraction(sign, 2 ** wider)))
+        if found != x:
+            return found
+    raise ValueError("no fraction beside %s" % x_text(x))
+
+
 class Oracle:
     """The values of one specification at any x, each asked for once."""
 
@@ -144,10 +153,10 @@ class Means:
 
     def by_secants(self, values: Values, step: int) -> Interval:
         """The slopes of two secants."""
-        below = self.oracle.at(nearest(values.x * (1 - Fraction(1, 2 ** step))))
-        above = self.oracle.at(nearest(values.x * (1 + Fraction(1, 2 ** step))))
-        lo = ANY.lo if below is None or below.x >= values.x else slope(below, values, down=True)
-        hi = ANY.hi if above is None or above.x <= values.x else slope(values, above, down=False)
+        below = self.oracle.at(beside(values.x, step, -1))
+        above = self.oracle.at(beside(values.x, step, 1))
+        lo = ANY.lo if below is None else slope(below, values, down=True)
+        hi = ANY.hi if above is None else slope(values, above, down=False)
         return Interval(max(lo, ANY.lo), hi)
 
 

@@ -26,7 +26,8 @@ class NoX(RuntimeError):
 class Tuned:
     """An x with its mean size, and what is known of a run there.
 
-    `accepted` is the share of attempts whose size is in the window, None where it wasn't computed.
+    `accepted` is the share of attempts whose size is in the window, None where it wasn't computed. `effort`
+    is the share of an attempt's visits that are made, since attempts above the window are given up.
     """
 
     x: Fraction
@@ -34,6 +35,7 @@ class Tuned:
     wanted: float
     window: tuple[int, int]
     accepted: float | None
+    effort: float
     values: Values
     costs: Costs
     pointed: bool
@@ -110,11 +112,18 @@ class Tuner:
         """An x with this mean size, and the window of all sizes."""
         _, high = self.limit()
         x = self.search(lambda _: wanted, high, tolerance)
-        tuned = self.tuned(x, wanted, (0, 1_000_000), 1.0)
+        tuned = self.tuned(x, wanted, (0, 1_000_000), 1.0, 1.0)
         if abs(tuned.mean.middle - wanted) > 4 * tolerance * wanted and not self.only_dyadic:
-            raise NoX("no x has mean size %g: the nearest found is %.4g at %s" % (
-                wanted, tuned.mean.middle, x_text(x)))
+            raise NoX("no x has mean size %g: the nearest found is %.4g at %s%s" % (
+                wanted, tuned.mean.middle, x_text(x), self.near_ceiling(tuned.values)))
         return tuned
+
+    def near_ceiling(self, values: Values) -> str:
+        """A hint where class values are near the greatest number that the program has for them."""
+        ceiling = 2.0 ** (64 - self.oracle.fraction)
+        if max(float(value.hi) for value in values.classes) < ceiling / 2:
+            return ""
+        return "; class values there are near the ceiling of %d: fewer fraction bits have a higher one" % ceiling
 
     def window(self, low: int, high: int, tolerance: float = 0.005) -> Tuned:
         """An x at which as many attempts as may be have a size in the window.
@@ -125,19 +134,24 @@ class Tuner:
         near, limit = self.limit()
         if high > MOST_LAW:
             middle = (low + high) / 2
-            return self.tuned(self.search(lambda _: middle, limit, tolerance), middle, (low, high), None)
+            return self.tuned(self.search(lambda _: middle, limit, tolerance), middle, (low, high), None, 1.0)
         law = Law(self.spec, near, high)
         if law.window(near, low, high)[0] == 0:
             raise NoX("no object has a size from %d to %d" % (low, high))
         x = self.search(lambda at: law.window(at, low, high)[1], limit, tolerance)
         inside, wanted = law.window(x, low, high)
-        return self.tuned(x, wanted, (low, high), min(1.0, inside / self.oracle.at(x).root.middle))
+        below, below_mean = law.window(x, 0, high)
+        total = self.oracle.at(x).root.middle
+        atoms = (below * below_mean + (total - below) * (high + 1)) / total
+        effort = min(1.0, atoms / self.means.at(x, QUICK).middle)
+        return self.tuned(x, wanted, (low, high), min(1.0, inside / total), effort)
 
-    def tuned(self, x: Fraction, wanted: float, window: tuple[int, int], accepted: float | None) -> Tuned:
+    def tuned(self, x: Fraction, wanted: float, window: tuple[int, int], accepted: float | None,
+              effort: float) -> Tuned:
         """All that is known at x."""
         values = self.oracle.at(x)
         mean = self.means.at(x, FULL)
         pointed = self.means.pointed is not None and self.means.pointed.at(x) is not None
         calls = self.oracle.calls + (self.means.pointed.calls if self.means.pointed else 0)
-        return Tuned(x, mean, wanted, window, accepted, values, costs(self.spec, values, self.oracle.fraction),
-                     pointed, calls)
+        return Tuned(x, mean, wanted, window, accepted, effort, values,
+                     costs(self.spec, values, self.oracle.fraction), pointed, calls)

@@ -10,7 +10,7 @@ from tests.support import TOOLS, program
 
 from boltz.certificate import Certificate
 from boltz.costs import costs, solve
-from boltz.oracle import Interval, Means, Oracle, Values, dyadic, nearest
+from boltz.oracle import Interval, Means, Oracle, Values, beside, dyadic, nearest
 from boltz.program import Ran, folder_with
 from boltz.spec import read_spec
 from boltz.summary import Numbers
@@ -53,6 +53,13 @@ class TuningTest(unittest.TestCase):
         self.assertEqual(dyadic(Fraction(1, 3)), Fraction(174762, 2 ** 19))
         self.assertEqual(dyadic(Fraction(70_000, 3)), Fraction(23333 * 32 + 10, 32))
         self.assertLessEqual(nearest(Fraction(10 ** 9 + 1, 10 ** 7)).numerator, 1_000_000)
+
+    def test_a_fraction_beside_another(self):
+        for x in (Fraction(7, 8), Fraction(1), Fraction(64), Fraction(174763, 2 ** 19)):
+            below, above = beside(x, 30, -1), beside(x, 30, 1)
+            self.assertTrue(below < x < above)
+            self.assertLess(above - below, x / 10_000)
+            self.assertLessEqual(max(above.numerator, above.denominator, below.denominator), 1_000_000)
 
     def test_secants_enclose_the_mean(self):
         means = Means(ExactTrees())

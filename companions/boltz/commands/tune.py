@@ -58,13 +58,18 @@ def attempts(found: Tuned) -> float:
 
 def objects_per_undecided(found: Tuned) -> float:
     """About how many kept objects come before one ending `undecided`."""
-    risk = found.costs.undecided * (attempts(found) if found.accepted else 1.0)
+    risk = found.costs.undecided * found.effort * (attempts(found) if found.accepted else 1.0)
     return 1 / risk if risk else float("inf")
+
+
+def turns_of_attempt(found: Tuned) -> float:
+    """The expected turns of an attempt, those above the window given up."""
+    return found.costs.turns * found.effort
 
 
 def turns(found: Tuned, count: int) -> int:
     """A limit of turns that the run should stay below: twice the expected ones."""
-    each = found.costs.turns * (attempts(found) if found.accepted else 100.0)
+    each = turns_of_attempt(found) * (attempts(found) if found.accepted else 100.0)
     return max(1000, ceil(2 * count * each))
 
 
@@ -81,7 +86,7 @@ def as_dict(found: Tuned, args: argparse.Namespace) -> dict:
     """For JSON."""
     return {
         "x": x_text(found.x), "mean": [float(found.mean.lo), float(found.mean.hi)], "pointed": found.pointed,
-        "attempts": attempts(found) if found.accepted else None, "turns_per_attempt": found.costs.turns,
+        "attempts": attempts(found) if found.accepted else None, "turns_per_attempt": turns_of_attempt(found),
         "objects_per_undecided": objects_per_undecided(found), "oracle_calls": found.calls,
         "words": words(found, args),
     }
@@ -101,11 +106,11 @@ def lines(spec: Spec, found: Tuned, args: argparse.Namespace) -> list[str]:
     if found.accepted is None:
         result.append("attempts per kept object: not computed for sizes above 4000; make a short run first")
     else:
-        result.append("attempts per kept object: %.4g, of about %.4g turns each where none is given up" % (
-            attempts(found), found.costs.turns))
+        result.append("attempts per kept object: %.4g, of about %.4g turns each" % (
+            attempts(found), turns_of_attempt(found)))
     result.append("greatest class value: %s with %.6g, %.3g%% of the ceiling" % (
         spec.names[greatest], found.values.classes[greatest].middle, 100 * share))
-    result.append("undecided: about one ending in %.2g objects or more" % objects_per_undecided(found))
+    result.append("undecided: about one ending in %.2g objects" % objects_per_undecided(found))
     if turns(found, args.count) > MOST_TURNS:
         result.append("%d objects need more turns than one run may have: make shards" % args.count)
     result.append("boltz " + " ".join(words(found, args)))
