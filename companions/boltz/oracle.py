@@ -1,7 +1,7 @@
 """Asks the program for bounds of class values, and encloses the mean size by them.
 
-Class values at x are the program's proved bounds of level 6. What is computed from them here, by exact
-fractions and by logarithms of 50 digits with a margin, isn't proved.
+Class values at x are the program's proved bounds of level 6. What is computed from them here, by
+exact fractions and by logarithms of 50 digits with a margin, isn't proved.
 """
 from __future__ import annotations
 
@@ -14,7 +14,7 @@ from typing import Iterable
 from boltz.program import Program, ProgramError, folder_with
 from boltz.spec import Spec, read_spec
 
-MOST = 1_000_000            # the greatest numerator and denominator of x
+MOST = 1_000_000  # the greatest numerator and denominator of x
 DIGITS = 50
 MARGIN = Decimal(10) ** (5 - DIGITS)
 
@@ -60,9 +60,9 @@ def x_text(x: Fraction) -> str:
 def dyadic(x: Fraction) -> Fraction:
     """x rounded down to the finest power of two as denominator that the limits of x allow."""
     bits = 19
-    while bits and x * 2 ** bits >= MOST:
+    while bits and x * 2**bits >= MOST:
         bits -= 1
-    return Fraction(int(x * 2 ** bits), 2 ** bits)
+    return Fraction(int(x * 2**bits), 2**bits)
 
 
 def nearest(x: Fraction) -> Fraction:
@@ -71,9 +71,11 @@ def nearest(x: Fraction) -> Fraction:
 
 
 def beside(x: Fraction, step: int, sign: int) -> Fraction:
-    """A fraction within the limits about x (1 + sign 2^-step), farther off where x itself is the nearest one."""
+    """A fraction within the limits about x (1 + sign 2^-step), farther off where x itself is the
+    nearest one.
+    """
     for wider in range(step, 0, -1):
-        found = nearest(x * (1 + Fraction(sign, 2 ** wider)))
+        found = nearest(x * (1 + Fraction(sign, 2**wider)))
         if found != x:
             return found
     raise ValueError("no fraction beside %s" % x_text(x))
@@ -93,19 +95,29 @@ class Oracle:
             self.known[x] = self._ask(x)
         return self.known[x]
 
+    def values(self, x: Fraction) -> Values:
+        """The same, where there are upper values."""
+        found = self.at(x)
+        if found is None:
+            raise ProgramError("no upper values at %s" % x_text(x))
+        return found
+
     def _ask(self, x: Fraction) -> Values | None:
         """One call of `boltz oracle`."""
         self.calls += 1
         with folder_with(spec=self.spec.canonical()) as folder:
-            ran = self.program.run("oracle", os.path.join(folder, "spec"), x_text(x),
-                                   "--fraction", str(self.fraction)).needed(0, 4)
+            ran = self.program.run(
+                "oracle", os.path.join(folder, "spec"), x_text(x), "--fraction", str(self.fraction)
+            ).needed(0, 4)
         if ran.status == 4:
             return None
         rows = [line.split() for line in ran.lines if line.startswith("level 6 ")]
         unit = Decimal(2) ** -self.fraction
         with localcontext() as context:
             context.prec = DIGITS
-            return Values(x, tuple(Interval(int(lo) * unit, int(hi) * unit) for _, _, _, lo, hi in rows))
+            return Values(
+                x, tuple(Interval(int(lo) * unit, int(hi) * unit) for _, _, _, lo, hi in rows)
+            )
 
 
 def pointed(program: Program, spec: Spec) -> Spec | None:
@@ -121,9 +133,9 @@ def pointed(program: Program, spec: Spec) -> Spec | None:
 class Means:
     """Encloses the mean size at x.
 
-    Where there is a pointed specification with a base, by its value over the class's: an object of size n
-    has n marked forms. Always by secants: ln C(x) is convex in ln x, and its slope there is the mean, so
-    the slope to a lesser x is at most the mean and that to a greater x at least.
+    Where there is a pointed specification with a base, by its value over the class's: an object of
+    size n has n marked forms. Always by secants: ln C(x) is convex in ln x, and its slope there is
+    the mean, so the slope to a lesser x is at most the mean and that to a greater x at least.
     """
 
     def __init__(self, oracle: Oracle):
@@ -132,21 +144,21 @@ class Means:
         self.pointed = Oracle(oracle.program, form, oracle.fraction) if form else None
 
     def at(self, x: Fraction, steps: Iterable[int]) -> Interval:
-        """The mean at x, by secants to x (1 - 2^-s) and x (1 + 2^-s) for each step s, and by pointing."""
-        values = self.oracle.at(x)
-        if values is None:
-            raise ProgramError("no upper values at %s" % x_text(x))
-        mean = self.by_pointing(x)
+        """The mean at x, by secants to x (1 - 2^-s) and x (1 + 2^-s) for each step s, and by
+        pointing.
+        """
+        values = self.oracle.values(x)
+        mean = self.by_pointing(values)
         for step in steps:
             mean = mean.meet(self.by_secants(values, step))
         return mean
 
-    def by_pointing(self, x: Fraction) -> Interval:
+    def by_pointing(self, values: Values) -> Interval:
         """The quotient; any number where there is none."""
-        marked = self.pointed.at(x) if self.pointed else None
+        marked = self.pointed.at(values.x) if self.pointed else None
         if marked is None:
             return ANY
-        root = self.oracle.at(x).root
+        root = values.root
         with localcontext() as context:
             context.prec = DIGITS
             return widened(marked.root.lo / root.hi, marked.root.hi / root.lo)

@@ -30,8 +30,10 @@ def main() -> int:
                 read(entry.text)
                 objects, atoms = objects + 1, atoms + entry.size
         seconds = time.process_time() - begun
-        print("%s: %d objects, %d atoms in %.2f s: %.0f objects a second, %.0f atoms a second" % (
-            name, objects, atoms, seconds, objects / seconds, atoms / seconds))
+        print(
+            "%s: %d objects, %d atoms in %.2f s: %.0f objects a second, %.0f atoms a second"
+            % (name, objects, atoms, seconds, objects / seconds, atoms / seconds)
+        )
     return 0
 
 

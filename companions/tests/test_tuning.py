@@ -39,7 +39,9 @@ class ExactTrees(Oracle):
             context.prec = 50
             value = Decimal(x.numerator) / Decimal(x.denominator)
             root = (1 - (1 - 4 * value).sqrt()) / (2 * value)
-            return Values(x, (Interval(root * (1 - Decimal("1e-12")), root * (1 + Decimal("1e-12"))),))
+            return Values(
+                x, (Interval(root * (1 - Decimal("1e-12")), root * (1 + Decimal("1e-12"))),)
+            )
 
 
 def true_mean(x: Fraction) -> float:
@@ -50,16 +52,18 @@ def true_mean(x: Fraction) -> float:
 
 class TuningTest(unittest.TestCase):
     def test_x_within_limits(self):
-        self.assertEqual(dyadic(Fraction(1, 3)), Fraction(174762, 2 ** 19))
+        self.assertEqual(dyadic(Fraction(1, 3)), Fraction(174762, 2**19))
         self.assertEqual(dyadic(Fraction(70_000, 3)), Fraction(23333 * 32 + 10, 32))
-        self.assertLessEqual(nearest(Fraction(10 ** 9 + 1, 10 ** 7)).numerator, 1_000_000)
+        self.assertLessEqual(nearest(Fraction(10**9 + 1, 10**7)).numerator, 1_000_000)
 
     def test_a_fraction_beside_another(self):
-        for x in (Fraction(7, 8), Fraction(1), Fraction(64), Fraction(174763, 2 ** 19)):
+        for x in (Fraction(7, 8), Fraction(1), Fraction(64), Fraction(174763, 2**19)):
             below, above = beside(x, 30, -1), beside(x, 30, 1)
             self.assertTrue(below < x < above)
             self.assertLess(above - below, x / 10_000)
-            self.assertLessEqual(max(above.numerator, above.denominator, below.denominator), 1_000_000)
+            self.assertLessEqual(
+                max(above.numerator, above.denominator, below.denominator), 1_000_000
+            )
 
     def test_secants_enclose_the_mean(self):
         means = Means(ExactTrees())
@@ -83,7 +87,7 @@ class TuningTest(unittest.TestCase):
 
     def test_only_dyadic(self):
         found = self.tuner(only_dyadic=True).mean(50)
-        self.assertEqual(2 ** 19 % found.x.denominator, 0)
+        self.assertEqual(2**19 % found.x.denominator, 0)
         self.assertAlmostEqual(true_mean(found.x), 50, delta=2)
 
     def test_a_window_gets_as_many_attempts_as_may_be(self):
@@ -113,8 +117,23 @@ class TuningTest(unittest.TestCase):
     def test_the_program_draws_what_is_tuned(self):
         for text in (BINARY, "labelled\nS = Seq(B)\nB = Set>=1(Z)\n"):
             with folder_with(s=text) as folder:
-                ran = subprocess.run([sys.executable, TOOLS, "--program", program().path, "tune", "s", "--mean", "8",
-                                      "--count", "400", "--json"], cwd=folder, stdout=subprocess.PIPE)
+                ran = subprocess.run(
+                    [
+                        sys.executable,
+                        TOOLS,
+                        "--program",
+                        program().path,
+                        "tune",
+                        "s",
+                        "--mean",
+                        "8",
+                        "--count",
+                        "400",
+                        "--json",
+                    ],
+                    cwd=folder,
+                    stdout=subprocess.PIPE,
+                )
                 found = json.loads(ran.stdout)
                 drawn = program().run(*found["words"], folder=folder).needed()
             sizes = Numbers()
@@ -122,7 +141,10 @@ class TuningTest(unittest.TestCase):
                 sizes.add(entry.size)
             lo, hi = found["mean"]
             self.assertLess(hi - lo, 0.1)
-            self.assertTrue(lo - 4 * sizes.error <= sizes.mean <= hi + 4 * sizes.error, (found, sizes.mean, sizes.error))
+            self.assertTrue(
+                lo - 4 * sizes.error <= sizes.mean <= hi + 4 * sizes.error,
+                (found, sizes.mean, sizes.error),
+            )
 
 
 if __name__ == "__main__":
