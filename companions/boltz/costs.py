@@ -165,6 +165,8 @@ def undecided_share(node: Node, lo: Sequence[Decimal], hi: Sequence[Decimal], un
     and two of the narrowest cells. Stretches of options that are narrower than they are taken once.
     """
     least, most = float(lo[node.number]), float(hi[node.number])
+    if least == 0:
+        return 1.0
     low = high = share = 0.0
     pairs = list(zip(option_weights(node, lo), option_weights(node, hi)))
     for under, over in pairs[:-1] if node.kind == "union" else pairs:
@@ -179,7 +181,7 @@ def costs(spec: Spec, values: Values, fraction: int) -> Costs:
     x = Decimal(values.x.numerator) / Decimal(values.x.denominator)
     lo = node_values(spec, x, [value.lo for value in values.classes])
     hi = node_values(spec, x, [value.hi for value in values.classes])
-    visits = expected_visits(spec, [float(value) for value in lo])
+    visits = expected_visits(spec, [float(value) for value in hi])
     unit = 2.0**-fraction
     choices = [node for node in spec.nodes if node.kind == "union" or node.is_counted]
     undecided = sum(visits[node.number] * undecided_share(node, lo, hi, unit) for node in choices)

@@ -51,6 +51,11 @@ class Values:
         """The bounds of class 0."""
         return self.classes[0]
 
+    @property
+    def is_coarse(self) -> bool:
+        """Whether x is so small that the root's value is below one unit, and bounds no quotient."""
+        return self.root.lo == 0
+
 
 def x_text(x: Fraction) -> str:
     """x as the program reads it."""
@@ -167,8 +172,8 @@ class Means:
         """The slopes of two secants."""
         below = self.oracle.at(beside(values.x, step, -1))
         above = self.oracle.at(beside(values.x, step, 1))
-        lo = ANY.lo if below is None else slope(below, values, down=True)
-        hi = ANY.hi if above is None else slope(values, above, down=False)
+        lo = slope(below, values, down=True) if below and not below.is_coarse else ANY.lo
+        hi = slope(values, above, down=False) if above else ANY.hi
         return Interval(max(lo, ANY.lo), hi)
 
 

@@ -103,8 +103,9 @@ class Tuner:
                 middle = nearest((low + high) / 2)
             if not low < middle < high:
                 break
-            if self.oracle.at(middle) is None:
-                high = middle
+            values = self.oracle.at(middle)
+            if values is None or values.is_coarse:
+                low, high = (low, middle) if values is None else (middle, high)
                 continue
             mean, wanted = self.means.at(middle, QUICK).middle, goal(middle)
             if best is None or abs(mean - wanted) < abs(found - goal(best)):

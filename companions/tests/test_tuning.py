@@ -1,5 +1,6 @@
 """Tuning."""
 import json
+import os
 import subprocess
 import sys
 import unittest
@@ -12,7 +13,7 @@ from boltz.certificate import Certificate
 from boltz.costs import costs, solve
 from boltz.oracle import Interval, Means, Oracle, Values, beside, dyadic, nearest
 from boltz.program import Ran, folder_with
-from boltz.spec import read_spec
+from boltz.spec import read_spec, read_spec_file
 from boltz.summary import Numbers
 from boltz.tuning import Law, NoX, Tuner
 
@@ -103,6 +104,11 @@ class TuningTest(unittest.TestCase):
     def test_a_size_that_no_object_has(self):
         with self.assertRaisesRegex(NoX, "no object has a size from 3 to 2"):
             self.tuner().window(3, 2)
+
+    def test_an_x_at_which_values_are_below_one_unit(self):
+        with folder_with(s="unlabelled\nA = Z*Z*Z*Z*Z*Seq(Z)\n") as folder:
+            tuner = Tuner(program(), read_spec_file(os.path.join(folder, "s")))
+        self.assertAlmostEqual(tuner.mean(5.01).mean.middle, 5.01, delta=0.03)
 
     def test_visits_of_binary_trees(self):
         x = Fraction(2499, 10_000)

@@ -7,7 +7,7 @@ from __future__ import annotations
 
 import argparse
 import json
-from math import ceil
+from math import ceil, inf
 
 from boltz.commands.reading import Problem
 from boltz.oracle import x_text
@@ -73,7 +73,7 @@ def attempts(found: Tuned) -> float:
 def objects_per_undecided(found: Tuned) -> float:
     """About how many kept objects come before one ending `undecided`."""
     risk = found.costs.undecided * found.effort * (attempts(found) if found.accepted else 1.0)
-    return 1 / risk if risk else float("inf")
+    return 1 / risk if risk else inf
 
 
 def turns_of_attempt(found: Tuned) -> float:
@@ -147,7 +147,13 @@ def lines(spec: Spec, found: Tuned, args: argparse.Namespace) -> list[str]:
         "greatest class value: %s with %.6g, %.3g%% of the ceiling"
         % (spec.names[greatest], found.values.classes[greatest].middle, 100 * share)
     )
-    result.append("undecided: about one ending in %.2g objects" % objects_per_undecided(found))
+    each = objects_per_undecided(found)
+    rate = (
+        "none, since nothing is chosen"
+        if each == inf
+        else "about one ending in %.2g objects" % each
+    )
+    result.append("undecided: " + rate)
     if turns(found, args.count) > MOST_TURNS:
         result.append("%d objects need more turns than one run may have: make shards" % args.count)
     result.append("boltz " + " ".join(words(found, args)))
