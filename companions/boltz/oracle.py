@@ -158,6 +158,15 @@ class Means:
             mean = mean.meet(self.by_secants(values, step))
         return mean
 
+    def near(self, x: Fraction, steps: Iterable[int], share: float) -> float:
+        """The mean at x, enclosed by steps one after another until the ends differ by this share."""
+        mean = self.by_pointing(self.oracle.values(x))
+        for step in steps:
+            if mean.hi - mean.lo <= share * mean.middle:
+                break
+            mean = mean.meet(self.by_secants(self.oracle.values(x), step))
+        return mean.middle
+
     def by_pointing(self, values: Values) -> Interval:
         """The quotient; any number where there is none."""
         marked = self.pointed.at(values.x) if self.pointed else None

@@ -12,7 +12,7 @@ from boltz.program import Program
 from boltz.series import size_weights
 from boltz.tables import Spec
 
-QUICK = (24,)  # steps of secants while searching
+QUICK = (24, 20, 16, 12, 8)  # steps of secants while searching
 FULL = (8, 12, 16, 20, 22, 24, 26, 28, 30)  # and for the answer
 MOST_LAW = 4000  # the greatest size up to which the law is computed
 LEAST = Fraction(1, 2**19)
@@ -107,7 +107,7 @@ class Tuner:
             if values is None or values.is_coarse:
                 low, high = (low, middle) if values is None else (middle, high)
                 continue
-            mean, wanted = self.means.at(middle, QUICK).middle, goal(middle)
+            mean, wanted = self.means.near(middle, QUICK, tolerance), goal(middle)
             if best is None or abs(mean - wanted) < abs(found - goal(best)):
                 best, found = middle, mean
             if abs(mean - wanted) <= tolerance * wanted:
@@ -159,7 +159,7 @@ class Tuner:
         below, below_mean = law.window(x, 0, high)
         total = self.oracle.values(x).root.middle
         atoms = (below * below_mean + (total - below) * (high + 1)) / total
-        effort = min(1.0, atoms / self.means.at(x, QUICK).middle)
+        effort = min(1.0, atoms / self.means.near(x, QUICK, tolerance))
         return self.tuned(x, wanted, (low, high), min(1.0, inside / total), effort)
 
     def tuned(
