@@ -25,8 +25,9 @@ class CertificateError(ValueError):
 
 @dataclass(frozen=True)
 class Header:
-    """What stands before the entries. `base` has the upper bound of each class in units of
-    2^-fraction.
+    """What stands before the entries.
+
+    `base` has the upper bound of each class in units of 2^-fraction.
     """
 
     first: str
@@ -41,9 +42,7 @@ class Header:
 
 @dataclass(frozen=True)
 class Entry:
-    """One kept object: its number, the tape's bits before it, its size, its text and its cells'
-    text.
-    """
+    """One kept object: number, the tape's bits before it, size, text, and its cells as text."""
 
     number: int
     place: int

@@ -83,7 +83,7 @@ def part_weights(node: Node, part: float) -> list[tuple[int, float]]:
     power = 0.0
     for count in range(node.low, high + 1):
         if part > 0:
-            power = count * log(part) - (log_factorial(count) if node.kind == "Set" else 0.0)
+            power = count * log(part) - (lgamma(count + 1) if node.kind == "Set" else 0.0)
         weight = (1.0 if count == 0 else 0.0) if part <= 0 else exp(power)
         weight = weight / count if node.kind == "Cyc" else weight
         weights.append((count, weight))
@@ -91,11 +91,6 @@ def part_weights(node: Node, part: float) -> list[tuple[int, float]]:
         if weight < total * 2.0**-MOST_BITS and count > part:
             break
     return weights
-
-
-def log_factorial(count: int) -> float:
-    """ln n!"""
-    return lgamma(count + 1)
 
 
 def expected_visits(spec: Spec, values: Sequence[float]) -> dict[int, float]:
@@ -128,9 +123,8 @@ def references(
             stack.extend((part, rate) for part in node.parts)
         elif node.is_counted:
             weights = part_weights(node, values[node.parts[0]])
-            mean = sum(count * weight for count, weight in weights) / sum(
-                weight for _, weight in weights
-            )
+            total = sum(weight for _, weight in weights)
+            mean = sum(count * weight for count, weight in weights) / total
             stack.append((node.parts[0], rate * mean))
     return named, inside
 

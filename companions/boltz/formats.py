@@ -12,8 +12,10 @@ HEADS = {"product": "*", "Seq": "seq", "Set": "set", "Cyc": "cyc"}
 
 
 def to_json(tree: Tree) -> str:
-    """One JSON value: `{"class": [..], ..}` with `option` and `part` of a union, `parts` of a
-    product, `seq`, `set`, `cycle` of a collection, `empty` or `atom` (and `label`) of a leaf.
+    """One JSON value.
+
+    It has `class`, then `option` and `part` of a union, `parts` of a product, `seq`, `set` or
+    `cycle` of a collection, `empty` or `atom` (and `label`) of a leaf.
     """
     return render(tree, _json_pieces)
 
@@ -65,8 +67,9 @@ def _sexp_pieces(tree: Tree) -> Iterator[Tree | str]:
 
 
 def to_word(tree: Tree, table: Mapping[str, str], separator: str = "") -> str:
-    """The leaves' symbols from left to right. A leaf that the table doesn't name gives its word
-    where it is an atom, and nothing where it is neutral.
+    """The leaves' symbols from left to right.
+
+    A leaf that the table doesn't name gives its word where it is an atom, and else nothing.
     """
     symbols = (
         table.get(leaf.word, leaf.word if leaf.kind == "Z" else "") for leaf in tree.leaves()
@@ -102,9 +105,7 @@ def vertex_names(graph: Graph) -> list[str]:
 
 
 def to_edges(tree: Tree) -> str:
-    """The edges of the graph on the atoms, as `u v` with blanks and `;` between; a lone vertex as
-    `u`.
-    """
+    """The edges of the graph on the atoms, as `u v; v w`; a lone vertex as `u`."""
     graph = atom_graph(tree)
     names = vertex_names(graph)
     edges = list(graph.edges())
@@ -127,9 +128,7 @@ def to_networkx(tree: Tree):
 
 
 def to_graph6(tree: Tree) -> str:
-    """The graph on the atoms in graph6, by networkx; loops, of which the format has none, are left
-    out.
-    """
+    """The graph on the atoms in graph6, by networkx; the format has no loops, so they go."""
     import networkx
 
     graph = to_networkx(tree)
@@ -138,8 +137,10 @@ def to_graph6(tree: Tree) -> str:
 
 
 def to_dot(tree: Tree, form: str = "parts") -> str:
-    """A graph in Graphviz's language: the tree of the `parts`, the graph on the `atoms`, or the
-    `whole` tree with its unions and classes.
+    """A graph in Graphviz's language.
+
+    The form is the tree of the `parts`, the graph on the `atoms`, or the `whole` tree with its
+    unions and classes.
     """
     if form == "whole":
         return dot_text(_whole(tree), named=True)

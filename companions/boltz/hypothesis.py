@@ -73,19 +73,9 @@ class Source:
         self.text = spec.canonical().encode()
         with open(os.path.join(self.folder.name, "spec"), "wb") as file:
             file.write(self.text)
-        self.words = (
-            "sample",
-            "spec",
-            x,
-            "--tape",
-            "tape",
-            "--min",
-            str(window[0]),
-            "--max",
-            str(window[1]),
-            "--turns",
-            str(turns),
-        )
+        low, high = map(str, window)
+        options = ("--min", low, "--max", high, "--turns", str(turns))
+        self.words = ("sample", "spec", x, "--tape", "tape", *options)
         self.known: OrderedDict[bytes, Drawing | None] = OrderedDict()
         self.rest = self.best_rest()
 
@@ -174,8 +164,9 @@ def drawings(
     turns: int = 100_000,
     program: str | None = None,
 ) -> strategies.SearchStrategy:
-    """Runs of `boltz sample` over a specification (its text, a file's name, or read), each with its
-    object.
+    """Runs of `boltz sample`, each with its object.
+
+    The specification is a text, the name of a file, or one that was read.
     """
     return _drawings(source_of(spec, x, min_size, max_size, turns, program))
 

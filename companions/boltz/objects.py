@@ -98,9 +98,7 @@ T = TypeVar("T")
 
 
 def render(root: T, pieces: Callable[[T], Iterable[T | str]]) -> str:
-    """The text of `root`, where `pieces` gives for each item the texts and items that it is made
-    of.
-    """
+    """The text of `root`, where `pieces` gives what each item is made of."""
     written: list[str] = []
     stack: list[T | str] = [root]
     while stack:

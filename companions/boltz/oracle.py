@@ -76,9 +76,7 @@ def nearest(x: Fraction) -> Fraction:
 
 
 def beside(x: Fraction, step: int, sign: int) -> Fraction:
-    """A fraction within the limits about x (1 + sign 2^-step), farther off where x itself is the
-    nearest one.
-    """
+    """A fraction near x (1 + sign 2^-step), farther off where the nearest one is x itself."""
     for wider in range(step, 0, -1):
         found = nearest(x * (1 + Fraction(sign, 2**wider)))
         if found != x:
@@ -149,9 +147,7 @@ class Means:
         self.pointed = Oracle(oracle.program, form, oracle.fraction) if form else None
 
     def at(self, x: Fraction, steps: Iterable[int]) -> Interval:
-        """The mean at x, by secants to x (1 - 2^-s) and x (1 + 2^-s) for each step s, and by
-        pointing.
-        """
+        """The mean at x, by pointing and by secants to x (1 - 2^-s) and x (1 + 2^-s)."""
         values = self.oracle.values(x)
         mean = self.by_pointing(values)
         for step in steps:
@@ -159,7 +155,7 @@ class Means:
         return mean
 
     def near(self, x: Fraction, steps: Iterable[int], share: float) -> float:
-        """The mean at x, enclosed by steps one after another until the ends differ by this share."""
+        """The mean at x, by one step after another until the ends differ by this share."""
         mean = self.by_pointing(self.oracle.values(x))
         for step in steps:
             if mean.hi - mean.lo <= share * mean.middle:

@@ -74,9 +74,7 @@ class Ran:
 
 
 class Program:
-    """The program `boltz` at a path: the one given, else that of the variable BOLTZ, else on the
-    path.
-    """
+    """The program at a path: the one given, else that of $BOLTZ, else `boltz` on the path."""
 
     def __init__(self, path: str | None = None):
         wanted = path or os.environ.get("BOLTZ") or "boltz"
@@ -107,9 +105,7 @@ class Program:
 
     @contextmanager
     def stream(self, *words: str) -> Iterator[IO[bytes]]:
-        """The output of one call while it is written; the call is ended where the reader stops
-        early.
-        """
+        """The output of one call while it is written; ended where the reader stops early."""
         process = subprocess.Popen(
             [self.path, *words], stdin=subprocess.DEVNULL, stdout=subprocess.PIPE
         )

@@ -105,9 +105,7 @@ class Weights:
         return self.add(out, [a] * self.zero[b] + [b] * self.zero[a], step)
 
     def collect(self, node: Node, part: int, out: int) -> None:
-        """The collections of a node: a sum of powers, or all collections from the least number of
-        parts on.
-        """
+        """The collections of a node: a sum of powers, or all from the least number of parts on."""
         if node.high is not None:
             powers = self.powers(part, node.high)
             chosen = range(node.low, node.high + 1)

@@ -32,8 +32,9 @@ class ShardError(RuntimeError):
 
 @dataclass(frozen=True)
 class Plan:
-    """What every shard is made from. `words` are those of `boltz sample` after the file, without a
-    seed.
+    """What every shard is made from.
+
+    `words` are those of `boltz sample` after the file, without a seed.
     """
 
     spec: str
@@ -182,9 +183,7 @@ class Folder:
         return os.path.join(self.path, "%06d.json" % shard)
 
     def receipt(self, shard: int) -> Receipt | None:
-        """The receipt of a complete shard, None where it isn't there or the certificate differs
-        from it.
-        """
+        """The receipt of a complete shard; None where it, or the certificate, isn't right."""
         try:
             with open(self.receipt_path(shard)) as file:
                 receipt = Receipt(**json.load(file))

@@ -56,8 +56,9 @@ def run_dask(
     scheduler_file: str | None = None,
     shared: bool = True,
 ) -> Iterator[Made]:
-    """The shards as they are made, or what went wrong with them; each worker finds `program` None
-    by itself.
+    """The shards as they are made, or what went wrong with them.
+
+    Where `program` is None, each worker finds its own.
     """
     from distributed import as_completed
 

@@ -262,9 +262,7 @@ class Reader:
         return Piece(number, first, end)
 
     def resolve(self) -> None:
-        """Each reference gets its class; the first of the faults that grammar doesn't see is
-        raised.
-        """
+        """Each reference gets its class; the first fault that the grammar doesn't see is raised."""
         numbers = {name: number for number, name in reversed(list(enumerate(self.spec.names)))}
         for number, token in self.references:
             if token.text not in numbers:

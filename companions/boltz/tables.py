@@ -98,9 +98,7 @@ class Spec:
         return texts[number]
 
     def below(self, number: int) -> Iterator[Node]:
-        """The nodes of the expression at `number`, each after its parts; references aren't
-        followed.
-        """
+        """The nodes of an expression, each after its parts; references aren't followed."""
         stack, order = [number], []
         while stack:
             node = self.nodes[stack.pop()]

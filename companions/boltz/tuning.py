@@ -52,9 +52,7 @@ class Law:
         self.logs = [log(weight) if weight > 0 else -inf for weight in weights]
 
     def window(self, x: Fraction, low: int, high: int) -> tuple[float, float]:
-        """The total weight of the sizes of a window at x, and their mean; 0 and 0 where there are
-        none.
-        """
+        """The total weight of the sizes of a window at x, and their mean; else 0 and 0."""
         shift = log(x / self.x)
         sizes = range(low, min(high, len(self.logs) - 1) + 1)
         known = [(n, self.logs[n] + n * shift) for n in sizes if self.logs[n] > -inf]
@@ -93,9 +91,7 @@ class Tuner:
     def search(
         self, goal: Callable[[Fraction], float], limit: Fraction, tolerance: float
     ) -> Fraction:
-        """The x whose mean is nearest to the goal there: by halving, on dyadic numbers while these
-        go.
-        """
+        """The x whose mean is nearest to the goal there: by halving, dyadic while that goes."""
         low, high, best, found = Fraction(0), limit, None, 0.0
         for _ in range(60):
             middle = dyadic((low + high) / 2)

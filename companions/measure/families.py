@@ -60,9 +60,7 @@ def measured(program: Program, text: str, found: Tuned, count: int, seed: int) -
 
 
 def main() -> int:
-    """Prints a row for each family; the status is 1 where a mean is off by more than three standard
-    errors.
-    """
+    """Prints a row for each family; status 1 where one is off by three standard errors."""
     parser = argparse.ArgumentParser(description=__doc__)
     parser.add_argument("--mean", type=float, default=50)
     parser.add_argument("--count", type=int, default=2000)

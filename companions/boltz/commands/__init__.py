@@ -20,7 +20,7 @@ def parser() -> argparse.ArgumentParser:
     """The parser of all commands; each module adds its own words."""
     top = argparse.ArgumentParser(
         prog="boltz-tools",
-        description="Tools round the proved program boltz. " "Nothing in them is proved.",
+        description="Tools round the proved program boltz. Nothing in them is proved.",
     )
     top.add_argument(
         "--program", metavar="PATH", help="the program boltz (else $BOLTZ, else on the path)"

@@ -58,9 +58,7 @@ class Reading:
             raise Problem("there is no certificate")
 
     def _check(self, header: Header) -> None:
-        """The certificate is over the specification, and the x is that of the certificate before
-        it.
-        """
+        """Refuses a certificate over another specification, or with another x than those before."""
         if header.digest not in (None, self.spec.digest()):
             raise Problem(
                 "the certificate is over another specification: its digest is %s, not %s"
