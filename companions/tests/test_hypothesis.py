@@ -6,7 +6,7 @@ import sys
 import tempfile
 import unittest
 
-from tests.support import ROOT, needs, program
+from tests.support import ROOT, needs, program, takes
 
 from boltz.objects import Tree
 
@@ -43,17 +43,20 @@ class StrategyTest(unittest.TestCase):
             settings=settings(max_examples=1000, database=None, deadline=None, derandomize=True),
         )
 
+    @takes(20)
     def test_a_left_leaning_tree_shrinks_to_the_least_one(self):
         self.assertEqual(
             self.least(BINARY, lambda tree: leans(tree, 3)).text(),
             "1.(Z 1.(Z 1.(Z 0.E 0.E) 0.E) 0.E)",
         )
 
+    @takes(20)
     def test_the_least_object_may_be_the_last_option(self):
         self.assertEqual(
             self.least(TURNED, lambda tree: leans(tree, 2)).text(), "0.(Z 0.(Z 1.E 1.E) 1.E)"
         )
 
+    @takes(20)
     def test_a_least_size_is_kept(self):
         from hypothesis import find, settings
         from boltz.hypothesis import objects
@@ -69,6 +72,7 @@ class StrategyTest(unittest.TestCase):
 
 @needs("hypothesis", "pytest")
 class PluginTest(unittest.TestCase):
+    @takes(20)
     def test_the_certificate_of_a_failing_example_is_saved(self):
         path = program().path
         with tempfile.TemporaryDirectory() as folder:

@@ -3,7 +3,7 @@ import io
 import time
 import unittest
 
-from tests.support import program, stored, stored_draws
+from tests.support import program, stored, stored_draws, takes
 
 from boltz.certificate import Certificate
 from boltz.objects import NotObject, ObjectReader, read_object
@@ -78,6 +78,7 @@ class ObjectTest(unittest.TestCase):
         self.assertEqual(read_object(BINARY, SMALL), read_object(BINARY, SMALL))
         self.assertNotEqual(read_object(BINARY, SMALL), read_object(BINARY, "0.E"))
 
+    @takes(15)
     def test_a_million_nodes_in_one_chain(self):
         depth = 200_000  # five nodes for each: union, product, atom, and an empty tree's two
         text = "1.(Z 0.E " * depth + "0.E" + ")" * depth

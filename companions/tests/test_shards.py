@@ -9,7 +9,7 @@ import tempfile
 import time
 import unittest
 
-from tests.support import ROOT, TOOLS, needs, program
+from tests.support import ROOT, TOOLS, needs, program, takes
 
 BINARY = "unlabelled\nB = E + Z*B*B\n"
 SLOW = '#!/bin/sh\n[ "$1" = sample ] && sleep 0.4\nexec %s "$@"\n'
@@ -54,6 +54,7 @@ class ShardTest(unittest.TestCase):
     def merged(self, name: str) -> str:
         return self.tools("merge", name)
 
+    @takes(20)
     def test_a_killed_run_goes_on_and_gives_the_same_bytes(self):
         for name in ("one", "two"):
             self.plan(name, 6, "--count", "5", "--min", "3", "--max", "30")
@@ -117,6 +118,7 @@ class ShardTest(unittest.TestCase):
         self.tools("plan", "d", "s", "1/2", "--seed", "7", "--shards", "2", status=1)
 
     @unittest.skipUnless(shutil.which("parallel"), "not installed: parallel")
+    @takes(20)
     def test_gnu_parallel_makes_the_same(self):
         for name in ("one", "two"):
             self.plan(name, 3, "--count", "3")
@@ -134,6 +136,7 @@ class ShardTest(unittest.TestCase):
         self.assertIn("#SBATCH --array=0-2\n", self.tools("script", "d", "--slurm"))
 
     @needs("distributed")
+    @takes(40)
     def test_a_worker_of_two_is_killed(self):
         for apart in ([], ["--apart"]) if os.environ.get("COMPANIONS_ALL") else ([],):
             ran = subprocess.run(

@@ -7,7 +7,7 @@ import unittest
 from decimal import Decimal, localcontext
 from fractions import Fraction
 
-from tests.support import TOOLS, program
+from tests.support import TOOLS, program, takes
 
 from boltz.certificate import Certificate
 from boltz.costs import costs, solve
@@ -120,6 +120,7 @@ class TuningTest(unittest.TestCase):
     def test_visits_solve_a_linear_system(self):
         self.assertEqual(solve([[0.0, 2.0], [0.25, 0.0]]), [2.0, 4.0])
 
+    @takes(20)
     def test_the_program_draws_what_is_tuned(self):
         for text in (BINARY, "labelled\nS = Seq(B)\nB = Set>=1(Z)\n"):
             with folder_with(s=text) as folder:
