@@ -36,7 +36,7 @@ def start(folder: str, module: str, *words: str) -> subprocess.Popen:
             cwd=folder,
             stdout=log,
             stderr=log,
-            env={**os.environ, "PYTHONPATH": COMPANIONS},
+            env={**os.environ, "PYTHONPATH": COMPANIONS, "TMPDIR": folder},
         )
 
 

@@ -62,6 +62,7 @@ class ShardTest(unittest.TestCase):
         killed = subprocess.Popen(
             self.words("run", "two", "--workers", "1"),
             cwd=self.folder,
+            env={**os.environ, "TMPDIR": self.folder},
             stdout=subprocess.DEVNULL,
             stderr=subprocess.DEVNULL,
         )
