@@ -25,7 +25,7 @@ class CertificateError(ValueError):
 
 @dataclass(frozen=True)
 class Header:
-    """What stands before the entries.
+    """The lines before the entries.
 
     `base` has the upper bound of each class in units of 2^-fraction.
     """
@@ -85,7 +85,7 @@ class Certificate:
 
     Iterating gives the entries one at a time, and `closing` is there after the last one. A text
     that stops early (the program was killed, or is still at work) raises CertificateError at its
-    end; `partial` then tells that all lines until there were in order.
+    end; `partial` then says that all lines before it were in order.
     """
 
     def __init__(self, lines: Iterable[str | bytes]):
@@ -141,7 +141,7 @@ class Certificate:
         return Header(first, mode, digest, Fraction(x_text), x_text, fraction, (low, high), base)
 
     def _numbers(self, text: str, count: int) -> list[int]:
-        """So many numbers with a blank between them."""
+        """`count` numbers with a blank between them."""
         words = text.split(" ")
         if len(words) != count or not all(word.isdigit() for word in words):
             self._refuse("%d numbers" % count, text)
@@ -190,7 +190,7 @@ class Certificate:
 
 
 def certificates(lines: Iterable[str | bytes]) -> Iterator[Certificate]:
-    """The certificates that stand one after another; each is read to its end before the next."""
+    """Certificates one after another; each must be read to its end before the next."""
     rest = iter(lines)
     while (first := next(rest, None)) is not None:
         yield Certificate(chain([first], rest))

@@ -1,6 +1,6 @@
 """What a run will cost: visits of nodes, turns, and how often a number stays undecided.
 
-These are estimates in floating point from the program's bounds of class values.
+These are estimates in floating point from the program's bounds of the generating functions.
 """
 from __future__ import annotations
 

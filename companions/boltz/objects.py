@@ -15,7 +15,7 @@ LABEL = re.compile(r"#([1-9][0-9]*)")
 
 
 class NotObject(ValueError):
-    """The text is no object of the class; `place` is the first character that can't stand there."""
+    """The text is no object of the class; `place` is the first character that doesn't fit."""
 
     def __init__(self, place: int, wanted: str):
         super().__init__("no object: wanted %s at place %d" % (wanted, place))
@@ -26,7 +26,7 @@ class Tree:
     """A node of an object.
 
     `node` is the specification's node, never a reference; `names` are the classes that were passed
-    to reach it, such as `("B",)`, empty where it stands inside a class's body. `option` is the
+    to reach it, such as `("B",)`, empty where it is inside a class's body. `option` is the
     number of the part of a union, `label` that of an atom. `parts` are the trees below: one of a
     union, all of a product or collection, in the order of the text.
     """

@@ -1,6 +1,6 @@
-"""Asks the program for bounds of class values, and encloses the mean size by them.
+"""Asks the program for bounds of generating functions, and encloses the mean size by them.
 
-Class values at x are the program's proved bounds of level 6. What is computed from them here, by
+The values at x are the program's proved bounds of level 6. What is computed from them here, by
 exact fractions and by logarithms of 50 digits with a margin, isn't proved.
 """
 from __future__ import annotations
@@ -41,7 +41,7 @@ ANY = Interval(Decimal(0), Decimal("Infinity"))
 
 @dataclass(frozen=True)
 class Values:
-    """Bounds of the class values at x, in the order of the classes."""
+    """Bounds of the generating functions at x, in the order of the classes."""
 
     x: Fraction
     classes: tuple[Interval, ...]
@@ -193,7 +193,7 @@ def slope(left: Values, right: Values, down: bool) -> Decimal:
 
 
 def logarithm(x: Fraction) -> Decimal:
-    """ln x, to so many digits that enough are left where x is near 1."""
+    """ln x, with enough digits that some are left where x is near 1."""
     with localcontext() as context:
         context.prec = 2 * DIGITS
         return (Decimal(x.numerator) / Decimal(x.denominator)).ln()

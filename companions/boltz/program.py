@@ -119,7 +119,7 @@ class Program:
             process.wait()
 
     def digest(self) -> str:
-        """The SHA-256 digest of the program's file, which stands for its version."""
+        """The SHA-256 digest of the program's file, which names its version."""
         return file_digest(self.path)
 
 

@@ -51,7 +51,7 @@ def pytest_runtest_makereport(item, call):
 
 
 def save(drawing, folder: str, number: int) -> str:
-    """Writes one drawing; the line that tells where it is."""
+    """Writes one drawing; a line that says where it is."""
     place = os.path.join(folder, str(number))
     os.makedirs(place, exist_ok=True)
     words = "boltz %s\n" % shlex.join(drawing.words)

@@ -30,7 +30,7 @@ class Weights:
     """A series for each node, and for some numbers between nodes; and the steps that find their
     entries.
 
-    A step needs other entries of the same size only where what stands beside them has an object of
+    A step needs other entries of the same size only where what is beside them has an object of
     size 0. In a specification that is well founded the steps have an order in which each finds what
     it needs.
     """
@@ -147,7 +147,7 @@ class Weights:
     def integral(self, slopes: int, beside: int, out: int) -> int:
         """The series whose slopes are `slopes` times `beside`; its entry for size 0 stays.
 
-        With `beside` the sets of one part less this gives the sets of at least so many parts; with
+        With `beside` the sets of one part less this gives the sets of at least as many parts; with
         the sequences of one part less, the cycles.
         """
         left, right, target = self.series[slopes], self.series[beside], self.series[out]

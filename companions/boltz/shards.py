@@ -250,7 +250,7 @@ PART = re.compile(r"\.part-(.*)-(\d+)-\d+$")
 
 
 def part_of(path: str) -> str:
-    """Where a file is written before it is whole: a name that tells machine and process."""
+    """Where a file is written before it is whole: a name with machine and process."""
     return "%s.part-%s-%d-%d" % (path, platform.node(), os.getpid(), time.monotonic_ns())
 
 

@@ -57,7 +57,7 @@ def tokens_of(text: str) -> Iterator[Token]:
 
 
 def _kind_of(kind: str, piece: str) -> str:
-    """The kind of a token that isn't the end of a line; `bad` where it can stand nowhere."""
+    """The kind of a token that isn't the end of a line; `bad` where it fits nowhere."""
     if kind == "leaf":
         return "leaf" if len(piece) - 2 <= MOST_LETTERS else "bad"
     if kind == "run":
@@ -106,7 +106,7 @@ class Reader:
         self.depths: list[int] = []
 
     def refuse(self, token: Token) -> NoReturn:
-        """The token can't stand where it stands."""
+        """No text of the grammar has the token here."""
         raise SpecRefused(
             "syntax line %d column %d" % (token.line, token.column), token.line, token.column
         )

@@ -87,7 +87,7 @@ class Spec:
         return node, tuple(names)
 
     def snippet(self, node: Node) -> str:
-        """The text of a node as it stands in the source, in one line."""
+        """The text of a node in the source, in one line."""
         return " ".join(self.source[node.start : node.end].split())
 
     def node_text(self, number: int) -> str:
@@ -139,7 +139,7 @@ class Spec:
         return self._least(True), self._least(False)
 
     def zero_steps(self, number: int) -> set[int]:
-        """The classes that stand in a class's body with objects of size 0 alone beside them."""
+        """The classes named in a class's body with objects of size 0 alone beside them."""
         _, zero = self.inhabited()
         found, stack = set(), [self.bodies[number]]
         while stack:

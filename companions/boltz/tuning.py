@@ -126,12 +126,12 @@ class Tuner:
         return tuned
 
     def near_ceiling(self, values: Values) -> str:
-        """A hint where class values are near the greatest number that the program has for them."""
+        """A hint where generating functions are near the greatest number the program has."""
         ceiling = 2.0 ** (64 - self.oracle.fraction)
         if max(float(value.hi) for value in values.classes) < ceiling / 2:
             return ""
         return (
-            "; class values there are near the ceiling of %d: fewer fraction bits have a higher one"
+            "; generating functions are near the ceiling of %d there: fewer fraction bits raise it"
             % ceiling
         )
 

@@ -35,7 +35,7 @@ def needs(*modules: str):
 
 
 def takes(seconds: float):
-    """Skips a test that may take so many seconds where COMPANIONS_UNTIL, a time, comes before."""
+    """Skips a test that may last until after the time in COMPANIONS_UNTIL."""
 
     def decorate(test):
         @functools.wraps(test)

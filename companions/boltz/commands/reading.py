@@ -11,7 +11,7 @@ from boltz.spec import read_spec_file
 
 
 class Problem(Exception):
-    """What the user is told, without a trace."""
+    """What the user reads, without a trace."""
 
 
 def add_certificate(parser: argparse.ArgumentParser) -> None:
@@ -28,8 +28,8 @@ def add_certificate(parser: argparse.ArgumentParser) -> None:
 class Reading:
     """A specification and the certificates over it in a file, whose objects are read one at a time.
 
-    Certificates may stand one after another, as `boltz-tools shards merge` writes them. Endings
-    other than `done` are told on standard error.
+    Certificates may follow each other, as `boltz-tools shards merge` writes them. Endings
+    other than `done` are reported on standard error.
     """
 
     def __init__(self, args: argparse.Namespace):

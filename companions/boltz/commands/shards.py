@@ -11,7 +11,7 @@
   script DIR --parallel K | --slurm
       writes the line or the script that calls `one`
   status DIR
-      checks all digests, completes the manifest and tells all endings
+      checks all digests, completes the manifest and reports all endings
   merge DIR [--objects]
       writes the certificates in the order of the shards, or the objects alone
 """
@@ -107,7 +107,7 @@ def plan(args: argparse.Namespace) -> int:
 
 
 def make(args: argparse.Namespace) -> int:
-    """Makes what is missing and tells what came of it."""
+    """Makes what is missing and reports what came of it."""
     folder = Folder(args.folder)
     folder.sweep()
     missing = folder.missing()
@@ -185,7 +185,7 @@ def script(args: argparse.Namespace) -> int:
 
 
 def status(args: argparse.Namespace) -> int:
-    """Checks all digests, completes the manifest and tells every ending."""
+    """Checks all digests, completes the manifest and reports every ending."""
     folder = Folder(args.folder)
     receipts = folder.collect()
     for line in report(folder.plan, receipts):

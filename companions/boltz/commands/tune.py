@@ -1,6 +1,6 @@
 """Proposes an x: for a mean size, or for as many objects as may be in a window of sizes.
 
-It asks `boltz oracle` at many x. The mean is enclosed by the program's bounds of class values; what
+It asks `boltz oracle` at many x. The mean is enclosed by the program's bounds of generating functions; what
 is said of attempts, turns and undecided endings is an estimate.
 """
 from __future__ import annotations
@@ -144,7 +144,7 @@ def lines(spec: Spec, found: Tuned, args: argparse.Namespace) -> list[str]:
             % (attempts(found), turns_of_attempt(found))
         )
     result.append(
-        "greatest class value: %s with %.6g, %.3g%% of the ceiling"
+        "greatest generating function: %s(x) = %.6g, %.3g%% of the ceiling"
         % (spec.names[greatest], found.values.classes[greatest].middle, 100 * share)
     )
     each = objects_per_undecided(found)
