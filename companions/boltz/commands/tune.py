@@ -1,7 +1,7 @@
 """Proposes an x: for a mean size, or for as many objects as may be in a window of sizes.
 
-It asks `boltz oracle` at many x. The mean is enclosed by the program's bounds of generating functions; what
-is said of attempts, turns and undecided endings is an estimate.
+It asks `boltz oracle` at many x. The mean is enclosed by the program's bounds of generating
+functions; what is said of attempts, turns and undecided endings is an estimate.
 """
 from __future__ import annotations
 
