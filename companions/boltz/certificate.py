@@ -25,7 +25,10 @@ class CertificateError(ValueError):
 
 @dataclass(frozen=True)
 class Header:
-    """What stands before the entries. `base` has the upper bound of each class in units of 2^-fraction."""
+    """The lines before the entries.
+
+    `base` has the upper bound of each class in units of 2^-fraction.
+    """
 
     first: str
     mode: str
@@ -39,7 +42,7 @@ class Header:
 
 @dataclass(frozen=True)
 class Entry:
-    """One kept object: its number, the tape's bits before it, its size, its text and its cells' text."""
+    """One kept object: number, the tape's bits before it, size, text, and its cells as text."""
 
     number: int
     place: int
@@ -71,19 +74,21 @@ class Closing:
 
 OBJECT = re.compile(r"object (\d+) at (\d+) size (\d+)")
 CLOSING = re.compile(r"end (%s) kept (\d+) thrown (\d+) bits (\d+) turns (\d+)" % "|".join(ENDINGS))
+X = re.compile(r"[1-9]\d*/[1-9]\d*")
 CELLS = re.compile(r"cells( \d+/\d+)*")
 REFUSAL = re.compile(r"refused .*")
 
 
 class Certificate:
-    """A certificate over lines that may still be written: the header, then the entries, then the closing.
+    """A certificate over lines that may still be written: the header, then the entries, then the
+    closing.
 
-    Iterating gives the entries one at a time, and `closing` is there after the last one. A text that
-    stops early (the program was killed, or is still at work) raises CertificateError at its end; `partial`
-    then tells that all lines until there were in order.
+    Iterating gives the entries one at a time, and `closing` is there after the last one. A text
+    that stops early (the program was killed, or is still at work) raises CertificateError at its
+    end; `partial` then says that all lines before it were in order.
     """
 
-    def __init__(self, lines: Iterable[str] | Iterable[bytes]):
+    def __init__(self, lines: Iterable[str | bytes]):
         self._lines = iter(lines)
         self.line = 0
         self.partial = False
@@ -110,26 +115,37 @@ class Certificate:
         line = self._next()
         if not line.startswith(word + " "):
             self._refuse("a line `%s`" % word, line)
-        return line[len(word) + 1:]
+        return line[len(word) + 1 :]
 
     def _read_header(self) -> Header:
         """The lines up to the last one of the base, which the first other line ends."""
         first = self._next()
         if first not in FIRST_LINES:
-            self._refuse("a certificate" + (", the program refused" if REFUSAL.match(first) else ""), first)
+            self._refuse(
+                "a certificate" + (", the program refused" if REFUSAL.match(first) else ""), first
+            )
         mode = self._field("mode")
         digest = None if first == "boltzmann 1" else self._field("spec")
         x_text = self._field("x")
-        fraction = int(self._field("fraction"))
-        low, high = self._field("window").split(" ")
+        if X.fullmatch(x_text) is None:
+            self._refuse("a fraction", x_text)
+        (fraction,) = self._numbers(self._field("fraction"), 1)
+        low, high = self._numbers(self._field("window"), 2)
         base: dict[str, int] = {}
         line = self._next()
         while line.startswith("base "):
-            _, name, value = line.split(" ")
-            base[name] = int(value)
+            name, _, value = line[5:].partition(" ")
+            (base[name],) = self._numbers(value, 1)
             line = self._next()
         self._ahead = line
-        return Header(first, mode, digest, Fraction(x_text), x_text, fraction, (int(low), int(high)), base)
+        return Header(first, mode, digest, Fraction(x_text), x_text, fraction, (low, high), base)
+
+    def _numbers(self, text: str, count: int) -> list[int]:
+        """`count` numbers with a blank between them."""
+        words = text.split(" ")
+        if len(words) != count or not all(word.isdigit() for word in words):
+            self._refuse("%d numbers" % count, text)
+        return [int(word) for word in words]
 
     def __iter__(self) -> Iterator[Entry]:
         """The entries that haven't been read yet."""
@@ -169,11 +185,12 @@ class Certificate:
         """Passes over the entries that are left; the closing."""
         for _ in self:
             pass
+        assert self.closing is not None
         return self.closing
 
 
-def certificates(lines: Iterable[str] | Iterable[bytes]) -> Iterator[Certificate]:
-    """The certificates that stand one after another; each must be read to its end before the next."""
+def certificates(lines: Iterable[str | bytes]) -> Iterator[Certificate]:
+    """Certificates one after another; each must be read to its end before the next."""
     rest = iter(lines)
     while (first := next(rest, None)) is not None:
         yield Certificate(chain([first], rest))
@@ -196,4 +213,6 @@ def closing_from(line: str, before: str) -> Closing:
         raise CertificateError(1, "wanted the closing, found %r" % line[:60])
     word, *numbers = match.groups()
     kept, rejected, bits, turns = map(int, numbers)
-    return Closing(word, kept, rejected, bits, turns, before if before.startswith("undecided ") else None)
+    return Closing(
+        word, kept, rejected, bits, turns, before if before.startswith("undecided ") else None
+    )

@@ -1,6 +1,6 @@
 """What a run will cost: visits of nodes, turns, and how often a number stays undecided.
 
-These are estimates in floating point from the program's bounds of class values.
+These are estimates in floating point from the program's bounds of the generating functions.
 """
 from __future__ import annotations
 
@@ -10,15 +10,15 @@ from math import exp, lgamma, log
 from typing import Sequence
 
 from boltz.oracle import DIGITS, Values
-from boltz.spec import Node, Spec
+from boltz.tables import Node, Spec
 
 MOST_BITS = 60
-MOST_OPTIONS = 100_000      # of a collection, when widths are summed
+MOST_OPTIONS = 100_000  # of a collection, when widths are summed
 
 
 @dataclass(frozen=True)
 class Costs:
-    """Of one attempt that isn't given up: its expected visits, turns, and numbers left undecided."""
+    """Of an attempt that isn't given up: expected visits, turns, and numbers left undecided."""
 
     visits: dict[int, float]
     turns: float
@@ -35,7 +35,9 @@ def node_values(spec: Spec, x: Decimal, classes: Sequence[Decimal]) -> list[Deci
     return values
 
 
-def node_value(node: Node, x: Decimal, classes: Sequence[Decimal], values: Sequence[Decimal]) -> Decimal:
+def node_value(
+    node: Node, x: Decimal, classes: Sequence[Decimal], values: Sequence[Decimal]
+) -> Decimal:
     """The value of a node, given those of its parts."""
     if node.kind in ("E", "Z"):
         return Decimal(1) if node.kind == "E" else x
@@ -43,7 +45,7 @@ def node_value(node: Node, x: Decimal, classes: Sequence[Decimal], values: Seque
         return classes[node.target]
     parts = [values[part] for part in node.parts]
     if node.kind == "union":
-        return sum(parts)
+        return sum(parts, Decimal(0))
     if node.kind == "product":
         result = Decimal(1)
         for part in parts:
@@ -57,9 +59,11 @@ def collection_value(kind: str, part: Decimal, low: int, high: int | None) -> De
     if high is not None:
         return sum((term(kind, part, count) for count in range(low, high + 1)), Decimal(0))
     if kind == "Seq":
-        return part ** low / (1 - part) if low else 1 / (1 - part)
+        return part**low / (1 - part) if low else 1 / (1 - part)
     every = part.exp() if kind == "Set" else -(1 - part).ln()
-    return every - sum((term(kind, part, count) for count in range(int(kind == "Cyc"), low)), Decimal(0))
+    return every - sum(
+        (term(kind, part, count) for count in range(int(kind == "Cyc"), low)), Decimal(0)
+    )
 
 
 def term(kind: str, part: Decimal, count: int) -> Decimal:
@@ -79,19 +83,14 @@ def part_weights(node: Node, part: float) -> list[tuple[int, float]]:
     power = 0.0
     for count in range(node.low, high + 1):
         if part > 0:
-            power = count * log(part) - (log_factorial(count) if node.kind == "Set" else 0.0)
+            power = count * log(part) - (lgamma(count + 1) if node.kind == "Set" else 0.0)
         weight = (1.0 if count == 0 else 0.0) if part <= 0 else exp(power)
         weight = weight / count if node.kind == "Cyc" else weight
         weights.append((count, weight))
         total += weight
-        if weight < total * 2.0 ** -MOST_BITS and count > part:
+        if weight < total * 2.0**-MOST_BITS and count > part:
             break
     return weights
-
-
-def log_factorial(count: int) -> float:
-    """ln n!"""
-    return lgamma(count + 1)
 
 
 def expected_visits(spec: Spec, values: Sequence[float]) -> dict[int, float]:
@@ -105,7 +104,9 @@ def expected_visits(spec: Spec, values: Sequence[float]) -> dict[int, float]:
     return visits
 
 
-def references(spec: Spec, values: Sequence[float], number: int) -> tuple[list[float], dict[int, float]]:
+def references(
+    spec: Spec, values: Sequence[float], number: int
+) -> tuple[list[float], dict[int, float]]:
     """In one visit of a class's body: how often each class is named, and each node is visited."""
     named = [0.0] * len(spec.names)
     inside: dict[int, float] = {}
@@ -122,7 +123,8 @@ def references(spec: Spec, values: Sequence[float], number: int) -> tuple[list[f
             stack.extend((part, rate) for part in node.parts)
         elif node.is_counted:
             weights = part_weights(node, values[node.parts[0]])
-            mean = sum(count * weight for count, weight in weights) / sum(weight for _, weight in weights)
+            total = sum(weight for _, weight in weights)
+            mean = sum(count * weight for count, weight in weights) / total
             stack.append((node.parts[0], rate * mean))
     return named, inside
 
@@ -130,7 +132,9 @@ def references(spec: Spec, values: Sequence[float], number: int) -> tuple[list[f
 def solve(named: list[list[float]]) -> list[float]:
     """How often each class is entered: 1 for the root, and for each naming of it."""
     size = len(named)
-    rows = [[float(i == j) - named[j][i] for j in range(size)] + [float(i == 0)] for i in range(size)]
+    rows = [
+        [float(i == j) - named[j][i] for j in range(size)] + [float(i == 0)] for i in range(size)
+    ]
     for i in range(size):
         best = max(range(i, size), key=lambda r: abs(rows[r][i]))
         rows[i], rows[best] = rows[best], rows[i]
@@ -151,10 +155,12 @@ def option_weights(node: Node, values: Sequence[Decimal]) -> list[float]:
 def undecided_share(node: Node, lo: Sequence[Decimal], hi: Sequence[Decimal], unit: float) -> float:
     """The share of the numbers at a union or collection that 60 bits leave undecided.
 
-    A threshold between two options leaves the stretch open in which the bounds of level 6 allow it, and
-    two of the narrowest cells. Stretches of options that are narrower than they are taken once.
+    A threshold between two options leaves the stretch open in which the bounds of level 6 allow it,
+    and two of the narrowest cells. Stretches of options that are narrower than they are taken once.
     """
     least, most = float(lo[node.number]), float(hi[node.number])
+    if least == 0:
+        return 1.0
     low = high = share = 0.0
     pairs = list(zip(option_weights(node, lo), option_weights(node, hi)))
     for under, over in pairs[:-1] if node.kind == "union" else pairs:
@@ -169,8 +175,8 @@ def costs(spec: Spec, values: Values, fraction: int) -> Costs:
     x = Decimal(values.x.numerator) / Decimal(values.x.denominator)
     lo = node_values(spec, x, [value.lo for value in values.classes])
     hi = node_values(spec, x, [value.hi for value in values.classes])
-    visits = expected_visits(spec, [float(value) for value in lo])
-    unit = 2.0 ** -fraction
+    visits = expected_visits(spec, [float(value) for value in hi])
+    unit = 2.0**-fraction
     choices = [node for node in spec.nodes if node.kind == "union" or node.is_counted]
     undecided = sum(visits[node.number] * undecided_share(node, lo, hi, unit) for node in choices)
     return Costs(visits, 1 + spec.labelled + sum(visits.values()), undecided)

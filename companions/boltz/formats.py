@@ -12,8 +12,11 @@ HEADS = {"product": "*", "Seq": "seq", "Set": "set", "Cyc": "cyc"}
 
 
 def to_json(tree: Tree) -> str:
-    """One JSON value: `{"class": [..], ..}` with `option` and `part` of a union, `parts` of a product,
-    `seq`, `set`, `cycle` of a collection, `empty` or `atom` (and `label`) of a leaf."""
+    """One JSON value.
+
+    It has `class`, then `option` and `part` of a union, `parts` of a product, `seq`, `set` or
+    `cycle` of a collection, `empty` or `atom` (and `label`) of a leaf.
+    """
     return render(tree, _json_pieces)
 
 
@@ -23,7 +26,7 @@ def _json_pieces(tree: Tree) -> Iterator[Tree | str]:
     if tree.names:
         yield '"class": %s, ' % json.dumps(list(tree.names))
     if tree.kind == "union":
-        yield '"option": %d, "part": ' % tree.option
+        yield '"option": %s, "part": ' % tree.option
         yield tree.parts[0]
     elif tree.kind in COLLECTIONS:
         yield '"%s": [' % COLLECTIONS[tree.kind]
@@ -37,8 +40,10 @@ def _json_pieces(tree: Tree) -> Iterator[Tree | str]:
 
 
 def to_sexp(tree: Tree) -> str:
-    """An s-expression: `(B x)` round an object of class B, `(2 x)` for option 2 of a union, `(* x y)` for
-    a product, `(seq ..)`, `(set ..)`, `(cyc ..)`, a leaf's word, `(Z 3)` for an atom with a label."""
+    """An s-expression: `(B x)` round an object of class B, `(2 x)` for option 2 of a union, `(* x
+    y)` for a product, `(seq ..)`, `(set ..)`, `(cyc ..)`, a leaf's word, `(Z 3)` for an atom with a
+    label.
+    """
     return render(tree, _sexp_pieces)
 
 
@@ -47,7 +52,7 @@ def _sexp_pieces(tree: Tree) -> Iterator[Tree | str]:
     for name in tree.names:
         yield "(%s " % name
     if tree.kind == "union":
-        yield "(%d " % tree.option
+        yield "(%s " % tree.option
         yield tree.parts[0]
         yield ")"
     elif tree.kind in HEADS:
@@ -62,9 +67,13 @@ def _sexp_pieces(tree: Tree) -> Iterator[Tree | str]:
 
 
 def to_word(tree: Tree, table: Mapping[str, str], separator: str = "") -> str:
-    """The leaves' symbols from left to right. A leaf that the table doesn't name gives its word where it
-    is an atom, and nothing where it is neutral."""
-    symbols = (table.get(leaf.word, leaf.word if leaf.kind == "Z" else "") for leaf in tree.leaves())
+    """The leaves' symbols from left to right.
+
+    A leaf that the table doesn't name gives its word where it is an atom, and else nothing.
+    """
+    symbols = (
+        table.get(leaf.word, leaf.word if leaf.kind == "Z" else "") for leaf in tree.leaves()
+    )
     return separator.join(symbol for symbol in symbols if symbol)
 
 
@@ -89,12 +98,14 @@ def newick_name(name: str) -> str:
 
 def vertex_names(graph: Graph) -> list[str]:
     """A name for each vertex of an atom graph: its label, else its number from 1."""
-    return [str(vertex.number + 1 if vertex.tree.label is None else vertex.tree.label)
-            for vertex in graph.vertices]
+    return [
+        str(vertex.number + 1 if vertex.tree.label is None else vertex.tree.label)
+        for vertex in graph.vertices
+    ]
 
 
 def to_edges(tree: Tree) -> str:
-    """The edges of the graph on the atoms, as `u v` with blanks and `;` between; a lone vertex as `u`."""
+    """The edges of the graph on the atoms, as `u v; v w`; a lone vertex as `u`."""
     graph = atom_graph(tree)
     names = vertex_names(graph)
     edges = list(graph.edges())
@@ -105,7 +116,7 @@ def to_edges(tree: Tree) -> str:
 
 
 def to_networkx(tree: Tree):
-    """The graph on the atoms as a networkx graph, undirected, its vertices the labels (or numbers)."""
+    """The graph on the atoms for networkx, undirected, its vertices the labels (or numbers)."""
     import networkx
 
     graph = atom_graph(tree)
@@ -117,7 +128,7 @@ def to_networkx(tree: Tree):
 
 
 def to_graph6(tree: Tree) -> str:
-    """The graph on the atoms in graph6, by networkx; loops, of which the format has none, are left out."""
+    """The graph on the atoms in graph6, by networkx; the format has no loops, so they go."""
     import networkx
 
     graph = to_networkx(tree)
@@ -126,8 +137,11 @@ def to_graph6(tree: Tree) -> str:
 
 
 def to_dot(tree: Tree, form: str = "parts") -> str:
-    """A graph in Graphviz's language: the tree of the `parts`, the graph on the `atoms`, or the `whole`
-    tree with its unions and classes."""
+    """A graph in Graphviz's language.
+
+    The form is the tree of the `parts`, the graph on the `atoms`, or the `whole` tree with its
+    unions and classes.
+    """
     if form == "whole":
         return dot_text(_whole(tree), named=True)
     return dot_text(atom_graph(tree) if form == "atoms" else part_tree(tree))
@@ -149,15 +163,22 @@ SIGNS = {"product": "*", "Seq": "[ ]", "Set": "{ }", "Cyc": "&lt; &gt;"}
 
 def dot_text(graph: Graph, named: bool = False) -> str:
     """The graph in Graphviz's language; rings have arrows. `named` shows unions and classes."""
-    lines = ["digraph object {", '  graph [nodesep=0.15, ranksep=0.25];',
-             '  node [shape=circle, fontname="Helvetica", fontsize=10, width=0.28, height=0.28, margin=0.02];',
-             "  edge [arrowhead=none];"]
+    lines = [
+        "digraph object {",
+        "  graph [nodesep=0.15, ranksep=0.25];",
+        '  node [shape=circle, fontname="Helvetica", fontsize=10, margin=0.02];',
+        "  node [width=0.28, height=0.28];",
+        "  edge [arrowhead=none];",
+    ]
     for vertex in graph.vertices:
         lines.append("  v%d [%s];" % (vertex.number, vertex_style(vertex, named)))
     for vertex in graph.vertices:
         lines += ["  v%d -> v%d;" % (vertex.number, child) for child in vertex.children]
     for ring in graph.rings:
-        lines += ["  v%d -> v%d [arrowhead=vee, arrowsize=0.6];" % edge for edge in zip(ring, ring[1:] + ring[:1])]
+        lines += [
+            "  v%d -> v%d [arrowhead=vee, arrowsize=0.6];" % edge
+            for edge in zip(ring, ring[1:] + ring[:1])
+        ]
     return "\n".join(lines + ["}"]) + "\n"
 
 
@@ -165,10 +186,17 @@ def vertex_style(vertex: Vertex, named: bool) -> str:
     """How a vertex looks: atoms are circles, neutral leaves points, collections boxes."""
     tree = vertex.tree
     if named and tree.kind == "union":
-        return 'shape=box, style=rounded, label="%s%d"' % (" ".join(tree.names) + " " if tree.names else "", tree.option)
+        return 'shape=box, style=rounded, label="%s%s"' % (
+            " ".join(tree.names) + " " if tree.names else "",
+            tree.option,
+        )
     if tree.kind == "E":
-        return 'shape=point, width=0.06, label=""' if not tree.node.word else 'shape=plaintext, label="%s"' % tree.word
+        return (
+            'shape=point, width=0.06, label=""'
+            if not tree.node.word
+            else 'shape=plaintext, label="%s"' % tree.word
+        )
     if tree.kind == "Z":
         return 'label="%s"' % (vertex.name if tree.label is not None or tree.node.word else "")
     name = " ".join(tree.names) + " " if named and tree.names else ""
-    return 'shape=plaintext, label=<%s%s>' % (name, SIGNS[tree.kind])
+    return "shape=plaintext, label=<%s%s>" % (name, SIGNS[tree.kind])

@@ -9,7 +9,7 @@ from boltz.objects import Tree
 
 @dataclass
 class Vertex:
-    """A vertex: what stands there, the vertex above it (None for a root) and those below it."""
+    """A vertex: its part, the vertex above it (None for a root) and those below it."""
 
     number: int
     tree: Tree
@@ -90,9 +90,10 @@ class Slot:
 def atom_graph(tree: Tree) -> Graph:
     """The graph on the atoms.
 
-    In a product with an atom, the first atom stands above the roots of the other parts. So a product
-    of an atom and a set of trees is a rooted tree. The parts of a cycle that stands below no atom are
-    joined in a ring by their first roots, so a set of cycles of atoms is the graph of a permutation.
+    In a product with an atom, the first atom is the parent of the roots of the other parts. So a
+    product of an atom and a set of trees is a rooted tree. The parts of a cycle that lies below
+    no atom are joined in a ring by their first roots, so a set of cycles of atoms is the graph of a
+    permutation.
     """
     graph = Graph()
     stack: list[tuple[Tree, int | None, Slot | None]] = [(tree, None, None)]
@@ -118,8 +119,8 @@ def atom_graph(tree: Tree) -> Graph:
 def part_tree(tree: Tree) -> Graph:
     """The tree of the parts: a vertex for each leaf, product and collection.
 
-    Unions give none. A product with an atom is the vertex of its first atom, and a collection that is
-    the only other part of such a product gives none either: its parts stand below the atom.
+    Unions give none. A product with an atom is the vertex of its first atom, and a collection that
+    is the only other part of such a product gives none either: its parts are below the atom.
     """
     graph = Graph()
     stack: list[tuple[Tree, int | None]] = [(tree, None)]

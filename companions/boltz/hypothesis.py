@@ -1,8 +1,8 @@
 """A Hypothesis strategy whose objects are drawn by the program from a tape that Hypothesis chooses.
 
-Hypothesis shrinks a failing example by leaving out and lowering its own bytes. Here each of these names
-one bit of the tape, or its end, and a tape that has ended goes on with the bits that lead to the smallest
-objects. So what Hypothesis leaves out or lowers makes the object smaller.
+Hypothesis shrinks a failing example by leaving out and lowering its own bytes. Here each of these
+names one bit of the tape, or its end, and a tape that has ended goes on with the bits that lead to
+the smallest objects. So what Hypothesis leaves out or lowers makes the object smaller.
 """
 from __future__ import annotations
 
@@ -17,13 +17,13 @@ from hypothesis.control import _current_build_context as build_context
 
 from boltz.certificate import Certificate
 from boltz.objects import ObjectReader, Tree
-from boltz.program import Program, ProgramError
+from boltz.program import Program
 from boltz.spec import Spec, read_spec, read_spec_file
 
-REST = 1024                                     # bytes after the bits that were chosen
-RESTS = (b"\x00", b"\xff", b"\x55", b"\xaa")    # how a tape may go on
+REST = 1024  # bytes after the bits that were chosen
+RESTS = (b"\x00", b"\xff", b"\x55", b"\xaa")  # how a tape may go on
 MOST_BITS = 4096
-KEPT = 4096                                     # runs that are remembered
+KEPT = 4096  # runs that are remembered
 
 
 @dataclass(frozen=True)
@@ -73,21 +73,20 @@ class Source:
         self.text = spec.canonical().encode()
         with open(os.path.join(self.folder.name, "spec"), "wb") as file:
             file.write(self.text)
-        self.words = ("sample", "spec", x, "--tape", "tape", "--min", str(window[0]), "--max", str(window[1]),
-                      "--turns", str(turns))
+        low, high = map(str, window)
+        options = ("--min", low, "--max", high, "--turns", str(turns))
+        self.words = ("sample", "spec", x, "--tape", "tape", *options)
         self.known: OrderedDict[bytes, Drawing | None] = OrderedDict()
         self.rest = self.best_rest()
 
     def best_rest(self) -> bytes:
-        """How a tape goes on such that objects end soon."""
+        """How a tape goes on such that objects end soon; zeros where no way gives an object."""
         found = []
-        for rest in RESTS:
+        for number, rest in enumerate(RESTS):
             drawing = self.run(rest * REST)
             if drawing is not None:
-                found.append((len(drawing.certificate), rest))
-        if not found:
-            raise ProgramError("no tape of equal or alternating bits gives an object: widen the window")
-        return min(found)[1]
+                found.append((len(drawing.certificate), number))
+        return RESTS[min(found)[1]] if found else RESTS[0]
 
     def run(self, tape: bytes) -> Drawing | None:
         """The first object that the tape gives; None where the drawing ends without one."""
@@ -147,20 +146,39 @@ def _objects(draw, source: Source) -> Tree:
     return drawn(draw, source).tree
 
 
-def source_of(spec: Spec | str, x: str, min_size: int, max_size: int, turns: int, program: str | None) -> Source:
+def source_of(
+    spec: Spec | str, x: str, min_size: int, max_size: int, turns: int, program: str | None
+) -> Source:
     """A source over a specification: its text, a file's name, or read."""
     if isinstance(spec, str):
         spec = read_spec(spec) if "\n" in spec else read_spec_file(spec)
     return Source(spec, x, (min_size, max_size), turns, Program(program))
 
 
-def drawings(spec: Spec | str, x: str, *, min_size: int = 0, max_size: int = 100, turns: int = 100_000,
-             program: str | None = None) -> strategies.SearchStrategy:
-    """Runs of `boltz sample` over a specification (its text, a file's name, or read), each with its object."""
+def drawings(
+    spec: Spec | str,
+    x: str,
+    *,
+    min_size: int = 0,
+    max_size: int = 100,
+    turns: int = 100_000,
+    program: str | None = None,
+) -> strategies.SearchStrategy:
+    """Runs of `boltz sample`, each with its object.
+
+    The specification is a text, the name of a file, or one that was read.
+    """
     return _drawings(source_of(spec, x, min_size, max_size, turns, program))
 
 
-def objects(spec: Spec | str, x: str, *, min_size: int = 0, max_size: int = 100, turns: int = 100_000,
-            program: str | None = None) -> strategies.SearchStrategy:
+def objects(
+    spec: Spec | str,
+    x: str,
+    *,
+    min_size: int = 0,
+    max_size: int = 100,
+    turns: int = 100_000,
+    program: str | None = None,
+) -> strategies.SearchStrategy:
     """The objects of such runs, as trees."""
     return _objects(source_of(spec, x, min_size, max_size, turns, program))

@@ -7,7 +7,7 @@ from __future__ import annotations
 import re
 from typing import Callable, Iterable, Iterator, Sequence, TypeVar
 
-from boltz.spec import Node, Spec
+from boltz.tables import Node, Spec
 
 OPEN = {"product": "(", "Seq": "[", "Set": "{", "Cyc": "<"}
 CLOSE = {"product": ")", "Seq": "]", "Set": "}", "Cyc": ">"}
@@ -15,7 +15,7 @@ LABEL = re.compile(r"#([1-9][0-9]*)")
 
 
 class NotObject(ValueError):
-    """The text is no object of the class; `place` is the first character that can't stand there."""
+    """The text is no object of the class; `place` is the first character that doesn't fit."""
 
     def __init__(self, place: int, wanted: str):
         super().__init__("no object: wanted %s at place %d" % (wanted, place))
@@ -25,10 +25,10 @@ class NotObject(ValueError):
 class Tree:
     """A node of an object.
 
-    `node` is the specification's node, never a reference; `names` are the classes that were passed to
-    reach it, such as `("B",)`, empty where it stands inside a class's body. `option` is the number of the
-    part of a union, `label` that of an atom. `parts` are the trees below: one of a union, all of a product
-    or collection, in the order of the text.
+    `node` is the specification's node, never a reference; `names` are the classes that were passed
+    to reach it, such as `("B",)`, empty where it is inside a class's body. `option` is the
+    number of the part of a union, `label` that of an atom. `parts` are the trees below: one of a
+    union, all of a product or collection, in the order of the text.
     """
 
     __slots__ = ("node", "names", "option", "label", "parts")
@@ -98,7 +98,7 @@ T = TypeVar("T")
 
 
 def render(root: T, pieces: Callable[[T], Iterable[T | str]]) -> str:
-    """The text of `root`, where `pieces` gives for each item the texts and items that it is made of."""
+    """The text of `root`, where `pieces` gives what each item is made of."""
     written: list[str] = []
     stack: list[T | str] = [root]
     while stack:
@@ -125,7 +125,7 @@ def text_pieces(tree: Tree) -> Iterator[Tree | str]:
         yield from joined(tree.parts, " ")
         yield CLOSE[tree.kind]
     elif tree.kind == "union":
-        yield "%d." % tree.option
+        yield "%s." % tree.option
         yield tree.parts[0]
     else:
         yield tree.word if tree.label is None else "%s#%d" % (tree.word, tree.label)
@@ -134,8 +134,8 @@ def text_pieces(tree: Tree) -> Iterator[Tree | str]:
 class ObjectReader:
     """Reads object texts of one class; made once and used for many objects.
 
-    The reader keeps a stack of the products and collections that are open. It goes down through unions
-    to a leaf or an empty collection, and then up through all that is complete there.
+    The reader keeps a stack of the products and collections that are open. It goes down through
+    unions to a leaf or an empty collection, and then up through all that is complete there.
     """
 
     def __init__(self, spec: Spec, name: int | str = 0):
@@ -144,7 +144,9 @@ class ObjectReader:
         self.root = (node, (spec.names[number],) + names)
         self.labelled = spec.labelled
         self.parts = [[spec.resolve(part) for part in node.parts] for node in spec.nodes]
-        self.options = [{str(option): option for option in range(len(node.parts))} for node in spec.nodes]
+        self.options = [
+            {str(option): option for option in range(len(node.parts))} for node in spec.nodes
+        ]
 
     def read(self, text: str) -> Tree:
         """The object that the text describes; NotObject where it describes none."""
@@ -161,10 +163,10 @@ class ObjectReader:
             else:
                 todo.append(tree)
                 at = self._expect(text, at, OPEN[kind])
-                if kind == "product" or text[at:at + 1] != CLOSE[kind]:
+                if kind == "product" or text[at : at + 1] != CLOSE[kind]:
                     tree = self._part(tree)
                     continue
-            while todo and text[at:at + 1] == CLOSE[todo[-1].node.kind]:
+            while todo and text[at : at + 1] == CLOSE[todo[-1].node.kind]:
                 self._check_count(todo.pop(), at)
                 at += 1
             if not todo:
@@ -177,7 +179,7 @@ class ObjectReader:
 
     def _expect(self, text: str, at: int, wanted: str) -> int:
         """The place after the wanted character."""
-        if text[at:at + 1] != wanted:
+        if text[at : at + 1] != wanted:
             raise NotObject(at, repr(wanted))
         return at + 1
 
@@ -215,14 +217,14 @@ class ObjectReader:
             raise NotObject(at, repr(CLOSE["product"]))
         else:
             part = Tree(*choices[len(tree.parts)])
-        if tree.parts:
+        if isinstance(tree.parts, list):
             tree.parts.append(part)
         else:
             tree.parts = [part]
         return part
 
     def _check_count(self, tree: Tree, at: int) -> None:
-        """Whether a product or collection that ends at `at` has as many parts as its node allows."""
+        """Refuses a product or collection that ends at `at` with a wrong number of parts."""
         node, count = tree.node, len(tree.parts)
         if node.kind == "product":
             if count < len(node.parts):

@@ -18,8 +18,12 @@ def draw_dot(dot: str, path: str, layout: str = "dot", dpi: int = 96) -> None:
     if shutil.which(layout) is None:
         raise NoPicture("%s isn't installed: run companions/setup" % layout)
     kind = os.path.splitext(path)[1][1:] or "svg"
-    ran = subprocess.run([layout, "-T" + kind, "-Gdpi=%d" % dpi, "-o", path], input=dot.encode(),
-                         stderr=subprocess.PIPE, check=False)
+    ran = subprocess.run(
+        [layout, "-T" + kind, "-Gdpi=%d" % dpi, "-o", path],
+        input=dot.encode(),
+        stderr=subprocess.PIPE,
+        check=False,
+    )
     if ran.returncode:
         raise NoPicture("%s: %s" % (layout, ran.stderr.decode("utf-8", "replace").strip()))
 
@@ -43,17 +47,31 @@ def save(figure, path: str, dpi: int = 80) -> None:
     figure.savefig(path, dpi=dpi)
 
 
-def plot_sizes(summary: Summary, law: Sequence[float] | None, window: tuple[int, int], path: str) -> None:
+def plot_sizes(
+    summary: Summary, law: Sequence[float] | None, window: tuple[int, int], path: str
+) -> None:
     """The share of each size, and the law within the window where it is given (by size from 0)."""
     figure, (axes,) = plain_axes()
     counts, total = summary.sizes.counts, summary.sizes.total
     sizes = range(min(counts), max(counts) + 1)
-    axes.bar(sizes, [counts[size] / total for size in sizes], width=1.0, color="#9db8d2", label="%d objects" % total)
+    axes.bar(
+        sizes,
+        [counts[size] / total for size in sizes],
+        width=1.0,
+        color="#9db8d2",
+        label="%d objects" % total,
+    )
     if law is not None:
         low, high = window[0], min(window[1], len(law) - 1)
-        inside = sum(law[low:high + 1])
+        inside = sum(law[low : high + 1])
         shown = range(max(low, min(counts)), min(high, max(counts)) + 1)
-        axes.plot(shown, [law[size] / inside for size in shown], color="#b03030", linewidth=1.2, label="law")
+        axes.plot(
+            shown,
+            [law[size] / inside for size in shown],
+            color="#b03030",
+            linewidth=1.2,
+            label="law",
+        )
     axes.set_xlabel("size")
     axes.set_ylabel("share of the objects")
     axes.legend(frameon=False)
@@ -62,15 +80,19 @@ def plot_sizes(summary: Summary, law: Sequence[float] | None, window: tuple[int,
 
 def plot_options(summary: Summary, path: str) -> None:
     """The share of each option at each union."""
-    unions = sorted(summary.options) or [None]
+    unions = sorted(summary.options)
+    if not unions:
+        raise NoPicture("no object has a union")
     figure, every = plain_axes(len(unions), max(3.2 * len(unions), 4.0))
     for axes, number in zip(every, unions):
-        if number is None:
-            continue
         counts = summary.options[number]
         options = range(len(summary.spec.nodes[number].parts))
         total = sum(counts.values())
-        axes.bar([str(option) for option in options], [counts[option] / total for option in options], color="#9db8d2")
+        axes.bar(
+            [str(option) for option in options],
+            [counts[option] / total for option in options],
+            color="#9db8d2",
+        )
         axes.set_title("node %d: %s" % (number, summary.spec.node_text(number)[:30]), fontsize=9)
         axes.set_xlabel("option")
     every[0].set_ylabel("share")
@@ -86,7 +108,12 @@ def plot_cycles(summary: Summary, path: str) -> None:
     for axes, number in zip(every, found):
         counts = summary.parts[number].counts
         lengths = range(1, max(counts) + 1)
-        axes.bar(lengths, [counts[length] / summary.sizes.total for length in lengths], width=0.9, color="#9db8d2")
+        axes.bar(
+            lengths,
+            [counts[length] / summary.sizes.total for length in lengths],
+            width=0.9,
+            color="#9db8d2",
+        )
         axes.set_title("node %d: %s" % (number, summary.spec.node_text(number)[:30]), fontsize=9)
         axes.set_xlabel("length of the cycle")
     every[0].set_ylabel("cycles of this length in an object")

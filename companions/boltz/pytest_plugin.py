@@ -1,6 +1,7 @@
 """A pytest plug-in that saves what the program printed for a failing example of `boltz.hypothesis`.
 
-Use it by `pytest -p boltz.pytest_plugin`, or by `pytest_plugins = ["boltz.pytest_plugin"]` in conftest.py.
+Use it by `pytest -p boltz.pytest_plugin`, or by `pytest_plugins = ["boltz.pytest_plugin"]` in
+conftest.py.
 """
 from __future__ import annotations
 
@@ -14,8 +15,12 @@ import pytest
 
 def pytest_addoption(parser) -> None:
     """Where certificates are saved."""
-    parser.addoption("--boltz-failures", default=".boltz-failures", metavar="DIR",
-                     help="where certificates of failing examples are saved")
+    parser.addoption(
+        "--boltz-failures",
+        default=".boltz-failures",
+        metavar="DIR",
+        help="where certificates of failing examples are saved",
+    )
 
 
 def recorder():
@@ -36,18 +41,26 @@ def pytest_runtest_makereport(item, call):
     outcome = yield
     report = outcome.get_result()
     if call.when == "call" and report.failed and recorder() and recorder().drawings:
-        folder = os.path.join(item.config.getoption("--boltz-failures"), re.sub(r"[^A-Za-z0-9_.-]+", "-", item.nodeid))
-        lines = [save(drawing, folder, number) for number, drawing in enumerate(recorder().drawings, 1)]
+        folder = os.path.join(
+            item.config.getoption("--boltz-failures"), re.sub(r"[^A-Za-z0-9_.-]+", "-", item.nodeid)
+        )
+        lines = [
+            save(drawing, folder, number) for number, drawing in enumerate(recorder().drawings, 1)
+        ]
         report.sections.append(("boltz", "\n".join(lines)))
 
 
 def save(drawing, folder: str, number: int) -> str:
-    """Writes one drawing; the line that tells where it is."""
+    """Writes one drawing; a line that says where it is."""
     place = os.path.join(folder, str(number))
     os.makedirs(place, exist_ok=True)
     words = "boltz %s\n" % shlex.join(drawing.words)
-    for name, content in (("spec", drawing.spec), ("tape", drawing.tape), ("certificate", drawing.certificate),
-                          ("words", words.encode())):
+    for name, content in (
+        ("spec", drawing.spec),
+        ("tape", drawing.tape),
+        ("certificate", drawing.certificate),
+        ("words", words.encode()),
+    ):
         with open(os.path.join(place, name), "wb") as file:
             file.write(content)
     return "object %s\ncertificate %s" % (drawing.tree.text(), os.path.join(place, "certificate"))

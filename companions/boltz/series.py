@@ -1,7 +1,7 @@
 """The law of sizes: the weights of the objects of each size, as floating-point numbers.
 
-An object of size n has weight x^n, in labelled mode x^n / n!. These numbers are estimates, to be set
-beside what the program draws; nothing here is an enclosure.
+An object of size n has weight x^n, in labelled mode x^n / n!. These numbers are estimates, to be
+set beside what the program draws; nothing here is an enclosure.
 """
 from __future__ import annotations
 
@@ -10,7 +10,7 @@ from math import factorial
 from operator import mul
 from typing import Callable
 
-from boltz.spec import Node, Spec
+from boltz.tables import Node, Spec
 
 Series = list[float]
 Step = Callable[[int], None]
@@ -27,16 +27,18 @@ def size_weights(spec: Spec, x: float, most: int) -> Series:
 
 
 class Weights:
-    """A series for each node, and for some numbers between nodes; and the steps that find their entries.
+    """A series for each node, and for some numbers between nodes; and the steps that find their
+    entries.
 
-    A step needs other entries of the same size only where what stands beside them has an object of size
-    0. In a specification that is well founded the steps have an order in which each finds what it needs.
+    A step needs other entries of the same size only where what is beside them has an object of
+    size 0. In a specification that is well founded the steps have an order in which each finds what
+    it needs.
     """
 
     def __init__(self, spec: Spec, x: float, most: int):
         self.spec, self.x, self.most = spec, x, most
         self.series: list[Series] = []
-        self.zero: list[bool] = []          # whether the entry for size 0 may be other than 0
+        self.zero: list[bool] = []  # whether the entry for size 0 may be other than 0
         self.steps: dict[int, Step] = {}
         self.needs: dict[int, list[int]] = {}
         _, zero = spec.inhabited()
@@ -77,7 +79,9 @@ class Weights:
             self.sum(out, [(1.0, part) for part in parts])
         elif node.kind == "product":
             for part in parts[1:-1]:
-                parts[0] = self.times(parts[0], part, self.empty(self.zero[parts[0]] and self.zero[part]))
+                parts[0] = self.times(
+                    parts[0], part, self.empty(self.zero[parts[0]] and self.zero[part])
+                )
             self.times(parts[0], parts[-1], out)
         else:
             self.collect(node, parts[0], out)
@@ -88,6 +92,7 @@ class Weights:
 
         def step(n: int) -> None:
             target[n] = sum(factor * part[n] for factor, part in chosen)
+
         return self.add(out, [part for _, part in terms], step)
 
     def times(self, a: int, b: int, out: int) -> int:
@@ -95,11 +100,12 @@ class Weights:
         left, right, target = self.series[a], self.series[b], self.series[out]
 
         def step(n: int) -> None:
-            target[n] = sum(map(mul, left[:n + 1], right[n::-1]))
+            target[n] = sum(map(mul, left[: n + 1], right[n::-1]))
+
         return self.add(out, [a] * self.zero[b] + [b] * self.zero[a], step)
 
     def collect(self, node: Node, part: int, out: int) -> None:
-        """The collections of a node: a sum of powers, or all collections from the least number of parts on."""
+        """The collections of a node: a sum of powers, or all from the least number of parts on."""
         if node.high is not None:
             powers = self.powers(part, node.high)
             chosen = range(node.low, node.high + 1)
@@ -123,7 +129,8 @@ class Weights:
         values, target = self.series[part], self.series[every]
 
         def step(n: int) -> None:
-            target[n] = sum(map(mul, values[1:n + 1], target[n - 1::-1])) if n else 1.0
+            target[n] = sum(map(mul, values[1 : n + 1], target[n - 1 :: -1])) if n else 1.0
+
         self.add(every, [part], step)
         return self.times(self.powers(part, low)[low], every, out)
 
@@ -134,19 +141,21 @@ class Weights:
 
         def step(n: int) -> None:
             target[n] = n * values[n]
+
         return self.add(out, [part], step)
 
     def integral(self, slopes: int, beside: int, out: int) -> int:
         """The series whose slopes are `slopes` times `beside`; its entry for size 0 stays.
 
-        With `beside` the sets of one part less this gives the sets of at least so many parts; with the
-        sequences of one part less, the cycles.
+        With `beside` the sets of one part less this gives the sets of at least as many parts; with
+        the sequences of one part less, the cycles.
         """
         left, right, target = self.series[slopes], self.series[beside], self.series[out]
 
         def step(n: int) -> None:
             if n:
-                target[n] = sum(map(mul, left[1:n + 1], right[n - 1::-1])) / n
+                target[n] = sum(map(mul, left[1 : n + 1], right[n - 1 :: -1])) / n
+
         return self.add(out, [slopes] * self.zero[beside], step)
 
     def powers(self, part: int, highest: int) -> list[int]:
@@ -155,7 +164,9 @@ class Weights:
         self.series[one][0] = 1.0
         powers = [one]
         for _ in range(highest):
-            powers.append(self.times(powers[-1], part, self.empty(self.zero[powers[-1]] and self.zero[part])))
+            powers.append(
+                self.times(powers[-1], part, self.empty(self.zero[powers[-1]] and self.zero[part]))
+            )
         return powers
 
 

@@ -1,28 +1,29 @@
 """One run in many shards: seeds S, S + 1, .., one certificate each, verified where it was made.
 
-A folder has the plan (`manifest.json`), the specification (`spec`) and for each shard a certificate and a
-receipt. A shard is complete where its receipt is there and its certificate has the receipt's digest, so
-that a run that was killed goes on where it stopped. An ending other than `done` is an outcome of the
-shard and is counted; only failures of the machine are tried again.
+A folder has the plan (`manifest.json`), the specification (`spec`) and for each shard a certificate
+and a receipt. A shard is complete where its receipt is there and its certificate has the receipt's
+digest, so that a run that was killed goes on where it stopped. An ending other than `done` is an
+outcome of the shard and is counted; only failures of the machine are tried again.
 """
 from __future__ import annotations
 
 import json
 import os
 import platform
+import re
 import time
 from collections import Counter
 from dataclasses import asdict, dataclass
-from typing import Iterator, Sequence
+from typing import Any, Iterator, Sequence
 
 from boltz import VERSION
 from boltz.certificate import closing_of
 from boltz.program import STATUSES, Program, Ran, file_digest, folder_with
 from boltz.spec import read_spec
 
-OUTCOMES = (0, 5, 6, 7)         # statuses of a drawing that has ended by its own rules
+OUTCOMES = (0, 5, 6, 7)  # statuses of a drawing that has ended by its own rules
 MANIFEST = "manifest.json"
-RETRIES = 3                     # of a shard that failed
+RETRIES = 3  # of a shard that failed
 
 
 class ShardError(RuntimeError):
@@ -31,7 +32,10 @@ class ShardError(RuntimeError):
 
 @dataclass(frozen=True)
 class Plan:
-    """What every shard is made from. `words` are those of `boltz sample` after the file, without a seed."""
+    """What every shard is made from.
+
+    `words` are those of `boltz sample` after the file, without a seed.
+    """
 
     spec: str
     digest: str
@@ -48,7 +52,7 @@ class Plan:
 
 @dataclass(frozen=True)
 class Receipt:
-    """What is known of a shard that was made. `verified` is None where the program has no `verify`."""
+    """What is known of a shard. `verified` is None where the program has no `verify`."""
 
     shard: int
     seed: int
@@ -67,41 +71,68 @@ class Receipt:
     worker: str
 
 
-Made = tuple[int, "Receipt | BaseException"]     # a shard's number, and its receipt or what went wrong
+Made = tuple[int, "Receipt | BaseException"]  # a shard's number, and its receipt or what went wrong
 
 
-def make_plan(spec_text: str, words: Sequence[str], first_seed: int, shards: int, program: Program) -> Plan:
+def make_plan(
+    spec_text: str, words: Sequence[str], first_seed: int, shards: int, program: Program
+) -> Plan:
     """The plan of a run; refused where the program refuses the specification or the words."""
-    plan = Plan(spec_text, read_spec(spec_text).digest(), tuple(words), first_seed, shards, program.digest())
+    plan = Plan(
+        spec_text, read_spec(spec_text).digest(), tuple(words), first_seed, shards, program.digest()
+    )
     with folder_with(spec=spec_text) as folder:
         program.run("spec", "spec", folder=folder).needed()
-        program.run("sample", "spec", *with_one_turn(words), "--seed", str(first_seed), folder=folder).needed(0, 7)
+        program.run(
+            "sample", "spec", *with_one_turn(words), "--seed", str(first_seed), folder=folder
+        ).needed(0, 7)
     return plan
 
 
 def with_one_turn(words: Sequence[str]) -> list[str]:
     """The words of a run that ends after one turn."""
     at = words.index("--turns") if "--turns" in words else len(words)
-    return [*words[:at], "--turns", "1", *words[at + 2:]]
+    return [*words[:at], "--turns", "1", *words[at + 2 :]]
 
 
 def make_shard(plan: Plan, shard: int, program: Program, path: str) -> Receipt:
     """Makes one shard and verifies it; its certificate is at `path` afterwards."""
     if program.digest() != plan.program:
-        raise ShardError("%s isn't the program of the plan: its digest is %s" % (program.path, program.digest()))
+        raise ShardError(
+            "%s isn't the program of the plan: its digest is %s" % (program.path, program.digest())
+        )
     begun = time.monotonic()
     with folder_with(spec=plan.spec) as folder:
         spec = os.path.join(folder, "spec")
-        status = program.run_to(path, ("sample", spec, *plan.words, "--seed", str(plan.seed(shard))))
+        status = program.run_to(
+            path, ("sample", spec, *plan.words, "--seed", str(plan.seed(shard)))
+        )
         if status not in OUTCOMES:
-            raise ShardError("shard %d ended with status %d (%s)" % (shard, status, STATUSES.get(status, "unknown")))
+            raise ShardError(
+                "shard %d ended with status %d (%s)"
+                % (shard, status, STATUSES.get(status, "unknown"))
+            )
         verified = is_valid(program.run("verify", spec, path))
     if verified is False:
         raise ShardError("the certificate of shard %d isn't valid" % shard)
     closing = closing_of(path)
-    return Receipt(shard, plan.seed(shard), status, closing.word, closing.kept, closing.rejected, closing.bits,
-                   closing.turns, closing.undecided, os.path.getsize(path), file_digest(path), verified,
-                   round(time.monotonic() - begun, 3), platform.node(), "%d" % os.getpid())
+    return Receipt(
+        shard,
+        plan.seed(shard),
+        status,
+        closing.word,
+        closing.kept,
+        closing.rejected,
+        closing.bits,
+        closing.turns,
+        closing.undecided,
+        os.path.getsize(path),
+        file_digest(path),
+        verified,
+        round(time.monotonic() - begun, 3),
+        platform.node(),
+        "%d" % os.getpid(),
+    )
 
 
 def is_valid(ran: Ran) -> bool | None:
@@ -139,8 +170,9 @@ class Folder:
     def _read_plan(self) -> Plan:
         """The plan in the manifest."""
         with open(os.path.join(self.path, MANIFEST)) as file:
-            fields = json.load(file)["plan"]
-        return Plan(**{**fields, "words": tuple(fields["words"])})
+            fields: dict[str, Any] = json.load(file)["plan"]
+        fields["words"] = tuple(fields["words"])
+        return Plan(**fields)
 
     def certificate(self, shard: int) -> str:
         """Where a shard's certificate is."""
@@ -151,7 +183,7 @@ class Folder:
         return os.path.join(self.path, "%06d.json" % shard)
 
     def receipt(self, shard: int) -> Receipt | None:
-        """The receipt of a complete shard, None where it isn't there or the certificate differs from it."""
+        """The receipt of a complete shard; None where it, or the certificate, isn't right."""
         try:
             with open(self.receipt_path(shard)) as file:
                 receipt = Receipt(**json.load(file))
@@ -159,6 +191,13 @@ class Folder:
         except (OSError, ValueError, TypeError):
             return None
         return receipt if whole and receipt.seed == self.plan.seed(shard) else None
+
+    def sweep(self) -> None:
+        """Removes what processes of this machine left half-written when they were killed."""
+        for name in os.listdir(self.path):
+            found = PART.search(name)
+            if found and found.group(1) == platform.node() and not is_alive(int(found.group(2))):
+                os.remove(os.path.join(self.path, name))
 
     def missing(self) -> list[int]:
         """The shards that aren't complete."""
@@ -169,7 +208,7 @@ class Folder:
         done = self.receipt(shard)
         if done is not None:
             return done
-        part = "%s.part-%s-%d-%d" % (self.certificate(shard), platform.node(), os.getpid(), time.monotonic_ns())
+        part = part_of(self.certificate(shard))
         try:
             receipt = make_shard(self.plan, shard, program, part)
             os.replace(part, self.certificate(shard))
@@ -188,8 +227,12 @@ class Folder:
         """The receipts of all complete shards, which are written into the manifest too."""
         found = [self.receipt(shard) for shard in range(self.plan.shards)]
         receipts = [receipt for receipt in found if receipt is not None]
-        replace(os.path.join(self.path, MANIFEST),
-                as_json({"plan": asdict(self.plan), "shards": [asdict(receipt) for receipt in receipts]}))
+        replace(
+            os.path.join(self.path, MANIFEST),
+            as_json(
+                {"plan": asdict(self.plan), "shards": [asdict(receipt) for receipt in receipts]}
+            ),
+        )
         return receipts
 
     def merged(self) -> Iterator[bytes]:
@@ -203,6 +246,25 @@ class Folder:
                     yield piece
 
 
+PART = re.compile(r"\.part-(.*)-(\d+)-\d+$")
+
+
+def part_of(path: str) -> str:
+    """Where a file is written before it is whole: a name with machine and process."""
+    return "%s.part-%s-%d-%d" % (path, platform.node(), os.getpid(), time.monotonic_ns())
+
+
+def is_alive(process: int) -> bool:
+    """Whether a process of this machine is there."""
+    try:
+        os.kill(process, 0)
+    except ProcessLookupError:
+        return False
+    except PermissionError:
+        pass
+    return True
+
+
 def as_json(value: object) -> bytes:
     """A JSON text."""
     return (json.dumps(value, indent=1) + "\n").encode()
@@ -210,7 +272,7 @@ def as_json(value: object) -> bytes:
 
 def replace(path: str, content: bytes) -> None:
     """Writes a file such that it is never seen half-written."""
-    part = "%s.part-%d-%d" % (path, os.getpid(), time.monotonic_ns())
+    part = part_of(path)
     with open(part, "wb") as file:
         file.write(content)
         file.flush()
@@ -225,30 +287,44 @@ def shortened(numbers: Sequence[int], most: int = 10) -> str:
 
 
 BIAS = {
-    "tape-ended": "their tapes were used up",
-    "undecided": "60 bits left a number open; the objects before it are in the merged stream. To leave such shards "
-                 "out, or to draw others in their place, would favour objects of fewer numbers",
-    "turn-limit": "the limit of turns was reached; the objects before it are in the merged stream. Large objects take "
-                  "more turns, so the one that was cut short is more often a large one: the sizes lean to small ones, "
-                  "the more so if such shards are left out. Give more --turns",
+    "tape-ended": "their tapes were used up; the objects before are in the merged stream",
+    "undecided": (
+        "60 bits left a number open; the objects before it are in the merged stream. To leave such "
+        "shards out, or to draw others in their place, would favour objects of fewer numbers"
+    ),
+    "turn-limit": (
+        "the limit of turns was reached; the objects before it are in the merged stream. Large "
+        "objects take more turns, so the one that was cut short is more often a large one: the "
+        "sizes lean to small ones, the more so if such shards are left out. Give more --turns"
+    ),
 }
 
 
 def report(plan: Plan, receipts: Sequence[Receipt]) -> list[str]:
     """What came of a run, in lines; every ending is counted."""
     kept, rejected = sum(r.kept for r in receipts), sum(r.rejected for r in receipts)
-    lines = ["%d of %d shards, %d objects kept, %d attempts rejected" % (len(receipts), plan.shards, kept, rejected)]
+    lines = [
+        "%d of %d shards, %d objects kept, %d attempts rejected"
+        % (len(receipts), plan.shards, kept, rejected)
+    ]
     for ending, count in sorted(Counter(r.ending for r in receipts).items()):
         short = ": " + BIAS[ending] if ending in BIAS else ""
         lines.append("ended by %s: %d%s" % (ending, count, short))
     verified = sum(r.verified is True for r in receipts)
-    lines.append("verified: %d%s" % (verified, "" if verified == len(receipts) else
-                                     "; the others not, since this build of the program has no verify yet"))
+    lines.append(
+        "verified: %d%s"
+        % (
+            verified,
+            ""
+            if verified == len(receipts)
+            else "; the others not, since this build of the program has no verify yet",
+        )
+    )
     return lines
 
 
 def status_of(plan: Plan, receipts: Sequence[Receipt]) -> int:
-    """0 where all shards are there and ended by `done`; else 1, or the first other ending's status."""
+    """0 where all shards are there and ended by `done`; else 1, or the first other status."""
     if len(receipts) < plan.shards:
         return 1
     return next((r.status for r in receipts if r.status), 0)

@@ -1,4 +1,6 @@
-"""Makes shards on this machine: each of some threads waits for one process of the program at a time."""
+"""Makes shards on this machine: each of some threads waits for one process of the program at a
+time.
+"""
 from __future__ import annotations
 
 from concurrent.futures import ThreadPoolExecutor, as_completed
@@ -8,7 +10,9 @@ from boltz.program import Program, ProgramError
 from boltz.shards import RETRIES, Folder, Made, Receipt, ShardError
 
 
-def run_local(folder: Folder, shards: Sequence[int], program: Program, workers: int) -> Iterator[Made]:
+def run_local(
+    folder: Folder, shards: Sequence[int], program: Program, workers: int
+) -> Iterator[Made]:
     """The shards as they are made, or what went wrong with them."""
     with ThreadPoolExecutor(workers) as pool:
         futures = {pool.submit(make_again, folder, shard, program): shard for shard in shards}

@@ -1,14 +1,15 @@
-"""Reads specifications: classes, numbered nodes with their places in the text, canonical text.
+"""Reads specifications.
 
-The language is the one of `docs/formats.md`. What this reader refuses, `boltz spec` refuses with the
-same words. Whether a specification is well founded is asked of the program.
+The language is the one of `docs/formats.md`. What this reader refuses, `boltz spec` refuses with
+the same words. Whether a specification is well founded is asked of the program.
 """
 from __future__ import annotations
 
-import hashlib
 import re
-from dataclasses import dataclass, field
+from dataclasses import dataclass, field, replace
 from typing import Iterator, NoReturn
+
+from boltz.tables import COUNTED, LEAVES, Node, Spec, SpecRefused
 
 MOST_BYTES = 65_536
 MOST_CLASSES = 64
@@ -17,177 +18,6 @@ MOST_DEPTH = 64
 MOST_NODES = 512
 MOST_LETTERS = 32
 
-COUNTED = {"Seq": 0, "Set": 0, "Cyc": 1}     # kind: the least number of parts of the plain form
-LEAVES = ("E", "Z")
-
-
-class SpecRefused(ValueError):
-    """The text is no specification. The message is the program's line without `refused spec`."""
-
-    def __init__(self, reason: str, line: int | None = None, column: int | None = None):
-        super().__init__(reason)
-        self.line, self.column = line, column
-
-
-@dataclass(frozen=True)
-class Node:
-    """A node of a specification, with the place at which its text begins.
-
-    `kind` is E, Z, class, union, product, Seq, Set or Cyc. `word` is the word of a leaf, empty where it
-    has none. `target` is the number of the class that a reference names. `low` and `high` bound the
-    number of parts of Seq, Set and Cyc; `high` is None where there is no bound.
-    """
-
-    number: int
-    kind: str
-    owner: int
-    line: int
-    column: int
-    start: int
-    end: int
-    word: str = ""
-    target: int | None = None
-    parts: tuple[int, ...] = ()
-    low: int = 0
-    high: int | None = None
-
-    @property
-    def is_counted(self) -> bool:
-        """Whether it is a Seq, a Set or a Cyc."""
-        return self.kind in COUNTED
-
-    @property
-    def operator(self) -> str:
-        """The bound as canonical text has it, such as `>=1`; empty for the plain form."""
-        if self.low == self.high:
-            return "=%d" % self.low
-        if self.high is not None:
-            return "<=%d" % self.high
-        return "" if self.low == COUNTED[self.kind] else ">=%d" % self.low
-
-
-@dataclass
-class Spec:
-    """A specification as tables. Class 0 is the root; `bodies` has each class's last node."""
-
-    labelled: bool
-    names: list[str] = field(default_factory=list)
-    bodies: list[int] = field(default_factory=list)
-    nodes: list[Node] = field(default_factory=list)
-    source: str = ""
-
-    @property
-    def mode(self) -> str:
-        """`labelled` or `unlabelled`."""
-        return "labelled" if self.labelled else "unlabelled"
-
-    def body(self, name: int | str = 0) -> Node:
-        """The body of a class, named by number or name."""
-        number = self.names.index(name) if isinstance(name, str) else name
-        return self.nodes[self.bodies[number]]
-
-    def resolve(self, number: int) -> tuple[Node, tuple[str, ...]]:
-        """The node that is reached from node `number` through class references, and their names."""
-        names: list[str] = []
-        node = self.nodes[number]
-        while node.kind == "class":
-            if len(names) > len(self.names):
-                raise ValueError("class %s has no object" % names[0])
-            names.append(self.names[node.target])
-            node = self.nodes[self.bodies[node.target]]
-        return node, tuple(names)
-
-    def snippet(self, node: Node) -> str:
-        """The text of a node as it stands in the source, in one line."""
-        return " ".join(self.source[node.start:node.end].split())
-
-    def node_text(self, number: int) -> str:
-        """The canonical text of a node."""
-        texts: dict[int, str] = {}
-        for node in self.below(number):
-            texts[node.number] = self._text_over(node, texts)
-        return texts[number]
-
-    def below(self, number: int) -> Iterator[Node]:
-        """The nodes of the expression at `number`, each after its parts; references aren't followed."""
-        stack, order = [number], []
-        while stack:
-            node = self.nodes[stack.pop()]
-            order.append(node)
-            stack.extend(node.parts)
-        return reversed(order)
-
-    def _text_over(self, node: Node, texts: dict[int, str]) -> str:
-        """The canonical text of a node, given the texts of its parts."""
-        def inner(part: int, kinds: tuple[str, ...]) -> str:
-            return "(%s)" % texts[part] if self.nodes[part].kind in kinds else texts[part]
-
-        if node.kind in LEAVES:
-            return node.kind + (":" + node.word if node.word else "")
-        if node.kind == "class":
-            return self.names[node.target]
-        if node.kind == "union":
-            return " + ".join(inner(part, ("union",)) for part in node.parts)
-        if node.kind == "product":
-            return "*".join(inner(part, ("union", "product")) for part in node.parts)
-        return "%s%s(%s)" % (node.kind, node.operator, texts[node.parts[0]])
-
-    def canonical(self) -> str:
-        """The canonical text: the mode, then a line for each class."""
-        lines = [self.mode]
-        lines += ["%s = %s" % (name, self.node_text(body)) for name, body in zip(self.names, self.bodies)]
-        return "".join(line + "\n" for line in lines)
-
-    def digest(self) -> str:
-        """The SHA-256 digest of the canonical text, as in the header of a certificate."""
-        return hashlib.sha256(self.canonical().encode()).hexdigest()
-
-    def inhabited(self) -> tuple[list[bool], list[bool]]:
-        """For each node: whether it has an object, and whether it has one of size 0."""
-        return self._least(True), self._least(False)
-
-    def zero_steps(self, number: int) -> set[int]:
-        """The classes that stand in a class's body with nothing but objects of size 0 beside them."""
-        _, zero = self.inhabited()
-        found, stack = set(), [self.bodies[number]]
-        while stack:
-            node = self.nodes[stack.pop()]
-            if node.kind == "class":
-                found.add(node.target)
-            elif node.kind == "union":
-                stack.extend(node.parts)
-            elif node.kind == "product":
-                stack.extend(part for i, part in enumerate(node.parts)
-                             if all(zero[other] for j, other in enumerate(node.parts) if j != i))
-            elif node.is_counted and (node.low < 2 or zero[node.parts[0]]):
-                stack.append(node.parts[0])
-        return found
-
-    def _least(self, with_atoms: bool) -> list[bool]:
-        """The least relation by which nodes have objects, those with atoms counted or not."""
-        has = [False] * len(self.nodes)
-        changed = True
-        while changed:
-            changed = False
-            for node in self.nodes:
-                if not has[node.number] and self._has(node, has, with_atoms):
-                    has[node.number] = changed = True
-        return has
-
-    def _has(self, node: Node, has: list[bool], with_atoms: bool) -> bool:
-        """One case of that relation."""
-        if node.kind in LEAVES:
-            return node.kind == "E" or with_atoms
-        if node.kind == "class":
-            return has[self.bodies[node.target]]
-        if node.kind == "union":
-            return any(has[part] for part in node.parts)
-        if node.kind == "product":
-            return all(has[part] for part in node.parts)
-        return node.low == 0 or has[node.parts[0]]
-
-
-# Tokens.
 
 @dataclass(frozen=True)
 class Token:
@@ -205,15 +35,17 @@ class Token:
         return self.start + len(self.text)
 
 
-PIECE = re.compile(r"(?P<blank>[ \t\r]+|#[^\n]*)|(?P<eol>\n)|(?P<leaf>[EZ]:[A-Za-z0-9_]+)"
-                   r"|(?P<run>[A-Za-z0-9_]+)|(?P<sign>>=|<=|[=+*()])|(?P<bad>.)")
+PIECE = re.compile(
+    r"(?P<blank>[ \t\r]+|#[^\n]*)|(?P<eol>\n)|(?P<leaf>[EZ]:[A-Za-z0-9_]+)"
+    r"|(?P<run>[A-Za-z0-9_]+)|(?P<sign>>=|<=|[=+*()])|(?P<bad>.)"
+)
 
 
 def tokens_of(text: str) -> Iterator[Token]:
     """The tokens; lines without tokens give none."""
     line, line_start, filled = 1, 0, False
     for match in PIECE.finditer(text):
-        kind, piece, start = match.lastgroup, match.group(), match.start()
+        kind, piece, start = match.lastgroup or "bad", match.group(), match.start()
         if kind == "eol":
             if filled:
                 yield Token("eol", piece, start, line, start - line_start + 1)
@@ -225,7 +57,7 @@ def tokens_of(text: str) -> Iterator[Token]:
 
 
 def _kind_of(kind: str, piece: str) -> str:
-    """The kind of a token that isn't the end of a line; `bad` where it can stand nowhere."""
+    """The kind of a token that isn't the end of a line; `bad` where it fits nowhere."""
     if kind == "leaf":
         return "leaf" if len(piece) - 2 <= MOST_LETTERS else "bad"
     if kind == "run":
@@ -236,6 +68,7 @@ def _kind_of(kind: str, piece: str) -> str:
 
 
 # The grammar.
+
 
 @dataclass(frozen=True)
 class Piece:
@@ -248,9 +81,11 @@ class Piece:
 
 @dataclass
 class Level:
-    """A sum that is being read: its finished products, the factors of the last one, what encloses it.
+    """A sum that is being read: its finished products, the factors of the last one, what encloses
+    it.
 
-    `outer` is the parenthesis or the word Seq, Set or Cyc that opened it, None for a definition's sum.
+    `outer` is the parenthesis or the word Seq, Set or Cyc that opened it, None for a definition's
+    sum.
     """
 
     counted: tuple[str, int, int | None] | None = None
@@ -271,9 +106,10 @@ class Reader:
         self.depths: list[int] = []
 
     def refuse(self, token: Token) -> NoReturn:
-        """The token can't stand where it stands."""
-        raise SpecRefused("syntax line %d column %d" % (token.line, token.column),
-                          token.line, token.column)
+        """No text of the grammar has the token here."""
+        raise SpecRefused(
+            "syntax line %d column %d" % (token.line, token.column), token.line, token.column
+        )
 
     def take(self, kind: str, *texts: str) -> Token:
         """The next token, which must be of this kind and, where texts are given, one of them."""
@@ -341,9 +177,16 @@ class Reader:
             low, high = self.bound(token.text)
             self.take("sign", "(")
             if token.text != "Seq" and not self.spec.labelled:
-                self.faults.append((token.start, SpecRefused(
-                    "needs labels line %d column %d" % (token.line, token.column),
-                    token.line, token.column)))
+                self.faults.append(
+                    (
+                        token.start,
+                        SpecRefused(
+                            "needs labels line %d column %d" % (token.line, token.column),
+                            token.line,
+                            token.column,
+                        ),
+                    )
+                )
             stack.append(Level((token.text, low, high), token))
             return False
         stack[-1].factors.append(self.leaf(token))
@@ -372,8 +215,9 @@ class Reader:
         return {">=": (value, None), "<=": (COUNTED[kind], value), "=": (value, value)}[token.text]
 
     def close(self, stack: list[Level]) -> None:
-        """A sum in parentheses is complete: it, or the counted node over it, is a factor outside."""
+        """A sum in parentheses is complete: it, or the node over it, is a factor outside."""
         level = stack.pop()
+        assert level.outer is not None
         end = self.tokens[self.at - 1].end
         piece = Piece(self.total(level).number, level.outer, end)
         if level.counted is not None:
@@ -401,23 +245,40 @@ class Reader:
     def add(self, first: Token, end: int, kind: str, **rest) -> Piece:
         """A new node whose text goes from the token `first` to the place `end`."""
         number = len(self.spec.nodes)
-        self.spec.nodes.append(Node(number, kind, len(self.spec.names) - 1, first.line, first.column,
-                                    first.start, end, **rest))
+        self.spec.nodes.append(
+            Node(
+                number,
+                kind,
+                len(self.spec.names) - 1,
+                first.line,
+                first.column,
+                first.start,
+                end,
+                **rest,
+            )
+        )
         parts = rest.get("parts", ())
         self.depths.append(1 + max((self.depths[part] for part in parts), default=0))
         return Piece(number, first, end)
 
     def resolve(self) -> None:
-        """Each reference gets its class; the first of the faults that grammar doesn't see is raised."""
+        """Each reference gets its class; the first fault that the grammar doesn't see is raised."""
         numbers = {name: number for number, name in reversed(list(enumerate(self.spec.names)))}
         for number, token in self.references:
             if token.text not in numbers:
-                self.faults.append((token.start, SpecRefused(
-                    "undefined line %d column %d" % (token.line, token.column),
-                    token.line, token.column)))
+                self.faults.append(
+                    (
+                        token.start,
+                        SpecRefused(
+                            "undefined line %d column %d" % (token.line, token.column),
+                            token.line,
+                            token.column,
+                        ),
+                    )
+                )
             else:
                 node = self.spec.nodes[number]
-                self.spec.nodes[number] = Node(**{**vars(node), "target": numbers[token.text]})
+                self.spec.nodes[number] = replace(node, target=numbers[token.text])
         if self.faults:
             raise min(self.faults, key=lambda fault: fault[0])[1]
 

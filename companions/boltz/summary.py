@@ -7,7 +7,7 @@ from math import sqrt
 
 from boltz.certificate import Entry
 from boltz.objects import Tree
-from boltz.spec import Spec
+from boltz.tables import Spec
 
 
 @dataclass
@@ -29,7 +29,11 @@ class Numbers:
     def mean(self) -> float:
         """The mean; not a number where none came."""
         total = self.total
-        return sum(value * count for value, count in self.counts.items()) / total if total else float("nan")
+        return (
+            sum(value * count for value, count in self.counts.items()) / total
+            if total
+            else float("nan")
+        )
 
     @property
     def deviation(self) -> float:
@@ -37,7 +41,9 @@ class Numbers:
         total, mean = self.total, self.mean
         if total < 2:
             return float("nan")
-        return sqrt(sum(count * (value - mean) ** 2 for value, count in self.counts.items()) / (total - 1))
+        return sqrt(
+            sum(count * (value - mean) ** 2 for value, count in self.counts.items()) / (total - 1)
+        )
 
     @property
     def error(self) -> float:
@@ -57,8 +63,15 @@ class Numbers:
         """For JSON."""
         if not self.counts:
             return {"total": 0}
-        return {"total": self.total, "mean": self.mean, "deviation": self.deviation, "error": self.error,
-                "least": min(self.counts), "median": self.quantile(0.5), "greatest": max(self.counts)}
+        return {
+            "total": self.total,
+            "mean": self.mean,
+            "deviation": self.deviation,
+            "error": self.error,
+            "least": min(self.counts),
+            "median": self.quantile(0.5),
+            "greatest": max(self.counts),
+        }
 
 
 @dataclass

@@ -3,19 +3,19 @@ from __future__ import annotations
 
 from dataclasses import dataclass
 from fractions import Fraction
-from math import exp, log
+from math import exp, inf, log
 from typing import Callable
 
 from boltz.costs import Costs, costs
 from boltz.oracle import MOST, Interval, Means, Oracle, Values, dyadic, nearest, x_text
 from boltz.program import Program
 from boltz.series import size_weights
-from boltz.spec import Spec
+from boltz.tables import Spec
 
-QUICK = (24,)                               # steps of secants while searching
+QUICK = (24, 20, 16, 12, 8)  # steps of secants while searching
 FULL = (8, 12, 16, 20, 22, 24, 26, 28, 30)  # and for the answer
-MOST_LAW = 4000                             # the greatest size up to which the law is computed
-LEAST = Fraction(1, 2 ** 19)
+MOST_LAW = 4000  # the greatest size up to which the law is computed
+LEAST = Fraction(1, 2**19)
 
 
 class NoX(RuntimeError):
@@ -27,6 +27,8 @@ class Tuned:
     """An x with its mean size, and what is known of a run there.
 
     `accepted` is the share of attempts whose size is in the window, None where it wasn't computed.
+    `effort` is the share of an attempt's visits that are made, since attempts above the window are
+    given up.
     """
 
     x: Fraction
@@ -34,6 +36,7 @@ class Tuned:
     wanted: float
     window: tuple[int, int]
     accepted: float | None
+    effort: float
     values: Values
     costs: Costs
     pointed: bool
@@ -45,13 +48,14 @@ class Law:
 
     def __init__(self, spec: Spec, x: Fraction, most: int):
         self.x = x
-        self.logs = [log(weight) if weight > 0 else None for weight in size_weights(spec, float(x), most)]
+        weights = size_weights(spec, float(x), most)
+        self.logs = [log(weight) if weight > 0 else -inf for weight in weights]
 
     def window(self, x: Fraction, low: int, high: int) -> tuple[float, float]:
-        """The total weight of the sizes of a window at x, and their mean; 0 and 0 where there are none."""
+        """The total weight of the sizes of a window at x, and their mean; else 0 and 0."""
         shift = log(x / self.x)
-        known = [(n, self.logs[n] + n * shift) for n in range(low, min(high, len(self.logs) - 1) + 1)
-                 if self.logs[n] is not None]
+        sizes = range(low, min(high, len(self.logs) - 1) + 1)
+        known = [(n, self.logs[n] + n * shift) for n in sizes if self.logs[n] > -inf]
         if not known:
             return 0.0, 0.0
         greatest = max(weight for _, weight in known)
@@ -84,8 +88,10 @@ class Tuner:
             low, high = (middle, high) if self.oracle.at(middle) else (low, middle)
         return low, high
 
-    def search(self, goal: Callable[[Fraction], float], limit: Fraction, tolerance: float) -> Fraction:
-        """The x whose mean is nearest to the goal there: by halving, on dyadic numbers while these go."""
+    def search(
+        self, goal: Callable[[Fraction], float], limit: Fraction, tolerance: float
+    ) -> Fraction:
+        """The x whose mean is nearest to the goal there: by halving, dyadic while that goes."""
         low, high, best, found = Fraction(0), limit, None, 0.0
         for _ in range(60):
             middle = dyadic((low + high) / 2)
@@ -93,10 +99,11 @@ class Tuner:
                 middle = nearest((low + high) / 2)
             if not low < middle < high:
                 break
-            if self.oracle.at(middle) is None:
-                high = middle
+            values = self.oracle.at(middle)
+            if values is None or values.is_coarse:
+                low, high = (low, middle) if values is None else (middle, high)
                 continue
-            mean, wanted = self.means.at(middle, QUICK).middle, goal(middle)
+            mean, wanted = self.means.near(middle, QUICK, tolerance), goal(middle)
             if best is None or abs(mean - wanted) < abs(found - goal(best)):
                 best, found = middle, mean
             if abs(mean - wanted) <= tolerance * wanted:
@@ -110,34 +117,69 @@ class Tuner:
         """An x with this mean size, and the window of all sizes."""
         _, high = self.limit()
         x = self.search(lambda _: wanted, high, tolerance)
-        tuned = self.tuned(x, wanted, (0, 1_000_000), 1.0)
+        tuned = self.tuned(x, wanted, (0, 1_000_000), 1.0, 1.0)
         if abs(tuned.mean.middle - wanted) > 4 * tolerance * wanted and not self.only_dyadic:
-            raise NoX("no x has mean size %g: the nearest found is %.4g at %s" % (
-                wanted, tuned.mean.middle, x_text(x)))
+            raise NoX(
+                "no x has mean size %g: the nearest found is %.4g at %s%s"
+                % (wanted, tuned.mean.middle, x_text(x), self.near_ceiling(tuned.values))
+            )
         return tuned
+
+    def near_ceiling(self, values: Values) -> str:
+        """A hint where generating functions are near the greatest number the program has."""
+        ceiling = 2.0 ** (64 - self.oracle.fraction)
+        if max(float(value.hi) for value in values.classes) < ceiling / 2:
+            return ""
+        return (
+            "; generating functions are near the ceiling of %d there: fewer fraction bits raise it"
+            % ceiling
+        )
 
     def window(self, low: int, high: int, tolerance: float = 0.005) -> Tuned:
         """An x at which as many attempts as may be have a size in the window.
 
-        The share of such attempts grows with x while the mean of the sizes in the window is above that
-        of all sizes.
+        The share of such attempts grows with x while the mean of the sizes in the window is above
+        that of all sizes.
         """
         near, limit = self.limit()
         if high > MOST_LAW:
             middle = (low + high) / 2
-            return self.tuned(self.search(lambda _: middle, limit, tolerance), middle, (low, high), None)
+            return self.tuned(
+                self.search(lambda _: middle, limit, tolerance), middle, (low, high), None, 1.0
+            )
         law = Law(self.spec, near, high)
         if law.window(near, low, high)[0] == 0:
             raise NoX("no object has a size from %d to %d" % (low, high))
         x = self.search(lambda at: law.window(at, low, high)[1], limit, tolerance)
         inside, wanted = law.window(x, low, high)
-        return self.tuned(x, wanted, (low, high), min(1.0, inside / self.oracle.at(x).root.middle))
+        below, below_mean = law.window(x, 0, high)
+        total = self.oracle.values(x).root.middle
+        atoms = (below * below_mean + (total - below) * (high + 1)) / total
+        effort = min(1.0, atoms / self.means.near(x, QUICK, tolerance))
+        return self.tuned(x, wanted, (low, high), min(1.0, inside / total), effort)
 
-    def tuned(self, x: Fraction, wanted: float, window: tuple[int, int], accepted: float | None) -> Tuned:
+    def tuned(
+        self,
+        x: Fraction,
+        wanted: float,
+        window: tuple[int, int],
+        accepted: float | None,
+        effort: float,
+    ) -> Tuned:
         """All that is known at x."""
-        values = self.oracle.at(x)
+        values = self.oracle.values(x)
         mean = self.means.at(x, FULL)
         pointed = self.means.pointed is not None and self.means.pointed.at(x) is not None
         calls = self.oracle.calls + (self.means.pointed.calls if self.means.pointed else 0)
-        return Tuned(x, mean, wanted, window, accepted, values, costs(self.spec, values, self.oracle.fraction),
-                     pointed, calls)
+        return Tuned(
+            x,
+            mean,
+            wanted,
+            window,
+            accepted,
+            effort,
+            values,
+            costs(self.spec, values, self.oracle.fraction),
+            pointed,
+            calls,
+        )

@@ -1,6 +1,7 @@
 """A property of a small parser, on expressions that boltz draws. The parser has a fault.
 
-    BOLTZ=PROGRAM PYTHONPATH=companions /usr/bin/python3 -m pytest -p boltz.pytest_plugin companions/examples
+    export BOLTZ=PROGRAM PYTHONPATH=companions
+    /usr/bin/python3 -m pytest -p boltz.pytest_plugin companions/examples
 """
 import os
 
@@ -17,8 +18,8 @@ SIGNS = {"minus": "-", "open": "(", "close": ")"}
 def parse_sum(text: str, at: int = 0) -> tuple[int, int]:
     """The value of the sum that begins at a place, and the place after it."""
     value, at = parse_term(text, at)
-    if text[at:at + 1] == "-":
-        rest, at = parse_sum(text, at + 1)      # the fault: 1-1-1 is read as 1-(1-1)
+    if text[at : at + 1] == "-":
+        rest, at = parse_sum(text, at + 1)  # the fault: 1-1-1 is read as 1-(1-1)
         return value - rest, at
     return value, at
 

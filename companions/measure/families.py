@@ -35,37 +35,67 @@ def measured(program: Program, text: str, found: Tuned, count: int, seed: int) -
     """The sizes of a run at the tuned x."""
     sizes = Numbers()
     with folder_with(spec=text) as folder:
-        words = ("sample", os.path.join(folder, "spec"), x_text(found.x), "--seed", str(seed), "--max", "1000000",
-                 "--count", str(count), "--turns", "50000000")
-        with program.stream(*words) as process:
-            run = Certificate(process.stdout)
+        words = (
+            "sample",
+            os.path.join(folder, "spec"),
+            x_text(found.x),
+            "--seed",
+            str(seed),
+            "--max",
+            "1000000",
+            "--count",
+            str(count),
+            "--turns",
+            "50000000",
+        )
+        with program.stream(*words) as output:
+            run = Certificate(output)
             for entry in run:
                 sizes.add(entry.size)
     if run.closing.word != "done":
-        print("ended by %s after %d objects" % (run.closing.word, run.closing.kept), file=sys.stderr)
+        print(
+            "ended by %s after %d objects" % (run.closing.word, run.closing.kept), file=sys.stderr
+        )
     return sizes
 
 
 def main() -> int:
-    """Prints a row for each family; the status is 1 where a mean is off by more than three standard errors."""
+    """Prints a row for each family; status 1 where one is off by three standard errors."""
     parser = argparse.ArgumentParser(description=__doc__)
     parser.add_argument("--mean", type=float, default=50)
     parser.add_argument("--count", type=int, default=2000)
     parser.add_argument("--seed", type=int, default=1)
     args = parser.parse_args()
     program, far = Program(), 0
-    print("| Family | x | Enclosed mean | Calls | Seconds | Measured mean | Standard error | Off by |")
+    print(
+        "| Family | x | Enclosed mean | Calls | Seconds | Measured mean | Standard error | Off by |"
+    )
     print("|---|---|---|---|---|---|---|---|")
     for name, text in FAMILIES.items():
         begun = time.monotonic()
         found = Tuner(program, read_spec(text)).mean(args.mean)
         seconds = time.monotonic() - begun
         sizes = measured(program, text, found, args.count, args.seed)
-        off = max(float(found.mean.lo) - sizes.mean, sizes.mean - float(found.mean.hi), 0.0) / sizes.error
+        off = (
+            max(float(found.mean.lo) - sizes.mean, sizes.mean - float(found.mean.hi), 0.0)
+            / sizes.error
+        )
         far += off > 3
-        print("| %s | %s | %.4f to %.4f | %d | %.1f | %.2f | %.2f | %.2f |" % (
-            name, x_text(found.x), found.mean.lo, found.mean.hi, found.calls, seconds, sizes.mean, sizes.error, off),
-            flush=True)
+        print(
+            "| %s | %s | %.4f to %.4f | %d | %.1f | %.2f | %.2f | %.2f |"
+            % (
+                name,
+                x_text(found.x),
+                found.mean.lo,
+                found.mean.hi,
+                found.calls,
+                seconds,
+                sizes.mean,
+                sizes.error,
+                off,
+            ),
+            flush=True,
+        )
     return 1 if far else 0
 
 

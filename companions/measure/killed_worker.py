@@ -1,10 +1,12 @@
 #!/usr/bin/python3
-"""Makes shards over two worker processes of dask.distributed, each like a host of its own, and kills one.
+"""Makes shards over two worker processes of dask.distributed, each like a host of its own, and
+kills one.
 
-    BOLTZ=PROGRAM companions/measure/killed_worker.py SPEC X [--shards N] [--after K] [words of sample]
+    BOLTZ=PROGRAM companions/measure/killed_worker.py SPEC X [--shards N] [--after K] [--apart]
+        [words of sample]
 
-One worker is killed when K shards are complete. Then all must be there, and the merged stream must have the
-bytes of a run on one machine.
+One worker is killed when K shards are complete. Then all must be there, and the merged stream must
+have the bytes of a run on one machine.
 """
 from __future__ import annotations
 
@@ -29,16 +31,33 @@ from boltz.shards import Folder  # noqa: E402
 def start(folder: str, module: str, *words: str) -> subprocess.Popen:
     """A scheduler or worker, its output in a file."""
     with open(os.path.join(folder, "log"), "ab") as log:
-        return subprocess.Popen([sys.executable, "-m", "distributed.cli." + module, *words], cwd=folder, stdout=log,
-                                stderr=log, env={**os.environ, "PYTHONPATH": COMPANIONS})
+        return subprocess.Popen(
+            [sys.executable, "-m", "distributed.cli." + module, *words],
+            cwd=folder,
+            stdout=log,
+            stderr=log,
+            env={**os.environ, "PYTHONPATH": COMPANIONS, "TMPDIR": folder},
+        )
 
 
 def start_worker(folder: str, name: str, scheduler: str) -> subprocess.Popen:
     """A worker with a folder of its own."""
     place = os.path.join(folder, name)
     os.makedirs(place)
-    return start(place, "dask_worker", "--scheduler-file", scheduler, "--no-nanny", "--nthreads", "1", "--name", name,
-                 "--local-directory", place, "--no-dashboard")
+    return start(
+        place,
+        "dask_worker",
+        "--scheduler-file",
+        scheduler,
+        "--no-nanny",
+        "--nthreads",
+        "1",
+        "--name",
+        name,
+        "--local-directory",
+        place,
+        "--no-dashboard",
+    )
 
 
 def tools(*words: str) -> None:
@@ -62,11 +81,18 @@ def merged(folder: str) -> str:
 def run_and_kill(work: str, folder: str, after: int, apart: bool) -> None:
     """Runs the shards of a folder over two workers and kills the first one."""
     scheduler = os.path.join(work, "scheduler.json")
-    processes = [start(work, "dask_scheduler", "--port", "0", "--scheduler-file", scheduler, "--no-dashboard")]
+    processes = [
+        start(
+            work, "dask_scheduler", "--port", "0", "--scheduler-file", scheduler, "--no-dashboard"
+        )
+    ]
     try:
         processes += [start_worker(work, name, scheduler) for name in ("host-a", "host-b")]
-        client = subprocess.Popen([sys.executable, TOOLS, "shards", "run", folder, "--scheduler-file", scheduler]
-                                  + ["--apart"] * apart, stdout=subprocess.DEVNULL)
+        client = subprocess.Popen(
+            [sys.executable, TOOLS, "shards", "run", folder, "--scheduler-file", scheduler]
+            + ["--apart"] * apart,
+            stdout=subprocess.DEVNULL,
+        )
         processes.append(client)
         while receipts(folder) < after and client.poll() is None:
             time.sleep(0.02)
@@ -82,7 +108,9 @@ def run_and_kill(work: str, folder: str, after: int, apart: bool) -> None:
 
 def main() -> int:
     """Runs, kills, and compares with a run on one machine."""
-    parser = argparse.ArgumentParser(description=__doc__, formatter_class=argparse.RawDescriptionHelpFormatter)
+    parser = argparse.ArgumentParser(
+        description=__doc__, formatter_class=argparse.RawDescriptionHelpFormatter
+    )
     parser.add_argument("spec")
     parser.add_argument("x")
     parser.add_argument("--shards", default="10")
@@ -93,7 +121,18 @@ def main() -> int:
     with tempfile.TemporaryDirectory(prefix="boltz-killed-") as work:
         many, alone = os.path.join(work, "many"), os.path.join(work, "alone")
         for folder in (many, alone):
-            tools("shards", "plan", folder, args.spec, args.x, "--seed", "1", "--shards", args.shards, *words)
+            tools(
+                "shards",
+                "plan",
+                folder,
+                args.spec,
+                args.x,
+                "--seed",
+                "1",
+                "--shards",
+                args.shards,
+                *words,
+            )
         begun = time.monotonic()
         run_and_kill(work, many, args.after, args.apart)
         print("%.1f s with starting and killing" % (time.monotonic() - begun))

@@ -1,9 +1,11 @@
 """What the tests share: where things are, the program where it is built, the stored runs."""
 from __future__ import annotations
 
+import functools
 import importlib.util
 import os
 import sys
+import time
 import unittest
 
 HERE = os.path.dirname(os.path.abspath(__file__))
@@ -30,6 +32,22 @@ def needs(*modules: str):
     """Skips a test where one of the modules isn't installed."""
     absent = [module for module in modules if importlib.util.find_spec(module) is None]
     return unittest.skipIf(absent, "not installed: %s" % ", ".join(absent))
+
+
+def takes(seconds: float):
+    """Skips a test that may last until after the time in COMPANIONS_UNTIL."""
+
+    def decorate(test):
+        @functools.wraps(test)
+        def run(*args):
+            until = float(os.environ.get("COMPANIONS_UNTIL", "inf"))
+            if time.time() + seconds > until:
+                raise unittest.SkipTest("no time left: it may take %d seconds" % seconds)
+            return test(*args)
+
+        return run
+
+    return decorate
 
 
 def stored(row: str, name: str = "stdout") -> bytes:

@@ -25,7 +25,10 @@ class CertificateTest(unittest.TestCase):
 
     def test_fields(self):
         read = certificate(stored("draw_labelled_tree").decode())
-        self.assertEqual((read.header.mode, read.header.x, read.header.fraction), ("labelled", Fraction(9, 25), 48))
+        self.assertEqual(
+            (read.header.mode, read.header.x, read.header.fraction),
+            ("labelled", Fraction(9, 25), 48),
+        )
         self.assertEqual(list(read.header.base), ["T"])
         entry = next(iter(read))
         self.assertEqual((entry.number, entry.place, entry.size), (1, 0, 6))

@@ -39,7 +39,9 @@ class FormatTest(unittest.TestCase):
 
     def test_newick_is_the_tree_of_the_parts(self):
         phylogeny = read_spec("labelled\nH = Z + Set>=2(H)\n")
-        self.assertEqual(to_newick(read_object(phylogeny, "1.{1.{0.Z#1 0.Z#3} 0.Z#2}")), "((1,3),2);")
+        self.assertEqual(
+            to_newick(read_object(phylogeny, "1.{1.{0.Z#1 0.Z#3} 0.Z#2}")), "((1,3),2);"
+        )
         self.assertEqual(to_newick(LEFT), "((E,E)Z,E)Z;")
 
     def test_a_function_is_its_graph(self):
@@ -63,6 +65,7 @@ class FormatTest(unittest.TestCase):
     @needs("networkx")
     def test_graph6_reads_back_by_networkx(self):
         import networkx
+
         graph = networkx.from_graph6_bytes(to_graph6(FUNCTION).encode())
         self.assertEqual(sorted(map(sorted, graph.edges())), [[0, 2], [0, 4], [1, 3]])
         self.assertEqual(to_graph6(read_object(BINARY, "0.E")), "?")
@@ -78,8 +81,13 @@ class ConvertTest(unittest.TestCase):
     def convert(self, row: str, *words: str) -> subprocess.CompletedProcess:
         """`boltz-tools convert` over a stored run, its certificate on standard input."""
         with folder_with(s=stored(row, "s")) as folder:
-            return subprocess.run([sys.executable, TOOLS, "convert", "s", *words], cwd=folder, input=stored(row),
-                                  stdout=subprocess.PIPE, stderr=subprocess.PIPE)
+            return subprocess.run(
+                [sys.executable, TOOLS, "convert", "s", *words],
+                cwd=folder,
+                input=stored(row),
+                stdout=subprocess.PIPE,
+                stderr=subprocess.PIPE,
+            )
 
     def test_one_line_for_each_object(self):
         ran = self.convert("draw_set_of_cycles", "--to", "json")
@@ -93,8 +101,13 @@ class ConvertTest(unittest.TestCase):
 
     def test_another_specification_is_refused(self):
         with folder_with(s=b"labelled\nA = Z\n") as folder:
-            ran = subprocess.run([sys.executable, TOOLS, "convert", "s", "--to", "json"], cwd=folder,
-                                 input=stored("draw_set_of_cycles"), stdout=subprocess.PIPE, stderr=subprocess.PIPE)
+            ran = subprocess.run(
+                [sys.executable, TOOLS, "convert", "s", "--to", "json"],
+                cwd=folder,
+                input=stored("draw_set_of_cycles"),
+                stdout=subprocess.PIPE,
+                stderr=subprocess.PIPE,
+            )
         self.assertEqual((ran.returncode, ran.stdout), (1, b""))
         self.assertIn(b"another specification", ran.stderr)
 

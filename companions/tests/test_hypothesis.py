@@ -6,7 +6,7 @@ import sys
 import tempfile
 import unittest
 
-from tests.support import ROOT, needs, program
+from tests.support import ROOT, needs, program, takes
 
 from boltz.objects import Tree
 
@@ -35,34 +35,68 @@ class StrategyTest(unittest.TestCase):
         """What Hypothesis shrinks to."""
         from hypothesis import find, settings
         from boltz.hypothesis import objects
+
         path = program().path
-        return find(objects(text, "24/100", program=path), fault,
-                    settings=settings(max_examples=1000, database=None, deadline=None, derandomize=True))
+        return find(
+            objects(text, "24/100", program=path),
+            fault,
+            settings=settings(max_examples=1000, database=None, deadline=None, derandomize=True),
+        )
 
+    @takes(20)
     def test_a_left_leaning_tree_shrinks_to_the_least_one(self):
-        self.assertEqual(self.least(BINARY, lambda tree: leans(tree, 3)).text(),
-                         "1.(Z 1.(Z 1.(Z 0.E 0.E) 0.E) 0.E)")
+        self.assertEqual(
+            self.least(BINARY, lambda tree: leans(tree, 3)).text(),
+            "1.(Z 1.(Z 1.(Z 0.E 0.E) 0.E) 0.E)",
+        )
 
+    @takes(20)
     def test_the_least_object_may_be_the_last_option(self):
-        self.assertEqual(self.least(TURNED, lambda tree: leans(tree, 2)).text(), "0.(Z 0.(Z 1.E 1.E) 1.E)")
+        self.assertEqual(
+            self.least(TURNED, lambda tree: leans(tree, 2)).text(), "0.(Z 0.(Z 1.E 1.E) 1.E)"
+        )
 
-    def test_a_window_that_no_tape_of_equal_bits_reaches(self):
+    @takes(20)
+    def test_a_least_size_is_kept(self):
+        from hypothesis import find, settings
         from boltz.hypothesis import objects
-        from boltz.program import ProgramError
-        with self.assertRaisesRegex(ProgramError, "widen the window"):
-            objects(BINARY, "24/100", min_size=5, program=program().path)
+
+        strategy = objects(BINARY, "24/100", min_size=4, program=program().path)
+        tree = find(
+            strategy,
+            lambda tree: True,
+            settings=settings(max_examples=200, database=None, deadline=None, derandomize=True),
+        )
+        self.assertEqual(tree.size(), 4)
 
 
 @needs("hypothesis", "pytest")
 class PluginTest(unittest.TestCase):
+    @takes(20)
     def test_the_certificate_of_a_failing_example_is_saved(self):
         path = program().path
         with tempfile.TemporaryDirectory() as folder:
             ran = subprocess.run(
-                [sys.executable, "-m", "pytest", "-q", "-p", "boltz.pytest_plugin", "-p", "no:cacheprovider",
-                 "--rootdir", os.path.dirname(EXAMPLE), "--boltz-failures", folder, EXAMPLE],
+                [
+                    sys.executable,
+                    "-m",
+                    "pytest",
+                    "-q",
+                    "-p",
+                    "boltz.pytest_plugin",
+                    "-p",
+                    "no:cacheprovider",
+                    "--rootdir",
+                    os.path.dirname(EXAMPLE),
+                    "--boltz-failures",
+                    folder,
+                    EXAMPLE,
+                ],
                 env={**os.environ, "BOLTZ": path, "PYTHONPATH": os.path.join(ROOT, "companions")},
-                cwd=folder, stdout=subprocess.PIPE, text=True)
+                cwd=folder,
+                stdout=subprocess.PIPE,
+                text=True,
+            )
             self.assertEqual(ran.returncode, 1, ran.stdout)
             self.assertIn("AssertionError: 1-1-1\n", ran.stdout)
             (place,) = glob.glob(os.path.join(folder, "*", "1"))

@@ -31,12 +31,26 @@ class NodesTest(unittest.TestCase):
         self.assertEqual(len(lines), 7)
         self.assertEqual(lines[5].split(), ["4", "2", "9", "B", "product", "Z*B*B"])
 
+    def test_a_fault_of_the_grammar_is_shown_in_its_line(self):
+        with folder_with(s="unlabelled\nC = Z +\n") as folder:
+            ran = subprocess.run(
+                [sys.executable, TOOLS, "nodes", "s"], cwd=folder, stdout=subprocess.PIPE, text=True
+            )
+        self.assertEqual(ran.stdout, "refused spec syntax line 2 column 8\nC = Z +\n       ^\n")
+
     def test_the_command_tells_the_refusal_of_the_program(self):
         with folder_with(s="unlabelled\nC = Seq(E)\n") as folder:
-            ran = subprocess.run([sys.executable, TOOLS, "--program", program().path, "nodes", "s"], cwd=folder,
-                                 stdout=subprocess.PIPE, text=True)
+            ran = subprocess.run(
+                [sys.executable, TOOLS, "--program", program().path, "nodes", "s"],
+                cwd=folder,
+                stdout=subprocess.PIPE,
+                text=True,
+            )
         self.assertEqual(ran.returncode, 3)
-        self.assertTrue(ran.stdout.startswith("refused spec zero part node 1\nline 2 column 5: Seq(E)"), ran.stdout)
+        self.assertTrue(
+            ran.stdout.startswith("refused spec zero part node 1\nline 2 column 5: Seq(E)"),
+            ran.stdout,
+        )
 
 
 if __name__ == "__main__":

@@ -15,8 +15,13 @@ ROW = "draw_labelled_tree"
 
 def tools(folder: str, *words: str) -> subprocess.CompletedProcess:
     """A command over the files `s` and `c` of a folder."""
-    return subprocess.run([sys.executable, TOOLS, *words], cwd=folder, stdout=subprocess.PIPE, stderr=subprocess.PIPE,
-                          text=True)
+    return subprocess.run(
+        [sys.executable, TOOLS, *words],
+        cwd=folder,
+        stdout=subprocess.PIPE,
+        stderr=subprocess.PIPE,
+        text=True,
+    )
 
 
 class PictureTest(unittest.TestCase):
@@ -29,13 +34,18 @@ class PictureTest(unittest.TestCase):
             value = json.loads(tools(folder, "stats", "s", "c", "--json").stdout)
             text = tools(folder, "stats", "s", "c").stdout
         self.assertEqual(value["closing"]["kept"], value["sizes"]["total"])
-        self.assertEqual(value["leaves"]["Z"], sum(int(size) * count for size, count in value["size_counts"].items()))
+        self.assertEqual(
+            value["leaves"]["Z"],
+            sum(int(size) * count for size, count in value["size_counts"].items()),
+        )
         self.assertTrue(text.startswith("ended by done: 1 kept, 0 rejected"), text)
 
     def test_an_object_that_is_not_there(self):
         with self.folder() as folder:
             ran = tools(folder, "picture", "object", "s", "c", "--number", "9", "-o", "p.svg")
-        self.assertEqual((ran.returncode, ran.stderr), (1, "boltz-tools: the certificate has no object 9\n"))
+        self.assertEqual(
+            (ran.returncode, ran.stderr), (1, "boltz-tools: the certificate has no object 9\n")
+        )
 
     @unittest.skipUnless(shutil.which("dot"), "not installed: graphviz")
     def test_objects_are_drawn(self):
@@ -49,8 +59,11 @@ class PictureTest(unittest.TestCase):
 
     @needs("matplotlib")
     def test_counts_are_plotted(self):
-        for row, words in (("draw_labelled_tree", ("sizes", "--law", "20")), ("draw_binary_tree", ("options",)),
-                           ("draw_set_of_cycles", ("cycles",))):
+        for row, words in (
+            ("draw_labelled_tree", ("sizes", "--law", "20")),
+            ("draw_binary_tree", ("options",)),
+            ("draw_set_of_cycles", ("cycles",)),
+        ):
             with self.folder(row) as folder:
                 ran = tools(folder, "picture", words[0], "s", "c", *words[1:], "-o", "p.png")
                 self.assertEqual(ran.returncode, 0, ran.stderr)

@@ -19,23 +19,23 @@ def counts(text: str, most: int) -> list[int]:
 class SeriesTest(unittest.TestCase):
     def test_known_numbers(self):
         known = {
-            "unlabelled\nB = E + Z*B*B\n": [1, 1, 2, 5, 14, 42, 132],                    # Catalan
+            "unlabelled\nB = E + Z*B*B\n": [1, 1, 2, 5, 14, 42, 132],  # Catalan
             "unlabelled\nT = Z*Seq(T)\n": [0, 1, 1, 2, 5, 14, 42],
-            "unlabelled\nM = Z + Z*M + Z*M*M\n": [0, 1, 1, 2, 4, 9, 21],                 # Motzkin
+            "unlabelled\nM = Z + Z*M + Z*M*M\n": [0, 1, 1, 2, 4, 9, 21],  # Motzkin
             "unlabelled\nC = Seq(Z*Seq(Z))\n": [1, 1, 2, 4, 8, 16, 32],
             "unlabelled\nC = Seq>=2(Z + Z)\n": [0, 0, 4, 8, 16, 32, 64],
             "unlabelled\nC = Seq<=2(E + Z)\n": [3, 3, 1, 0, 0, 0, 0],
             "unlabelled\nA = B*B\nB = C\nC = E + Z\n": [1, 2, 1, 0, 0, 0, 0],
-            "labelled\nT = Z*Set(T)\n": [0, 1, 2, 9, 64, 625, 7776],                      # Cayley
+            "labelled\nT = Z*Set(T)\n": [0, 1, 2, 9, 64, 625, 7776],  # Cayley
             "labelled\nP = Set(Cyc(Z))\n": [1, 1, 2, 6, 24, 120, 720],
-            "labelled\nP = Set(B)\nB = Set>=1(Z)\n": [1, 1, 2, 5, 15, 52, 203],            # Bell
-            "labelled\nS = Seq(Set>=1(Z))\n": [1, 1, 3, 13, 75, 541, 4683],               # Fubini
-            "labelled\nD = Set(Cyc>=2(Z))\n": [1, 0, 1, 2, 9, 44, 265],                   # derangements
-            "labelled\nI = Set(Cyc<=2(Z))\n": [1, 1, 2, 4, 10, 26, 76],                   # involutions
+            "labelled\nP = Set(B)\nB = Set>=1(Z)\n": [1, 1, 2, 5, 15, 52, 203],  # Bell
+            "labelled\nS = Seq(Set>=1(Z))\n": [1, 1, 3, 13, 75, 541, 4683],  # Fubini
+            "labelled\nD = Set(Cyc>=2(Z))\n": [1, 0, 1, 2, 9, 44, 265],  # derangements
+            "labelled\nI = Set(Cyc<=2(Z))\n": [1, 1, 2, 4, 10, 26, 76],  # involutions
             "labelled\nF = Set(Cyc(T))\nT = Z*Set(T)\n": [1, 1, 4, 27, 256, 3125, 46656],
-            "labelled\nH = Z + Set>=2(H)\n": [0, 1, 1, 4, 26, 236, 2752],                   # Schroeder's fourth
+            "labelled\nH = Z + Set>=2(H)\n": [0, 1, 1, 4, 26, 236, 2752],  # Schroeder's fourth
             "labelled\nH = Z + Set>=3(H) + Cyc>=3(H)\n": [0, 1, 0, 3, 7, 115, 856],
-            "unlabelled\nA = Z + Seq>=2(A)\n": [0, 1, 1, 3, 11, 45, 197],                  # Schroeder
+            "unlabelled\nA = Z + Seq>=2(A)\n": [0, 1, 1, 3, 11, 45, 197],  # Schroeder
             "labelled\nG = Set=2(Z)*Cyc=3(Z)\n": [0, 0, 0, 0, 0, 20, 0],
         }
         for text, wanted in known.items():

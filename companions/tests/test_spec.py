@@ -23,7 +23,9 @@ class SpecTest(unittest.TestCase):
     def test_stored_runs_are_answered_alike(self):
         compared = 0
         for row in sorted(os.listdir(ROWS)):
-            if stored(row, "args") != b"spec\ns\n" or not os.path.exists(os.path.join(ROWS, row, "s")):
+            if stored(row, "args") != b"spec\ns\n" or not os.path.exists(
+                os.path.join(ROWS, row, "s")
+            ):
                 continue
             wanted = stored(row).decode()
             if not any(wanted.startswith("refused spec " + cause) for cause in FOUNDEDNESS):
@@ -38,10 +40,13 @@ class SpecTest(unittest.TestCase):
 
     def test_nodes_are_numbered_after_their_parts_and_have_places(self):
         spec = read_spec("# trees\nunlabelled\nB = E + Z*B*B\n")
-        self.assertEqual([node.kind for node in spec.nodes],
-                         ["E", "Z", "class", "class", "product", "union"])
-        self.assertEqual([(node.line, node.column) for node in spec.nodes],
-                         [(3, 5), (3, 9), (3, 11), (3, 13), (3, 9), (3, 5)])
+        self.assertEqual(
+            [node.kind for node in spec.nodes], ["E", "Z", "class", "class", "product", "union"]
+        )
+        self.assertEqual(
+            [(node.line, node.column) for node in spec.nodes],
+            [(3, 5), (3, 9), (3, 11), (3, 13), (3, 9), (3, 5)],
+        )
         self.assertEqual(spec.snippet(spec.nodes[4]), "Z*B*B")
 
     def test_parentheses_belong_to_the_text_of_a_product(self):
@@ -65,8 +70,14 @@ class SpecTest(unittest.TestCase):
             self.assertEqual(read_spec(spec.canonical()).canonical(), spec.canonical())
 
     def test_the_program_answers_alike(self):
-        texts = ["unlabelled\nC = Z*D\n", "unlabelled\nC = Z +\n", "labelled\nC = Set<=0(Z)\n",
-                 "unlabelled\nC = Z\nC = E:\n", "labelled\nC = Z:1*Cyc=2(E + Z)", "unlabelled\nE = Z\n"]
+        texts = [
+            "unlabelled\nC = Z*D\n",
+            "unlabelled\nC = Z +\n",
+            "labelled\nC = Set<=0(Z)\n",
+            "unlabelled\nC = Z\nC = E:\n",
+            "labelled\nC = Z:1*Cyc=2(E + Z)",
+            "unlabelled\nE = Z\n",
+        ]
         for text in texts:
             with folder_with(s=text) as folder:
                 ran = program().run("spec", "s", folder=folder)

@@ -1,18 +1,19 @@
 """Tuning."""
 import json
+import os
 import subprocess
 import sys
 import unittest
 from decimal import Decimal, localcontext
 from fractions import Fraction
 
-from tests.support import TOOLS, program
+from tests.support import TOOLS, program, takes
 
 from boltz.certificate import Certificate
 from boltz.costs import costs, solve
-from boltz.oracle import Interval, Means, Oracle, Values, dyadic, nearest
+from boltz.oracle import Interval, Means, Oracle, Values, beside, dyadic, nearest
 from boltz.program import Ran, folder_with
-from boltz.spec import read_spec
+from boltz.spec import read_spec, read_spec_file
 from boltz.summary import Numbers
 from boltz.tuning import Law, NoX, Tuner
 
@@ -39,7 +40,9 @@ class ExactTrees(Oracle):
             context.prec = 50
             value = Decimal(x.numerator) / Decimal(x.denominator)
             root = (1 - (1 - 4 * value).sqrt()) / (2 * value)
-            return Values(x, (Interval(root * (1 - Decimal("1e-12")), root * (1 + Decimal("1e-12"))),))
+            return Values(
+                x, (Interval(root * (1 - Decimal("1e-12")), root * (1 + Decimal("1e-12"))),)
+            )
 
 
 def true_mean(x: Fraction) -> float:
@@ -50,9 +53,18 @@ def true_mean(x: Fraction) -> float:
 
 class TuningTest(unittest.TestCase):
     def test_x_within_limits(self):
-        self.assertEqual(dyadic(Fraction(1, 3)), Fraction(174762, 2 ** 19))
+        self.assertEqual(dyadic(Fraction(1, 3)), Fraction(174762, 2**19))
         self.assertEqual(dyadic(Fraction(70_000, 3)), Fraction(23333 * 32 + 10, 32))
-        self.assertLessEqual(nearest(Fraction(10 ** 9 + 1, 10 ** 7)).numerator, 1_000_000)
+        self.assertLessEqual(nearest(Fraction(10**9 + 1, 10**7)).numerator, 1_000_000)
+
+    def test_a_fraction_beside_another(self):
+        for x in (Fraction(7, 8), Fraction(1), Fraction(64), Fraction(174763, 2**19)):
+            below, above = beside(x, 30, -1), beside(x, 30, 1)
+            self.assertTrue(below < x < above)
+            self.assertLess(above - below, x / 10_000)
+            self.assertLessEqual(
+                max(above.numerator, above.denominator, below.denominator), 1_000_000
+            )
 
     def test_secants_enclose_the_mean(self):
         means = Means(ExactTrees())
@@ -76,7 +88,7 @@ class TuningTest(unittest.TestCase):
 
     def test_only_dyadic(self):
         found = self.tuner(only_dyadic=True).mean(50)
-        self.assertEqual(2 ** 19 % found.x.denominator, 0)
+        self.assertEqual(2**19 % found.x.denominator, 0)
         self.assertAlmostEqual(true_mean(found.x), 50, delta=2)
 
     def test_a_window_gets_as_many_attempts_as_may_be(self):
@@ -93,6 +105,11 @@ class TuningTest(unittest.TestCase):
         with self.assertRaisesRegex(NoX, "no object has a size from 3 to 2"):
             self.tuner().window(3, 2)
 
+    def test_an_x_at_which_values_are_below_one_unit(self):
+        with folder_with(s="unlabelled\nA = Z*Z*Z*Z*Z*Seq(Z)\n") as folder:
+            tuner = Tuner(program(), read_spec_file(os.path.join(folder, "s")))
+        self.assertAlmostEqual(tuner.mean(5.01).mean.middle, 5.01, delta=0.03)
+
     def test_visits_of_binary_trees(self):
         x = Fraction(2499, 10_000)
         found = costs(read_spec(BINARY), ExactTrees().at(x), 48)
@@ -103,11 +120,27 @@ class TuningTest(unittest.TestCase):
     def test_visits_solve_a_linear_system(self):
         self.assertEqual(solve([[0.0, 2.0], [0.25, 0.0]]), [2.0, 4.0])
 
+    @takes(20)
     def test_the_program_draws_what_is_tuned(self):
         for text in (BINARY, "labelled\nS = Seq(B)\nB = Set>=1(Z)\n"):
             with folder_with(s=text) as folder:
-                ran = subprocess.run([sys.executable, TOOLS, "--program", program().path, "tune", "s", "--mean", "8",
-                                      "--count", "400", "--json"], cwd=folder, stdout=subprocess.PIPE)
+                ran = subprocess.run(
+                    [
+                        sys.executable,
+                        TOOLS,
+                        "--program",
+                        program().path,
+                        "tune",
+                        "s",
+                        "--mean",
+                        "8",
+                        "--count",
+                        "400",
+                        "--json",
+                    ],
+                    cwd=folder,
+                    stdout=subprocess.PIPE,
+                )
                 found = json.loads(ran.stdout)
                 drawn = program().run(*found["words"], folder=folder).needed()
             sizes = Numbers()
@@ -115,7 +148,10 @@ class TuningTest(unittest.TestCase):
                 sizes.add(entry.size)
             lo, hi = found["mean"]
             self.assertLess(hi - lo, 0.1)
-            self.assertTrue(lo - 4 * sizes.error <= sizes.mean <= hi + 4 * sizes.error, (found, sizes.mean, sizes.error))
+            self.assertTrue(
+                lo - 4 * sizes.error <= sizes.mean <= hi + 4 * sizes.error,
+                (found, sizes.mean, sizes.error),
+            )
 
 
 if __name__ == "__main__":

@@ -11,22 +11,30 @@ from boltz.certificate import CertificateError
 from boltz.commands.reading import Problem
 from boltz.objects import NotObject
 from boltz.program import ProgramError
-from boltz.spec import SpecRefused
+from boltz.tables import SpecRefused
 
 COMMANDS = ("nodes", "convert", "picture", "stats", "tune", "shards")
 
 
 def parser() -> argparse.ArgumentParser:
     """The parser of all commands; each module adds its own words."""
-    top = argparse.ArgumentParser(prog="boltz-tools", description="Tools round the proved program boltz. "
-                                  "Nothing in them is proved.")
-    top.add_argument("--program", metavar="PATH", help="the program boltz (else $BOLTZ, else on the path)")
+    top = argparse.ArgumentParser(
+        prog="boltz-tools",
+        description="Tools round the proved program boltz. Nothing in them is proved.",
+    )
+    top.add_argument(
+        "--program", metavar="PATH", help="the program boltz (else $BOLTZ, else on the path)"
+    )
     commands = top.add_subparsers(dest="command", required=True, metavar="COMMAND")
     for name in COMMANDS:
         module = importlib.import_module("boltz.commands." + name)
-        about = module.__doc__.strip().split("\n")[0]
-        command = commands.add_parser(name, help=about, description=module.__doc__,
-                                      formatter_class=argparse.RawDescriptionHelpFormatter)
+        about = (module.__doc__ or "").strip().split("\n")[0]
+        command = commands.add_parser(
+            name,
+            help=about,
+            description=module.__doc__,
+            formatter_class=argparse.RawDescriptionHelpFormatter,
+        )
         module.add_arguments(command)
         command.set_defaults(run=module.run)
     return top

@@ -2,11 +2,12 @@
 
   json    JSON lines, with number and size
   sexp    s-expressions
-  words   the leaves' symbols: --table a=0,b=1 (an atom without an entry gives its word, a neutral leaf nothing)
+  words   the leaves' symbols by --table a=0,b=1; an atom without an entry gives its word, a neutral
+          leaf nothing
   newick  the tree of the parts
   edges   the edges of the graph on the atoms
   graph6  the same graph for nauty (through networkx)
-  dot     Graphviz's language (a graph for each object, of several lines): --form parts, atoms or whole
+  dot     Graphviz's language, several lines for each object: --form parts, atoms or whole
 """
 from __future__ import annotations
 
@@ -25,8 +26,12 @@ def add_arguments(parser: argparse.ArgumentParser) -> None:
     add_certificate(parser)
     parser.add_argument("--to", choices=FORMATS, required=True, help="the format")
     parser.add_argument("--table", default="", metavar="LEAF=SYMBOL,..", help="symbols for words")
-    parser.add_argument("--separator", default="", metavar="TEXT", help="between the symbols of words")
-    parser.add_argument("--form", choices=("parts", "atoms", "whole"), default="parts", help="for dot")
+    parser.add_argument(
+        "--separator", default="", metavar="TEXT", help="between the symbols of words"
+    )
+    parser.add_argument(
+        "--form", choices=("parts", "atoms", "whole"), default="parts", help="for dot"
+    )
 
 
 def table_of(text: str) -> dict[str, str]:
@@ -41,9 +46,15 @@ def table_of(text: str) -> dict[str, str]:
 def writer(args: argparse.Namespace) -> Callable[[Tree], str]:
     """The function that writes one object."""
     table = table_of(args.table)
-    return {"json": to_json, "sexp": to_sexp, "newick": to_newick, "edges": to_edges, "graph6": to_graph6,
-            "words": lambda tree: to_word(tree, table, args.separator),
-            "dot": lambda tree: to_dot(tree, args.form).rstrip("\n")}[args.to]
+    return {
+        "json": to_json,
+        "sexp": to_sexp,
+        "newick": to_newick,
+        "edges": to_edges,
+        "graph6": to_graph6,
+        "words": lambda tree: to_word(tree, table, args.separator),
+        "dot": lambda tree: to_dot(tree, args.form).rstrip("\n"),
+    }[args.to]
 
 
 def run(args: argparse.Namespace) -> int:

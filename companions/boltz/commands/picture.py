@@ -1,4 +1,5 @@
-"""Draws an object, or what a run has in it, as SVG or PNG (the ending of the file's name says which).
+"""Draws an object, or what a run has in it, as SVG or PNG (the ending of the file's name says
+which).
 
   object    one object, by graphviz: --form parts, atoms or whole
   sizes     the share of each size; --law N adds the law up to size N
@@ -22,7 +23,9 @@ def add_arguments(parser: argparse.ArgumentParser) -> None:
     """The words of the command."""
     parser.add_argument("what", choices=("object", "sizes", "options", "cycles"))
     add_certificate(parser)
-    parser.add_argument("-o", "--output", required=True, metavar="FILE", help="FILE.svg or FILE.png")
+    parser.add_argument(
+        "-o", "--output", required=True, metavar="FILE", help="FILE.svg or FILE.png"
+    )
     parser.add_argument("--number", type=int, default=1, help="which object (1)")
     parser.add_argument("--form", choices=("parts", "atoms", "whole"), default="parts")
     parser.add_argument("--layout", choices=LAYOUTS, default="dot", help="graphviz's program")
@@ -57,5 +60,6 @@ def draw(args: argparse.Namespace, reading: Reading) -> None:
         plot_cycles(summary, args.output)
     else:
         header = reading.header
+        assert header is not None
         law = None if args.law is None else size_weights(reading.spec, float(header.x), args.law)
         plot_sizes(summary, law, header.window, args.output)

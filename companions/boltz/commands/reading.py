@@ -11,21 +11,25 @@ from boltz.spec import read_spec_file
 
 
 class Problem(Exception):
-    """What the user is told, without a trace."""
+    """What the user reads, without a trace."""
 
 
 def add_certificate(parser: argparse.ArgumentParser) -> None:
     """The two files."""
     parser.add_argument("file", help="the specification")
-    parser.add_argument("certificate", nargs="?", default="-", 
-                        help="what `boltz sample` printed (else standard input)")
+    parser.add_argument(
+        "certificate",
+        nargs="?",
+        default="-",
+        help="what `boltz sample` printed (else standard input)",
+    )
 
 
 class Reading:
     """A specification and the certificates over it in a file, whose objects are read one at a time.
 
-    Certificates may stand one after another, as `boltz-tools shards merge` writes them. Endings other than
-    `done` are told on standard error.
+    Certificates may follow each other, as `boltz-tools shards merge` writes them. Endings
+    other than `done` are reported on standard error.
     """
 
     def __init__(self, args: argparse.Namespace):
@@ -49,16 +53,21 @@ class Reading:
             self._check(certificate.header)
             for entry in certificate:
                 yield entry, self._reader.read(entry.text)
-            self._close(certificate.closing)
+            self._close(certificate.read_to_end())
         if self.header is None:
             raise Problem("there is no certificate")
 
     def _check(self, header: Header) -> None:
-        """The certificate is over the specification, and the x is that of the certificate before it."""
+        """Refuses a certificate over another specification, or with another x than those before."""
         if header.digest not in (None, self.spec.digest()):
-            raise Problem("the certificate is over another specification: its digest is %s, not %s"
-                          % (header.digest, self.spec.digest()))
-        if self.header is not None and (header.x, header.window) != (self.header.x, self.header.window):
+            raise Problem(
+                "the certificate is over another specification: its digest is %s, not %s"
+                % (header.digest, self.spec.digest())
+            )
+        if self.header is not None and (header.x, header.window) != (
+            self.header.x,
+            self.header.window,
+        ):
             raise Problem("the certificates have different x or windows")
         self.header = header
 
@@ -66,5 +75,12 @@ class Reading:
         """One more ending."""
         self.closings.append(closing)
         if closing.word != "done":
-            print("boltz-tools: the drawing ended by %s after %d objects%s" % (
-                closing.word, closing.kept, ": " + closing.undecided if closing.undecided else ""), file=sys.stderr)
+            print(
+                "boltz-tools: the drawing ended by %s after %d objects%s"
+                % (
+                    closing.word,
+                    closing.kept,
+                    ": " + closing.undecided if closing.undecided else "",
+                ),
+                file=sys.stderr,
+            )

@@ -1,13 +1,19 @@
 """One run in many shards, on one machine or many, each shard verified where it was made.
 
-  plan DIR SPEC X --seed S --shards N [words of sample]   writes the plan
-  run DIR [--workers K]                                   makes what is missing, by threads
-  run DIR --dask [--workers K]                            the same, by a local cluster of dask.distributed
-  run DIR --scheduler ADDRESS [--apart]                   the same, by a cluster that runs (--apart: no shared folder)
-  one DIR I                                               makes shard I (for GNU parallel, Slurm and others)
-  script DIR --parallel K | --slurm                       writes the line or the script that calls `one`
-  status DIR                                              checks all digests, completes the manifest, tells endings
-  merge DIR [--objects]                                   the certificates in the order of the shards (or the objects)
+  plan DIR SPEC X --seed S --shards N [words of sample]
+      writes the plan
+  run DIR [--workers K]
+      makes what is missing, by threads; with --dask by a local cluster of dask.distributed
+  run DIR --scheduler ADDRESS [--apart]
+      the same by a cluster that runs; --apart where its workers don't share the folder
+  one DIR I
+      makes shard I (for GNU parallel, Slurm and others)
+  script DIR --parallel K | --slurm
+      writes the line or the script that calls `one`
+  status DIR
+      checks all digests, completes the manifest and reports all endings
+  merge DIR [--objects]
+      writes the certificates in the order of the shards, or the objects alone
 """
 from __future__ import annotations
 
@@ -52,10 +58,14 @@ def add_arguments(parser: argparse.ArgumentParser) -> None:
     script = acts.add_parser("script", help="writes what calls `one`")
     script.add_argument("folder")
     kind = script.add_mutually_exclusive_group(required=True)
-    kind.add_argument("--parallel", type=int, metavar="K", help="a line for GNU parallel with K jobs at a time")
+    kind.add_argument(
+        "--parallel", type=int, metavar="K", help="a line for GNU parallel with K jobs at a time"
+    )
     kind.add_argument("--slurm", action="store_true", help="a script for sbatch")
     for name in ("status", "merge"):
-        act = acts.add_parser(name, help="checks all" if name == "status" else "writes the merged stream")
+        act = acts.add_parser(
+            name, help="checks all" if name == "status" else "writes the merged stream"
+        )
         act.add_argument("folder")
         if name == "merge":
             act.add_argument("--objects", action="store_true", help="the objects' texts alone")
@@ -64,7 +74,14 @@ def add_arguments(parser: argparse.ArgumentParser) -> None:
 def run(args: argparse.Namespace) -> int:
     """Does what the words name."""
     try:
-        return {"plan": plan, "run": make, "one": one, "script": script, "status": status, "merge": merge}[args.act](args)
+        return {
+            "plan": plan,
+            "run": make,
+            "one": one,
+            "script": script,
+            "status": status,
+            "merge": merge,
+        }[args.act](args)
     except ShardError as error:
         raise Problem(str(error))
     except ModuleNotFoundError as error:
@@ -82,17 +99,23 @@ def plan(args: argparse.Namespace) -> int:
     with open(args.file) as file:
         made = make_plan(file.read(), words, args.seed, args.shards, Program(args.program))
     Folder.create(args.folder, made)
-    print("%s: %d shards, seeds %d to %d" % (args.folder, made.shards, made.seed(0), made.seed(made.shards - 1)))
+    print(
+        "%s: %d shards, seeds %d to %d"
+        % (args.folder, made.shards, made.seed(0), made.seed(made.shards - 1))
+    )
     return 0
 
 
 def make(args: argparse.Namespace) -> int:
-    """Makes what is missing and tells what came of it."""
+    """Makes what is missing and reports what came of it."""
     folder = Folder(args.folder)
+    folder.sweep()
     missing = folder.missing()
     if args.dask or args.scheduler or args.scheduler_file:
         path = None if args.apart else Program(args.program).path
-        found = run_dask(folder, missing, path, args.workers, args.scheduler, args.scheduler_file, not args.apart)
+        found = run_dask(
+            folder, missing, path, args.workers, args.scheduler, args.scheduler_file, not args.apart
+        )
     else:
         found = run_local(folder, missing, Program(args.program), args.workers)
     show_progress(found, folder.plan.shards - len(missing), folder.plan.shards)
@@ -109,19 +132,38 @@ def show_progress(found: Iterable[Made], done: int, total: int) -> None:
         done, kept, others = done + 1, kept + receipt.kept, others + (receipt.status != 0)
         filled = 30 * done // total
         end = "\n" if done == total or not sys.stderr.isatty() else "\r"
-        print("[%s%s] %d/%d shards, %d objects, %d ended otherwise, %.0f s" % (
-            "#" * filled, "." * (30 - filled), done, total, kept, others, time.monotonic() - begun),
-            end=end, file=sys.stderr, flush=True)
+        print(
+            "[%s%s] %d/%d shards, %d objects, %d ended otherwise, %.0f s"
+            % (
+                "#" * filled,
+                "." * (30 - filled),
+                done,
+                total,
+                kept,
+                others,
+                time.monotonic() - begun,
+            ),
+            end=end,
+            file=sys.stderr,
+            flush=True,
+        )
 
 
 def one(args: argparse.Namespace) -> int:
-    """Makes one shard. However the drawing ended, the status is 0, so that nothing makes it again."""
+    """Makes one shard; the status is 0 however the drawing ended, so that none makes it again."""
     folder = Folder(args.folder)
     if not 0 <= args.shard < folder.plan.shards:
         raise Problem("there is no shard %d" % args.shard)
     receipt = folder.make(args.shard, Program(args.program))
-    print("shard %d ended by %s: %d kept, %s" % (
-        receipt.shard, receipt.ending, receipt.kept, "verified" if receipt.verified else "not verified"))
+    print(
+        "shard %d ended by %s: %d kept, %s"
+        % (
+            receipt.shard,
+            receipt.ending,
+            receipt.kept,
+            "verified" if receipt.verified else "not verified",
+        )
+    )
     return 0
 
 
@@ -131,15 +173,19 @@ def script(args: argparse.Namespace) -> int:
     command = [TOOLS, "--program", Program(args.program).path, "shards", "one", path]
     last = folder.plan.shards - 1
     if args.slurm:
-        print("#!/bin/sh\n#SBATCH --array=0-%d\n#SBATCH --job-name=boltz\n%s \"$SLURM_ARRAY_TASK_ID\"" % (
-            last, shlex.join(command)))
+        print(
+            '#!/bin/sh\n#SBATCH --array=0-%d\n#SBATCH --job-name=boltz\n%s "$SLURM_ARRAY_TASK_ID"'
+            % (last, shlex.join(command))
+        )
     else:
-        print("seq 0 %d | parallel --jobs %d --bar %s {}" % (last, args.parallel, shlex.join(command)))
+        print(
+            "seq 0 %d | parallel --jobs %d --bar %s {}" % (last, args.parallel, shlex.join(command))
+        )
     return 0
 
 
 def status(args: argparse.Namespace) -> int:
-    """Checks all digests, completes the manifest and tells every ending."""
+    """Checks all digests, completes the manifest and reports every ending."""
     folder = Folder(args.folder)
     receipts = folder.collect()
     for line in report(folder.plan, receipts):
