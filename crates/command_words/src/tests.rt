@@ -26,7 +26,8 @@ fn told(alloc: Global, command: &Command) -> Result<String, Fail> {
     let text = match command {
         Command::Spec { file } => format!(in alloc; "spec {}", shown(file))?,
         Command::Oracle { file, x, fraction } => {
-            format!(in alloc; "oracle {} {}/{} {fraction}", shown(file), x.num, x.den)?
+            let bits = fraction.number();
+            format!(in alloc; "oracle {} {}/{} {bits}", shown(file), x.num, x.den)?
         }
         Command::Sample { .. } | Command::Pool { .. } => told_drawing(alloc, command)?,
         Command::Verify { file, cert } => {
@@ -35,7 +36,10 @@ fn told(alloc: Global, command: &Command) -> Result<String, Fail> {
         Command::Migrate { file, cert } => {
             format!(in alloc; "migrate {} {}", shown(file), shown(cert))?
         }
-        Command::Bulk { n, fraction } => format!(in alloc; "bulk {n} {fraction}")?,
+        Command::Bulk { n, fraction } => {
+            let bits = fraction.number();
+            format!(in alloc; "bulk {n} {bits}")?
+        }
     };
     Ok(text)
 }
@@ -55,8 +59,9 @@ fn told_drawing(alloc: Global, command: &Command) -> Result<String, Fail> {
                 TapeWord::Seed(seed) => format!(in alloc; "seed {seed}")?,
             };
             let limits = told_limits(alloc, limits)?;
+            let bits = fraction.number();
             Ok(format!(in alloc;
-                "sample {} {}/{} {tape} {limits} {fraction}",
+                "sample {} {}/{} {tape} {limits} {bits}",
                 shown(file),
                 x.num,
                 x.den
@@ -71,8 +76,9 @@ fn told_drawing(alloc: Global, command: &Command) -> Result<String, Fail> {
             fraction,
         } => {
             let limits = told_limits(alloc, limits)?;
+            let bits = fraction.number();
             let mut text = format!(in alloc;
-                "pool {} {}/{} {} {limits} {fraction}",
+                "pool {} {}/{} {} {limits} {bits}",
                 shown(file),
                 x.num,
                 x.den,
