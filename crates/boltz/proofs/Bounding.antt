@@ -1,17 +1,11 @@
 -- Lines of classes and of levels, one after another, and the class vectors that they tell.
 use Rattle.std.proofs.Common.{◌≡◌, ℕ, suc, ◌+◌, max, List, [], ◌++◌, length, refl, sym, ap, ◌∙◌, arith, add-one, append_assoc, append-nil}
-use Rattle.std.specs.Prelude.{Some}
 use Rattle.bz_model.specs.Spec.{Spec}
-use Rattle.newton_upper.specs.BaseRule.{base_of, HasNoUpper}
-use Rattle.newton_upper.specs.declared.trials.Trial.{Trial}
 use Rattle.oracle_memo.specs.Levels.{level_down, level_up}
 use Rattle.oracle_memo.specs.Memos.{Memory}
 use Rattle.rounded_map.specs.RoundedMap.{Setting, setting}
-use Rattle.boltz.specs.Bounded.{Bounded, bounded_text, class_level, level_lines, level_after}
-use Rattle.boltz.specs.Bounded as bounds
+use Rattle.boltz.specs.OracleCommand.{class_level, level_lines, level_after}
 use Rattle.boltz.specs.Lines.{lines_below, base_lines}
-use Rattle.boltz.specs.Refusals.{no_upper_text}
-use Rattle.boltz.specs.declared.status.Status.{Status}
 
 below-none : (line : ℕ → List ℕ) → lines_below line 0 ≡ []
 unfolding lines_below
@@ -70,10 +64,3 @@ levels_of t base s m same made =
 -- the lines of a base
 pub base_lines_of : (s r : Spec) (values base : List ℕ) → s ≡ r → values ≡ base → base_lines s values ≡ base_lines r base
 base_lines_of s r values base same are = ap (λ (k : Spec). base_lines k values) same ∙ ap (base_lines r) are
-
--- what is told where there is a base, and where there is none
-pub told_base : (t : Setting) (base text : List ℕ) → base_of t ≡ Some base → text ≡ bounded_text t base → Bounded t Status.Done text
-told_base t base text has told = bounds.based base has refl told
-
-pub told_none : (t : Setting) (trials : List Trial) (status : Status) (text : List ℕ) → HasNoUpper t trials → status ≡ Status.NoUpper → text ≡ no_upper_text t.spec t.bits trials → Bounded t status text
-told_none t trials status text lacks is told = bounds.no_base trials lacks is told

@@ -1,4 +1,4 @@
--- What words stand for, why they stand for none, and which numbers a command has.
+-- What words stand for, why they stand for none, and which limits a drawing has.
 use Rattle.std.proofs.Common.{◌≡◌, ◌≢◌, ℕ, ◌≤◌, ◌⊎◌, List, [], ◌∷◌, refl, ap, arith, inl, inr}
 use Rattle.size_window.specs.Drawing.{AreLimits as AreWithin, limits_of}
 use Rattle.size_window.specs.declared.limits.Limits.{Limits}
@@ -8,6 +8,7 @@ use Rattle.command_words.specs.Commands.{AreLimits, Makes, IsCommand, Refuses}
 use Rattle.command_words.specs.Commands as makes
 use Rattle.command_words.specs.declared.command.Command.{Command}
 use Rattle.command_words.specs.declared.command.Command.TheVariants as command
+use Rattle.command_words.specs.declared.command.FractionBits.{FractionBits}
 use Rattle.command_words.specs.declared.command.TapeWord.{TapeWord}
 use Rattle.command_words.specs.declared.fault.ValueName.TheVariants as value
 use Rattle.command_words.specs.declared.fault.WordsFault.{WordsFault}
@@ -34,19 +35,10 @@ one-fault words NotACommand (BadValue v) m n h i = absurd (h.formless i.name i.a
 one-fault words (BadValue v) NotACommand m n h i = absurd (i.formless h.name h.arguments h.form)
 one-fault words (BadValue v) (BadValue u) m n h i = ap BadValue (one_bad_value words v u h i)
 
--- The fraction bits of a command.
-abbrev AreBits : ℕ → Type 0
-AreBits bits = (bits ≡ 40) ⊎ (bits ≡ 48) ⊎ (bits ≡ 52)
-
--- The numbers of a command are within their limits.
-abbrev HasNumbers : Command → Type 0
-HasNumbers (command.Oracle file x bits) = AreBits bits
-HasNumbers (command.Sample file x word limits bits) = AreWithin (limits_of limits) × AreBits bits
-HasNumbers other = Unit {0}
-
-set-bits : (texts : List (List ℕ)) (n : ℕ) → IsSet value.Fraction 48 texts n → AreBits n
-set-bits [] n set = inr (inl set)
-set-bits (text ∷ others) n set = set.within
+-- The limits of a drawing are within those that it takes.
+abbrev HasLimits : Command → Type 0
+HasLimits (command.Sample file x word limits F) = AreWithin (limits_of limits)
+HasLimits other = Unit {0}
 
 set-max : (texts : List (List ℕ)) (n : ℕ) → IsSet value.Max 1000 texts n → n ≤ 1000000
 set-max [] n set = omega (arith, set)
@@ -66,23 +58,14 @@ are-within given limits are =
     let turns = set-turns (given.values option.Turns) limits.turns are.turns in
     record { window = are.window; max = set-max (given.values option.Max) limits.max are.max; some = count.0; count = count.1; some_turns = turns.0; turns = turns.1 }
 
-has-numbers : (given : Given) (name : CommandName) (c : Command) → Makes given name c → HasNumbers c
-has-numbers given name c (makes.spec f e) = tt
-has-numbers given name c (makes.oracle f t x b e r is) = set-bits (given.values option.Fraction) b is.is
-has-numbers given name c (makes.sample f t x w l b e r w_is l_is is) = (are-within given l l_is, set-bits (given.values option.Fraction) b is.is)
-has-numbers given name c (makes.pool f t p ts x l b e r l_is is) = tt
-has-numbers given name c (makes.verify f k e) = tt
-has-numbers given name c (makes.migrate f k e) = tt
-has-numbers given name c (makes.bulk t n b e st is) = tt
+has-limits : (given : Given) (name : CommandName) (c : Command) → Makes given name c → HasLimits c
+has-limits given name c (makes.sample f t x w l b e r w_is l_is is) = are-within given l l_is
+has-limits given name c (makes.spec f e) = tt
+has-limits given name c (makes.oracle f t x b e r is) = tt
+has-limits given name c (makes.pool f t p ts x l b e r l_is is) = tt
+has-limits given name c (makes.verify f k e) = tt
+has-limits given name c (makes.migrate f k e) = tt
+has-limits given name c (makes.bulk t n b e st is) = tt
 
-numbers-of : (c : Command) → IsStoodFor c → HasNumbers c
-numbers-of c h = has-numbers _ _ c h.is.made
-
-pub oracle-bits : (file : List ℕ) (x : Fraction) (bits : ℕ) → IsStoodFor (command.Oracle file x bits) → (bits ≡ 40) ⊎ (bits ≡ 48) ⊎ (bits ≡ 52)
-oracle-bits file x bits h = numbers-of (command.Oracle file x bits) h
-
-pub sample-bits : (file : List ℕ) (x : Fraction) (word : TapeWord) (limits : Limits) (bits : ℕ) → IsStoodFor (command.Sample file x word limits bits) → (bits ≡ 40) ⊎ (bits ≡ 48) ⊎ (bits ≡ 52)
-sample-bits file x word limits bits h = (numbers-of (command.Sample file x word limits bits) h).1
-
-pub sample-limits : (file : List ℕ) (x : Fraction) (word : TapeWord) (limits : Limits) (bits : ℕ) → IsStoodFor (command.Sample file x word limits bits) → AreWithin (limits_of limits)
-sample-limits file x word limits bits h = (numbers-of (command.Sample file x word limits bits) h).0
+pub sample_limits : (file : List ℕ) (x : Fraction) (word : TapeWord) (limits : Limits) (F : FractionBits) → IsStoodFor (command.Sample file x word limits F) → AreWithin (limits_of limits)
+sample_limits file x word limits F h = has-limits _ _ (command.Sample file x word limits F) h.is.made

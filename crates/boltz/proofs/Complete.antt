@@ -1,46 +1,56 @@
--- A specification that is accepted and well founded is printed, or drawn from, and no other one is.
-use Rattle.std.proofs.Common.{arith, ◌≢◌, ◌⊎◌, inl, inr, ◌≡◌, ℕ, zero, suc, ◌≤◌, List, [], ◌∷◌, refl, sym, subst, ap, ◌∙◌}
-use Rattle.std.specs.Prelude.{Bool, length, take, Option, Some, None, IfSome, option_map}
+-- What is certain to be printed, refused, bounded or drawn.
+use Rattle.std.proofs.Common.{arith, ◌≢◌, ◌⊎◌, inl, inr, ◌≡◌, ℕ, zero, suc, ◌≤◌, List, [], ◌∷◌, ◌++◌, refl, sym, subst, ap, ◌∙◌}
+use Rattle.std.specs.Prelude.{Bool, length, take, Option, Some, None}
+use Rattle.bz_model.specs.Fraction.{ratio}
 use Rattle.bz_model.specs.Spec.{Spec}
-use Rattle.bz_outside.specs.Outside.{Rose, Appends}
-use Rattle.spec_reader.specs.Reading.{Grammar, Refuses}
-use Rattle.spec_reader.proofs.OneText.{one_specification, accepted}
-use Rattle.spec_reader.specs.Tokens.{tokens_of}
-use Rattle.spec_reader.proofs.Lexical.{are_lexical}
-use Rattle.spec_reader.proofs.Sounds.{stands_sound}
-use Rattle.class_system.specs.Sound.{IsSound}
-use Rattle.well_founded.specs.Examination.{TellsCause}
-use Rattle.well_founded.proofs.Judged.{tells-unfounded}
-use Rattle.oracle_memo.specs.Levels.{level_bounds}
+use Rattle.bz_model.specs.WellFounded.{IsWellFounded}
 use Rattle.bz_model.specs.declared.fraction.Fraction.{Fraction}
+use Rattle.bit_tape.specs.Tape.{bits_of}
+use Rattle.oracle_memo.specs.Levels.{level_bounds, cost_at}
+use Rattle.rounded_map.specs.RoundedMap.{Setting, setting}
 use Rattle.size_window.specs.Drawing.{limits_of}
-use Rattle.size_window.specs.RunByBits.{Limits, Course, Ending}
-use Rattle.size_window.specs.declared.limits.Limits.{Limits as Given}
-use Rattle.command_words.specs.Commands.{IsCommand, Refuses as RefusesWords}
+use Rattle.size_window.specs.RunByBits.{Limits as Window, Course, Ending}
+use Rattle.size_window.specs.declared.limits.Limits.{Limits}
+use Rattle.newton_upper.specs.BaseRule.{HasNoUpper}
+use Rattle.newton_upper.specs.declared.trials.Trial.{Trial}
+use Rattle.command_words.specs.Commands.{IsCommand, Refuses}
+use Rattle.command_words.specs.Fractions.{fraction_bits}
 use Rattle.command_words.specs.declared.command.Command.{Command}
 use Rattle.command_words.specs.declared.command.Command.TheVariants as command
+use Rattle.command_words.specs.declared.command.FractionBits.{FractionBits}
 use Rattle.command_words.specs.declared.command.TapeWord.{TapeWord}
 use Rattle.command_words.specs.declared.fault.WordsFault.{WordsFault}
 use Rattle.command_words.proofs.Unique.{one_command}
-use Rattle.boltz.specs.Commands.{file_of, IsBuilt, source_of, AreRefused}
-use Rattle.boltz.specs.Commands as commands
-use Rattle.boltz.specs.Answers.{Output, Ends, World, IsAsked, IsAccepted, Answers, tape_of, spec_text}
+use Rattle.boltz.specs.Answers.{World, Carries, Answers, Unworded, IsCalm}
 use Rattle.boltz.specs.Answers as answers
-use Rattle.boltz.specs.Bounded.{Bounded, bounded_text}
-use Rattle.boltz.specs.Bounded as bounds
-use Rattle.newton_upper.specs.BaseRule.{base_of, HasNoUpper}
-use Rattle.newton_upper.specs.declared.trials.Trial.{Trial}
-use Rattle.rounded_map.specs.RoundedMap.{Setting, setting}
+use Rattle.boltz.specs.Commands.{IsBuilt, Specifies, AreRefused}
+use Rattle.boltz.specs.Commands as commands
 use Rattle.boltz.specs.Complete.{IsGiven, IsFit, IsPrintable, IsUnfit, undisturbed, IsDrawable, IsBoundable, IsBaseless}
-use Rattle.boltz.specs.Complete as complete-of
-use Rattle.boltz.specs.Drawn.{TapeMet, HasFailed, sampling, IsCourseOver, IsDrawnText, IsReported, Sampled, ending_status}
-use Rattle.boltz.specs.Drawn as drawing
-use Rattle.bit_tape.specs.Tape.{bits_of}
+use Rattle.boltz.specs.Complete as complete
+use Rattle.boltz.specs.Drawn.{TapeMet, HasFailed, Drawn, Lists, drawn_header, closing_lines, ending_status}
+use Rattle.boltz.specs.Drawn as drawn
+use Rattle.boltz.specs.OracleCommand.{Bounded, bounded_text}
+use Rattle.boltz.specs.Outcomes.{Outcome, Says, MaySay}
+use Rattle.boltz.specs.Outcomes as outcomes
 use Rattle.boltz.specs.Refusals.{words_line, not_yet_line, no_upper_text}
+use Rattle.boltz.specs.SampleCommand.{DrawnFrom, source_of, tape_in}
+use Rattle.boltz.specs.SpecCommand.{Printed, spec_text}
+use Rattle.boltz.specs.Stages.{Files, IsAccepted, FileRead, Judged, Specified, Based}
+use Rattle.boltz.specs.Stages as stages
 use Rattle.boltz.specs.declared.status.Status.{Status}
-use Rattle.boltz.specs.declared.status.Status.TheVariants as variants
 use Rattle.boltz.proofs.Commands.{not-refused, one-fault}
-use Rattle.boltz.proofs.Courses.{one_end, unfailing}
+use Rattle.boltz.proofs.OneDrawing.{same-course}
+use Rattle.boltz.proofs.OneReading.{may-say-only, read-only, judged-only, unfit-refused, based-only, baseless-only}
+
+-- words that stand for a command have an outcome of it
+pub outcome-of : (w : World) (asked : Command) → IsCommand w.words asked → (status : Status) (text : List ℕ) (ticks : ℕ) → status ≢ Status.OutOfMemory → Answers w status text ticks → Carries w.files asked status text ticks
+outcome-of w asked named status text ticks memory (answers.refused fault refuses (answers.refused m says)) = absurd (not-refused w.words asked fault named m refuses)
+outcome-of w asked named status text ticks memory (answers.refused fault refuses (answers.no_memory says)) = absurd (memory says.status_is)
+outcome-of w asked named status text ticks memory (answers.carried other named_too p) = subst (λ c. Carries w.files c status text ticks) (one_command w.words other asked named_too named) p
+
+-- a file that is given is calm
+abbrev calm-of : (w : World) (asked : Command) (file bytes : List ℕ) → IsGiven w asked file bytes → IsCalm w.files file
+calm-of w asked file bytes given = record { bytes = bytes; known = given.is_known; unfailed = given.no_fault }
 
 -- all of a short list
 take-all : (n : ℕ) (xs : List ℕ) → length xs ≤ n → take n xs ≡ xs
@@ -49,276 +59,146 @@ take-all (suc n) [] h = refl
 take-all zero (x ∷ xs) h = absurd (omega arith)
 take-all (suc n) (x ∷ xs) h = ap (λ ys. x ∷ ys) (take-all n xs (omega arith))
 
-told : (content : Option (List ℕ)) (bytes read : List ℕ) → content ≡ Some bytes → IfSome content (λ b. read ≡ take 65537 b) → read ≡ take 65537 bytes
-told content bytes read e h = subst (λ o. IfSome o (λ b. read ≡ take 65537 b)) e h
+-- a fit specification goes on to the command's own part
+fit-only : (w : World) (asked : Command) (file : List ℕ) (s : Spec) (fit : IsFit w asked file s) (next : Spec → Outcome) (status : Status) (text : List ℕ) (ticks : ℕ) → status ≢ Status.OutOfMemory → Specified w.files file next status text ticks → next s status text ticks
+fit-only w asked file s fit next status text ticks memory p =
+    let read = read-only w.files file 65537 (Judged next) (calm-of w asked file fit.bytes fit.given) status text ticks memory p in
+    let all : take 65537 fit.bytes ≡ fit.bytes = take-all 65537 fit.bytes (let few = fit.accepted.few in omega (arith, few)) in
+    judged-only next fit.bytes s fit.accepted fit.founded status text ticks memory (subst (λ b. Judged next b status text ticks) all read)
 
--- a text's tables are sound
-sound : (bytes : List ℕ) (s : Spec) → Grammar bytes s → IsSound s
-sound bytes s g = stands_sound (tokens_of bytes) s (are_lexical bytes) g.stand_for
+pub printed : (w : World) (s : Spec) (status : Status) (text : List ℕ) (ticks : ℕ) → IsPrintable w s → status ≢ Status.OutOfMemory → Answers w status text ticks → (status ≡ Status.Done) × (text ≡ spec_text s)
+printed w s status text ticks p memory h =
+    let asked = command.Spec p.file in
+    may-say-only Status.Done (spec_text s) 0 status text ticks memory (fit-only w asked p.file s p.fit Printed status text ticks memory (outcome-of w asked p.fit.given.named status text ticks memory h))
 
-module _ (w : World) (c : Command) (bytes : List ℕ) (given : IsGiven w c bytes) where
-  -- the command of an answer is the one that is given
-  alone : (d : Command) → IsCommand w.words d → d ≡ c
-  alone d named = one_command w.words d c named given.named
+-- what is read of an unfit specification is refused
+unfit-only : (w : World) (p : IsUnfit w) (next : Spec → Outcome) (status : Status) (text : List ℕ) (ticks : ℕ) → status ≢ Status.OutOfMemory → Specified w.files p.file next status text ticks → status ≡ Status.SpecRefused
+unfit-only w p next status text ticks memory h = unfit-refused next (take 65537 p.bytes) p.unfit status text ticks memory (read-only w.files p.file 65537 (Judged next) (calm-of w p.asked p.file p.bytes p.given) status text ticks memory h)
 
-  -- what is read is the file's front
-  is-read : (d : Command) (read : List ℕ) → IsAsked w d read → read ≡ take 65537 bytes
-  is-read d read asked = told (w.content (file_of c)) bytes read given.is_told (subst (λ e. IfSome (w.content (file_of e)) (λ b. read ≡ take 65537 b)) (alone d asked.named) asked.is_read)
+unfit-carried : (w : World) (p : IsUnfit w) (asked : Command) → Specifies asked p.file → (status : Status) (text : List ℕ) (ticks : ℕ) → status ≢ Status.OutOfMemory → Carries w.files asked status text ticks → status ≡ Status.SpecRefused
+unfit-carried w p (command.Spec file) is status text ticks memory h = unfit-only w p Printed status text ticks memory (subst (λ f. Specified w.files f Printed status text ticks) is h)
+unfit-carried w p (command.Oracle file x F) is status text ticks memory h =
+    let next = λ (s : Spec). Based (setting s x.num x.den (fraction_bits F)) (Bounded (setting s x.num x.den (fraction_bits F))) in
+    unfit-only w p next status text ticks memory (subst (λ f. Specified w.files f next status text ticks) is h)
+unfit-carried w p (command.Sample file x word limits F) is status text ticks memory h =
+    let next = λ (s : Spec). Based (setting s x.num x.den (fraction_bits F)) (DrawnFrom (setting s x.num x.den (fraction_bits F)) (limits_of limits) (tape_in w.files (source_of word))) in
+    unfit-only w p next status text ticks memory (subst (λ f. Specified w.files f next status text ticks) is h)
+unfit-carried w p later is status text ticks memory h = absurd is
 
-  no-rise : (d : Command) → IsCommand w.words d → ¬ (Rose (w.before (file_of d)) (w.after (file_of d)))
-  no-rise d named rose = given.no_fault (subst (λ e. Rose (w.before (file_of e)) (w.after (file_of e))) (alone d named) rose)
+pub refused : (w : World) (status : Status) (text : List ℕ) (ticks : ℕ) → IsUnfit w → status ≢ Status.OutOfMemory → Answers w status text ticks → status ≡ Status.SpecRefused
+refused w status text ticks p memory h = unfit-carried w p p.asked p.specifies status text ticks memory (outcome-of w p.asked p.given.named status text ticks memory h)
 
-  -- the command is built
-  not-later : (d : Command) → IsCommand w.words d → ¬ ¬ (IsBuilt d)
-  not-later d named later = later (subst IsBuilt (sym (alone d named)) given.built)
+pub bounded : (w : World) (s : Spec) (x : Fraction) (F : FractionBits) (base : List ℕ) (status : Status) (text : List ℕ) (ticks : ℕ) → IsBoundable w s x F base → status ≢ Status.OutOfMemory → Answers w status text ticks → (status ≡ Status.Done) × (text ≡ bounded_text (setting s x.num x.den (fraction_bits F)) base)
+bounded w s x F base status text ticks p memory h =
+    let asked = command.Oracle p.file x F in
+    let t = λ (s : Spec). setting s x.num x.den (fraction_bits F) in
+    let own = fit-only w asked p.file s p.fit (λ s. Based (t s) (Bounded (t s))) status text ticks memory (outcome-of w asked p.fit.given.named status text ticks memory h) in
+    let over = based-only (t s) (Bounded (t s)) base p.has_base status text ticks memory own in
+    may-say-only Status.Done (bounded_text (t s) base) (cost_at 6) status text over.0 memory over.1
 
--- What becomes of a command that is built, whose specification is accepted and well founded.
-abbrev Outcome : World → Spec → Status → List ℕ → Command → Type 0
-Outcome w s status text (command.Spec file) = (status ≡ Status.Done) × (text ≡ spec_text s)
-Outcome w s status text (command.Oracle file x bits) = Bounded (setting s x.num x.den bits) status text
-Outcome w s status text (command.Sample file x word limits bits) = Sampled (setting s x.num x.den bits) (limits_of limits) (tape_of w (source_of word)) status text
-Outcome w s status text later = Unit {0}
+pub baseless : (w : World) (s : Spec) (x : Fraction) (F : FractionBits) (status : Status) (text : List ℕ) (ticks : ℕ) → IsBaseless w s x F → status ≢ Status.OutOfMemory → Answers w status text ticks → (trials : List Trial) × HasNoUpper (setting s x.num x.den (fraction_bits F)) trials × (status ≡ Status.NoUpper) × (text ≡ no_upper_text s (fraction_bits F) trials)
+baseless w s x F status text ticks (complete.to_bound file fit none) memory h =
+    let asked = command.Oracle file x F in
+    let t = λ (s : Spec). setting s x.num x.den (fraction_bits F) in
+    baseless-only (t s) (Bounded (t s)) none status text ticks memory (fit-only w asked file s fit (λ s. Based (t s) (Bounded (t s))) status text ticks memory (outcome-of w asked fit.given.named status text ticks memory h))
+baseless w s x F status text ticks (complete.to_draw file word limits fit none) memory h =
+    let asked = command.Sample file x word limits F in
+    let t = λ (s : Spec). setting s x.num x.den (fraction_bits F) in
+    let met = tape_in w.files (source_of word) in
+    baseless-only (t s) (DrawnFrom (t s) (limits_of limits) met) none status text ticks memory (fit-only w asked file s fit (λ s. Based (t s) (DrawnFrom (t s) (limits_of limits) met)) status text ticks memory (outcome-of w asked fit.given.named status text ticks memory h))
 
-module _ (w : World) (c : Command) (s : Spec) (fit : IsFit w c s) where
-  -- all of the file is read
-  all-read : (d : Command) (read : List ℕ) → IsAsked w d read → read ≡ fit.bytes
-  all-read d read asked = is-read w c fit.bytes fit.given d read asked ∙ take-all 65537 fit.bytes (let few = fit.accepted.few in omega arith)
+-- a drawing over a tape that is known is the undisturbed one
+drawn-only : (cost : ℕ → ℕ) (header : List ℕ) (a : Setting) (base : List ℕ) (limits : Window) (t : TapeMet) (bits : ℕ → Option Bool) (turns : ℕ) (ending : Ending) → bits_of t.source t.contents ≡ Some bits → ¬ (HasFailed t) → (undisturbed a base limits bits turns).state.ending ≡ Some ending → (status : Status) (text : List ℕ) (ticks : ℕ) → status ≢ Status.OutOfMemory → Drawn cost header a.spec (ratio a.num a.den) a.bits (level_bounds a base) limits t status text ticks → (status ≡ ending_status ending) × ((lines : List ℕ) × Lists a.spec (undisturbed a base limits bits turns).entries lines × (text ≡ header ++ (lines ++ closing_lines (level_bounds a base) (undisturbed a base limits bits turns) ending)))
+drawn-only cost header a base limits t bits turns ending are_known calm ends status text ticks memory (drawn.so_far c given first others lines h e l says) = absurd (memory says.status_is)
+drawn-only cost header a base limits t bits turns ending are_known calm ends status text ticks memory (drawn.no_memory says) = absurd (memory says.status_is)
+drawn-only cost header a base limits t bits turns ending are_known calm ends status text ticks memory (drawn.ended c given d lines h l says) =
+    let same = same-course a.spec (ratio a.num a.den) a.bits (level_bounds a base) limits t bits are_known calm c given d h turns ending ends in (
+      says.status_is ∙ ap ending_status same.1,
+      (
+        lines,
+        subst (λ (z : Course). Lists a.spec z.entries lines) same.0 l,
+        says.text_is ∙ ap (λ (z : Course). header ++ (lines ++ closing_lines (level_bounds a base) z d)) same.0 ∙ ap (λ z. header ++ (lines ++ closing_lines (level_bounds a base) (undisturbed a base limits bits turns) z)) same.1,
+      ),
+    )
 
-  -- the tables that are read are the specification's
-  same-tables : (d : Command) (read : List ℕ) (t : Spec) → IsAsked w d read → IsAccepted read t → t ≡ s
-  same-tables d read t asked accepts = one_specification fit.bytes t s (subst (λ r. Grammar r t) (all-read d read asked) accepts.stands) fit.accepted.stands
+pub draws : (w : World) (s : Spec) (x : Fraction) (F : FractionBits) (turns : ℕ) (limits : Limits) (base : List ℕ) (bits : ℕ → Option Bool) (ending : Ending) (status : Status) (text : List ℕ) (ticks : ℕ) → IsDrawable w s x F limits base bits turns ending → status ≢ Status.OutOfMemory → Answers w status text ticks → (status ≡ ending_status ending) × ((lines : List ℕ) × Lists s (undisturbed (setting s x.num x.den (fraction_bits F)) base (limits_of limits) bits turns).entries lines × (text ≡ drawn_header (setting s x.num x.den (fraction_bits F)) base (limits_of limits) ++ (lines ++ closing_lines (level_bounds (setting s x.num x.den (fraction_bits F)) base) (undisturbed (setting s x.num x.den (fraction_bits F)) base (limits_of limits) bits turns) ending)))
+draws w s x F turns limits base bits ending status text ticks p memory h =
+    let asked = command.Sample p.file x p.word limits F in
+    let t = λ (s : Spec). setting s x.num x.den (fraction_bits F) in
+    let met = tape_in w.files (source_of p.word) in
+    let own = fit-only w asked p.file s p.fit (λ s. Based (t s) (DrawnFrom (t s) (limits_of limits) met)) status text ticks memory (outcome-of w asked p.fit.given.named status text ticks memory h) in
+    let over = based-only (t s) (DrawnFrom (t s) (limits_of limits) met) base p.has_base status text ticks memory own in
+    drawn-only cost_at (drawn_header (t s) base (limits_of limits)) (t s) base (limits_of limits) met bits turns ending p.are_told p.no_fault p.ends status text over.0 memory over.1
 
-  outcome : (status : Status) (text : List ℕ) → Answers w status text → Outcome w s status text c
-  outcome status text (answers.words_refused fault memory refuses e) = absurd (not-refused w.words c fault fit.given.named memory refuses)
-  outcome status text (answers.not_yet d named later e) = absurd (not-later w c fit.bytes fit.given d named later)
-  outcome status text (answers.not_read d named built rose e) = absurd (no-rise w c fit.bytes fit.given d named rose)
-  outcome status text (answers.text_refused d read fault asked memory refuses e) =
-      absurd (memory (accepted fit.bytes s fault fit.accepted.few fit.accepted.stands fit.accepted.within (subst (λ r. Refuses r fault) (all-read d read asked) refuses)))
-  outcome status text (answers.unfounded d read t cause asked accepts memory tells e) =
-      absurd (tells-unfounded s cause (sound fit.bytes s fit.accepted.stands) (subst (λ u. TellsCause u cause) (same-tables d read t asked accepts) tells) memory fit.founded)
-  outcome status text (answers.printed file read t asked accepts founded e) =
-      subst (Outcome w s status text) (alone w c fit.bytes fit.given (command.Spec file) asked.named) (refl, e ∙ ap spec_text (same-tables (command.Spec file) read t asked accepts))
-  outcome status text (answers.bounded file read x bits t asked accepts founded done) =
-      let same = same-tables (command.Oracle file x bits) read t asked accepts in
-      subst (Outcome w s status text) (alone w c fit.bytes fit.given (command.Oracle file x bits) asked.named)
-      (subst (λ u. Bounded (setting u x.num x.den bits) status text) same done)
-  outcome status text (answers.sampled file read x word limits bits t asked accepts founded done) =
-      let same = same-tables (command.Sample file x word limits bits) read t asked accepts in
-      subst (Outcome w s status text) (alone w c fit.bytes fit.given (command.Sample file x word limits bits) asked.named)
-      (subst (λ u. Sampled (setting u x.num x.den bits) (limits_of limits) (tape_of w (source_of word)) status text) same done)
+-- only words that are refused have the status that says so
+not-words : (said status : Status) (line text : List ℕ) (most ticks : ℕ) → said ≢ Status.WordsRefused → Says said line most status text ticks → status ≡ Status.WordsRefused → ⊥
+not-words said status line text most ticks other says is = other (sym says.status_is ∙ is)
 
-pub printed : (w : World) (s : Spec) (status : Status) (text : List ℕ) → IsPrintable w s → Answers w status text → (status ≡ Status.Done) × (text ≡ spec_text s)
-printed w s status text p h = outcome w (command.Spec p.file) s p.fit status text h
+said-no-words : (said : Status) (line : List ℕ) (most : ℕ) (status : Status) (text : List ℕ) (ticks : ℕ) → said ≢ Status.WordsRefused → MaySay said line most status text ticks → status ≡ Status.WordsRefused → ⊥
+said-no-words said line most status text ticks other (outcomes.says says) is = not-words said status line text most ticks other says is
+said-no-words said line most status text ticks other (outcomes.no_memory says) is = not-words Status.OutOfMemory status [] text most ticks (λ e. absurd (cc)) says is
 
-pub refused : (w : World) (status : Status) (text : List ℕ) → IsUnfit w → Answers w status text → status ≡ Status.SpecRefused
-refused w status text p (answers.words_refused fault memory refuses e) = absurd (not-refused w.words p.asked fault p.given.named memory refuses)
-refused w status text p (answers.not_yet d named later e) = absurd (not-later w p.asked p.bytes p.given d named later)
-refused w status text p (answers.not_read d named built rose e) = absurd (no-rise w p.asked p.bytes p.given d named rose)
-refused w status text p (answers.text_refused d read fault asked memory refuses e) = refl
-refused w status text p (answers.unfounded d read t cause asked accepts memory tells e) = refl
-refused w status text p (answers.printed file read t asked accepts founded e) = absurd (p.unfit t (subst (λ r. IsAccepted r t) (is-read w p.asked p.bytes p.given (command.Spec file) read asked) accepts) founded)
-refused w status text p (answers.bounded file read x bits t asked accepts founded done) = absurd (p.unfit t (subst (λ r. IsAccepted r t) (is-read w p.asked p.bytes p.given (command.Oracle file x bits) read asked) accepts) founded)
-refused w status text p (answers.sampled file read x word limits bits t asked accepts founded done) = absurd (p.unfit t (subst (λ r. IsAccepted r t) (is-read w p.asked p.bytes p.given (command.Sample file x word limits bits) read asked) accepts) founded)
+specified-no-words : (f : Files) (file : List ℕ) (next : Spec → Outcome) → ((s : Spec) (status : Status) (text : List ℕ) (ticks : ℕ) → next s status text ticks → status ≡ Status.WordsRefused → ⊥) → (status : Status) (text : List ℕ) (ticks : ℕ) → Specified f file next status text ticks → status ≡ Status.WordsRefused → ⊥
+specified-no-words f file next on status text ticks (stages.failed rose says) is = not-words Status.ReadFault status _ text _ ticks (λ e. absurd (cc)) says is
+specified-no-words f file next on status text ticks (stages.no_memory says) is = not-words Status.OutOfMemory status _ text _ ticks (λ e. absurd (cc)) says is
+specified-no-words f file next on status text ticks (stages.read bytes are p) is = go p
+  where
+    go : Judged next bytes status text ticks → ⊥
+    go (stages.refused fault m refuses says) = not-words Status.SpecRefused status _ text _ ticks (λ e. absurd (cc)) says is
+    go (stages.unfounded s cause a m tells says) = not-words Status.SpecRefused status _ text _ ticks (λ e. absurd (cc)) says is
+    go (stages.no_memory says) = not-words Status.OutOfMemory status _ text _ ticks (λ e. absurd (cc)) says is
+    go (stages.founded s a g q) = on s status text ticks q is
 
--- there is one base, or none
-based-only : (t : Setting) (base : List ℕ) (status : Status) (text : List ℕ) → base_of t ≡ Some base → Bounded t status text → (status ≡ Status.Done) × (text ≡ bounded_text t base)
-based-only t base status text has (bounds.based b is e f) = let same : b ≡ base = cc in (e, f ∙ ap (bounded_text t) same)
-based-only t base status text has (bounds.no_base trials lacks e f) = let none = lacks.no_base in absurd (cc)
+based-no-words : (t : Setting) (next : List ℕ → Outcome) → ((base : List ℕ) (status : Status) (text : List ℕ) (ticks : ℕ) → next base status text ticks → status ≡ Status.WordsRefused → ⊥) → (status : Status) (text : List ℕ) (ticks : ℕ) → Based t next status text ticks → status ≡ Status.WordsRefused → ⊥
+based-no-words t next on status text ticks (stages.no_base trials lacks says) is = not-words Status.NoUpper status _ text _ ticks (λ e. absurd (cc)) says is
+based-no-words t next on status text ticks (stages.no_memory says) is = not-words Status.OutOfMemory status _ text _ ticks (λ e. absurd (cc)) says is
+based-no-words t next on status text ticks (stages.based base more has p sum) is = on base status text more p is
 
-baseless-only : (t : Setting) (status : Status) (text : List ℕ) → base_of t ≡ None → Bounded t status text → (status ≡ Status.NoUpper) × ((trials : List Trial) × HasNoUpper t trials × (text ≡ no_upper_text t.spec t.bits trials))
-baseless-only t status text has (bounds.based b is e f) = absurd (cc)
-baseless-only t status text has (bounds.no_base trials lacks e f) = (e, (trials, lacks, f))
+ending-no-words : (e : Ending) → ending_status e ≢ Status.WordsRefused
+ending-no-words Ending.Done is = absurd (cc)
+ending-no-words Ending.TapeEnded is = absurd (cc)
+ending-no-words (Ending.Undecided left_open) is = absurd (cc)
+ending-no-words Ending.TurnLimit is = absurd (cc)
+ending-no-words Ending.ReadFault is = absurd (cc)
 
-pub bounded : (w : World) (s : Spec) (x : Fraction) (F : ℕ) (base : List ℕ) (status : Status) (text : List ℕ) → IsBoundable w s x F base → Answers w status text → (status ≡ Status.Done) × (text ≡ bounded_text (setting s x.num x.den F) base)
-bounded w s x F base status text p h = based-only (setting s x.num x.den F) base status text p.has_base (outcome w (command.Oracle p.file x F) s p.fit status text h)
+drawn-no-words : (t : Setting) (limits : Window) (met : TapeMet) (base : List ℕ) (status : Status) (text : List ℕ) (ticks : ℕ) → DrawnFrom t limits met base status text ticks → status ≡ Status.WordsRefused → ⊥
+drawn-no-words t limits met base status text ticks (drawn.ended c given d lines h l says) is = not-words (ending_status d) status _ text _ ticks (ending-no-words d) says is
+drawn-no-words t limits met base status text ticks (drawn.so_far c given first others lines h e l says) is = not-words Status.OutOfMemory status _ text _ ticks (λ e. absurd (cc)) says is
+drawn-no-words t limits met base status text ticks (drawn.no_memory says) is = not-words Status.OutOfMemory status _ text _ ticks (λ e. absurd (cc)) says is
 
--- a drawing without a base tells the proposals
-baseless-drawn : (t : Setting) (limits : Limits) (tape : TapeMet) (status : Status) (text : List ℕ) → base_of t ≡ None → Sampled t limits tape status text → (status ≡ Status.NoUpper) × ((trials : List Trial) × HasNoUpper t trials × (text ≡ no_upper_text t.spec t.bits trials))
-baseless-drawn t limits tape status text none (drawing.drawn base has r) = absurd (cc)
-baseless-drawn t limits tape status text none (drawing.no_base trials lacks e f) = (e, (trials, lacks, f))
+carried-no-words : (f : Files) (asked : Command) → ¬ (¬ (IsBuilt asked)) → (status : Status) (text : List ℕ) (ticks : ℕ) → Carries f asked status text ticks → status ≡ Status.WordsRefused → ⊥
+carried-no-words f (command.Spec file) built status text ticks h is = specified-no-words f file Printed (λ s status text ticks p e. said-no-words Status.Done (spec_text s) 0 status text ticks (λ e. absurd (cc)) p e) status text ticks h is
+carried-no-words f (command.Oracle file x F) built status text ticks h is =
+    let t = λ (s : Spec). setting s x.num x.den (fraction_bits F) in
+    specified-no-words f file (λ s. Based (t s) (Bounded (t s))) (λ s. based-no-words (t s) (Bounded (t s)) (λ base status text ticks p e. said-no-words Status.Done (bounded_text (t s) base) (cost_at 6) status text ticks (λ e. absurd (cc)) p e)) status text ticks h is
+carried-no-words f (command.Sample file x word limits F) built status text ticks h is =
+    let t = λ (s : Spec). setting s x.num x.den (fraction_bits F) in
+    let met = tape_in f (source_of word) in
+    specified-no-words f file (λ s. Based (t s) (DrawnFrom (t s) (limits_of limits) met)) (λ s. based-no-words (t s) (DrawnFrom (t s) (limits_of limits) met) (drawn-no-words (t s) (limits_of limits) met)) status text ticks h is
+carried-no-words f later built status text ticks h is = absurd (built (λ no. no))
 
-pub baseless : (w : World) (s : Spec) (x : Fraction) (F : ℕ) (status : Status) (text : List ℕ) → IsBaseless w s x F → Answers w status text → (status ≡ Status.NoUpper) × ((trials : List Trial) × HasNoUpper (setting s x.num x.den F) trials × (text ≡ no_upper_text s F trials))
-baseless w s x F status text (complete-of.to_bound file fit none) h = baseless-only (setting s x.num x.den F) status text none (outcome w (command.Oracle file x F) s fit status text h)
-baseless w s x F status text (complete-of.to_draw file word limits fit none) h = baseless-drawn (setting s x.num x.den F) (limits_of limits) (tape_of w (source_of word)) status text none (outcome w (command.Sample file x word limits F) s fit status text h)
+only-refused : (w : World) (asked : Command) → IsCommand w.words asked → (status : Status) (text : List ℕ) (ticks : ℕ) → Carries w.files asked status text ticks → status ≡ Status.WordsRefused → AreRefused w.words
+only-refused w (command.Spec file) named status text ticks h is = absurd (carried-no-words w.files (command.Spec file) (λ no. no tt) status text ticks h is)
+only-refused w (command.Oracle file x F) named status text ticks h is = absurd (carried-no-words w.files (command.Oracle file x F) (λ no. no tt) status text ticks h is)
+only-refused w (command.Sample file x word limits F) named status text ticks h is = absurd (carried-no-words w.files (command.Sample file x word limits F) (λ no. no tt) status text ticks h is)
+only-refused w later named status text ticks h is = commands.not_yet later named (λ built. built)
 
--- a failing turn would be a read of the tape that failed
-none-fails : (fault : Option ℕ) → ((given : ℕ) → fault ≡ Some given → ⊥) → fault ≡ None
-none-fails None h = refl
-none-fails (Some given) h = absurd (h given refl)
+pub words_only : (w : World) (status : Status) (text : List ℕ) (ticks : ℕ) → Answers w status text ticks → status ≡ Status.WordsRefused → AreRefused w.words
+words_only w status text ticks (answers.refused fault refuses (answers.refused m says)) is = commands.no_command fault m refuses
+words_only w status text ticks (answers.refused fault refuses (answers.no_memory says)) is = absurd (not-words Status.OutOfMemory status _ text _ ticks (λ e. absurd (cc)) says is)
+words_only w status text ticks (answers.carried asked named h) is = only-refused w asked named status text ticks h is
 
-ending-of : (c d : Course) (e f : Ending) → c ≡ d → c.state.ending ≡ Some e → d.state.ending ≡ Some f → e ≡ f
-ending-of c d e f same at_c at_d = cc
+-- words that stand for no command, and for one that isn't built yet
+pub no_command : (w : World) (fault : WordsFault) (status : Status) (text : List ℕ) (ticks : ℕ) → Refuses w.words fault → fault ≢ WordsFault.OutOfMemory → status ≢ Status.OutOfMemory → Answers w status text ticks → (status ≡ Status.WordsRefused) × (text ≡ words_line fault)
+no_command w fault status text ticks refuses m memory (answers.refused other refuses_too (answers.refused n says)) = (says.status_is, says.text_is ∙ ap words_line (one-fault w.words other fault n m refuses_too refuses))
+no_command w fault status text ticks refuses m memory (answers.refused other refuses_too (answers.no_memory says)) = absurd (memory says.status_is)
+no_command w fault status text ticks refuses m memory (answers.carried asked named h) = absurd (not-refused w.words asked fault named m refuses)
 
--- the course over the tape's bits is the undisturbed one
-same-course : (a : Setting) (base : List ℕ) (limits : Limits) (turns : ℕ) (bits : ℕ → Option Bool) (t : TapeMet) (c : Course) (d e : Ending) → ¬ (HasFailed t) → IsCourseOver a.spec a.bits (level_bounds a base) limits t c bits → c.state.ending ≡ Some d → (undisturbed a base limits bits turns).state.ending ≡ Some e → c ≡ undisturbed a base limits bits turns
-same-course a base limits turns bits t c d e no_fault over at_c at_turns =
-    let sample = sampling a.spec a.bits (level_bounds a base) limits bits in
-    let quiet = unfailing sample over.faults over.turns (λ k. none-fails (over.faults k) (λ given is. no_fault (over.caused k given is))) in
-    let same : c ≡ undisturbed a base limits bits over.turns = over.same ∙ quiet in
-    same ∙ one_end sample (λ k. None) over.turns turns d e (subst (λ k. k.state.ending ≡ Some d) same at_c) at_turns
+later-only : (f : Files) (asked : Command) → ¬ (IsBuilt asked) → (status : Status) (text : List ℕ) (ticks : ℕ) → status ≢ Status.OutOfMemory → Carries f asked status text ticks → (status ≡ Status.WordsRefused) × (text ≡ not_yet_line)
+later-only f (command.Spec file) unbuilt status text ticks memory h = absurd (unbuilt tt)
+later-only f (command.Oracle file x F) unbuilt status text ticks memory h = absurd (unbuilt tt)
+later-only f (command.Sample file x word limits F) unbuilt status text ticks memory h = absurd (unbuilt tt)
+later-only f later unbuilt status text ticks memory h = may-say-only Status.WordsRefused not_yet_line 0 status text ticks memory h
 
-told-bits : (o : Option (ℕ → Option Bool)) (bits : ℕ → Option Bool) (P : (ℕ → Option Bool) → Type 0) → o ≡ Some bits → IfSome o P → P bits
-told-bits o bits P e h = subst (λ z. IfSome z P) e h
-
-same-base : (o : Option (List ℕ)) (base other : List ℕ) → o ≡ Some base → o ≡ Some other → other ≡ base
-same-base o base other e f = cc
-
--- a drawing that is reported is the undisturbed one over these bits
-reported-only : (a : Setting) (base : List ℕ) (limits : Limits) (turns : ℕ) (t : TapeMet) (bits : ℕ → Option Bool) (ending : Ending) (status : Status) (text : List ℕ) → ¬ (HasFailed t) → bits_of t.source t.contents ≡ Some bits → (undisturbed a base limits bits turns).state.ending ≡ Some ending → IsReported a base limits t status text → (status ≡ ending_status ending) × IsDrawnText a base limits (undisturbed a base limits bits turns) ending text
-reported-only a base limits turns t bits ending status text no_fault are_told ends r =
-    let over = told-bits (bits_of t.source t.contents) bits (IsCourseOver a.spec a.bits (level_bounds a base) limits t r.course) are_told r.drawn.by_bits in
-    let same = same-course a base limits turns bits t r.course r.ending ending no_fault over r.drawn.ended ends in
-    let end : r.ending ≡ ending = ending-of r.course (undisturbed a base limits bits turns) r.ending ending same r.drawn.ended ends in
-    (r.answer ∙ ap ending_status end, subst (λ e. IsDrawnText a base limits (undisturbed a base limits bits turns) e text) end (subst (λ k. IsDrawnText a base limits k r.ending text) same r.told))
-
-drawn-only : (a : Setting) (base : List ℕ) (limits : Limits) (turns : ℕ) (t : TapeMet) (bits : ℕ → Option Bool) (ending : Ending) (status : Status) (text : List ℕ) → base_of a ≡ Some base → ¬ (HasFailed t) → bits_of t.source t.contents ≡ Some bits → (undisturbed a base limits bits turns).state.ending ≡ Some ending → Sampled a limits t status text → (status ≡ ending_status ending) × IsDrawnText a base limits (undisturbed a base limits bits turns) ending text
-drawn-only a base limits turns t bits ending status text has no_fault are_told ends (drawing.no_base trials lacks e f) = let none = lacks.no_base in absurd (cc)
-drawn-only a base limits turns t bits ending status text has no_fault are_told ends (drawing.drawn other had r) =
-    reported-only a base limits turns t bits ending status text no_fault are_told ends (subst (λ b. IsReported a b limits t status text) (same-base (base_of a) base other has had) r)
-
-pub drawn : (w : World) (s : Spec) (x : Fraction) (F turns : ℕ) (limits : Given) (base : List ℕ) (bits : ℕ → Option Bool) (ending : Ending) (status : Status) (text : List ℕ) → IsDrawable w s x F limits base bits turns ending → Answers w status text → (status ≡ ending_status ending) × IsDrawnText (setting s x.num x.den F) base (limits_of limits) (undisturbed (setting s x.num x.den F) base (limits_of limits) bits turns) ending text
-drawn w s x F turns limits base bits ending status text p h = drawn-only (setting s x.num x.den F) base (limits_of limits) turns (tape_of w (source_of p.word)) bits ending status text p.has_base p.no_fault p.are_told p.ends (outcome w (command.Sample p.file x p.word limits F) s p.fit status text h)
-
--- words that stand for no command have the answer that says why
-pub no-command : (w : World) (fault : WordsFault) (status : Status) (text : List ℕ) → RefusesWords w.words fault → fault ≢ WordsFault.OutOfMemory → Answers w status text → (status ≡ Status.WordsRefused) × (text ≡ words_line fault)
-no-command w fault status text h no_want (answers.words_refused other memory refuses e) = (refl, e ∙ ap words_line (one-fault w.words other fault memory no_want refuses h))
-no-command w fault status text h no_want (answers.not_yet d named later e) = absurd (not-refused w.words d fault named no_want h)
-no-command w fault status text h no_want (answers.not_read d named built rose e) = absurd (not-refused w.words d fault named no_want h)
-no-command w fault status text h no_want (answers.text_refused d read other asked memory refuses e) = absurd (not-refused w.words d fault asked.named no_want h)
-no-command w fault status text h no_want (answers.unfounded d read t cause asked accepts memory tells e) = absurd (not-refused w.words d fault asked.named no_want h)
-no-command w fault status text h no_want (answers.printed file read t asked accepts founded e) = absurd (not-refused w.words (command.Spec file) fault asked.named no_want h)
-no-command w fault status text h no_want (answers.bounded file read x bits t asked accepts founded done) = absurd (not-refused w.words (command.Oracle file x bits) fault asked.named no_want h)
-no-command w fault status text h no_want (answers.sampled file read x word limits bits t asked accepts founded done) = absurd (not-refused w.words (command.Sample file x word limits bits) fault asked.named no_want h)
-
-built-alone : (words : List (List ℕ)) (c d : Command) → IsCommand words c → ¬ (IsBuilt c) → IsCommand words d → ¬ (IsBuilt d)
-built-alone words c d is later named built = later (subst IsBuilt (one_command words d c named is) built)
-
--- words that stand for a command that isn't built yet have the answer that says so
-pub not-yet : (w : World) (c : Command) (status : Status) (text : List ℕ) → IsCommand w.words c → ¬ (IsBuilt c) → Answers w status text → (status ≡ Status.WordsRefused) × (text ≡ not_yet_line)
-not-yet w c status text is none (answers.words_refused fault memory refuses e) = absurd (not-refused w.words c fault is memory refuses)
-not-yet w c status text is none (answers.not_yet d named later e) = (refl, e)
-not-yet w c status text is none (answers.not_read d named built rose e) = absurd (built-alone w.words c d is none named built)
-not-yet w c status text is none (answers.text_refused d read fault asked memory refuses e) = absurd (built-alone w.words c d is none asked.named asked.built)
-not-yet w c status text is none (answers.unfounded d read t cause asked accepts memory tells e) = absurd (built-alone w.words c d is none asked.named asked.built)
-not-yet w c status text is none (answers.printed file read t asked accepts founded e) = absurd (built-alone w.words c (command.Spec file) is none asked.named asked.built)
-not-yet w c status text is none (answers.bounded file read x bits t asked accepts founded done) = absurd (built-alone w.words c (command.Oracle file x bits) is none asked.named asked.built)
-not-yet w c status text is none (answers.sampled file read x word limits bits t asked accepts founded done) = absurd (built-alone w.words c (command.Sample file x word limits bits) is none asked.named asked.built)
-
--- words that are refused have one status
-pub words-refused : (w : World) (status : Status) (text : List ℕ) → AreRefused w.words → Answers w status text → status ≡ Status.WordsRefused
-words-refused w status text (commands.no_command fault memory refuses) h = (no-command w fault status text refuses memory h).0
-words-refused w status text (commands.not_yet c is later) h = (not-yet w c status text is later h).0
-
--- words that stand for a command that is built aren't refused
-pub not-both : (words : List (List ℕ)) (c : Command) → IsCommand words c → IsBuilt c → ¬ (AreRefused words)
-not-both words c is built (commands.no_command fault memory refuses) = not-refused words c fault is memory refuses
-not-both words c is built (commands.not_yet d named later) = built-alone words d c named later is built
-
--- an answer with a text is none of want of memory and none of a failed write
-abbrev IsTold : Status → Type 0
-IsTold Status.OutOfMemory = ⊥
-IsTold Status.WriteFault = ⊥
-IsTold _ = Unit {0}
-
-ending-told : (ending : Ending) → IsTold (ending_status ending)
-ending-told Ending.Done = tt
-ending-told Ending.TapeEnded = tt
-ending-told (Ending.Undecided left_open) = tt
-ending-told Ending.TurnLimit = tt
-ending-told Ending.ReadFault = tt
-
-sampled-told : (a : Setting) (limits : Limits) (t : TapeMet) (status : Status) (text : List ℕ) → Sampled a limits t status text → IsTold status
-sampled-told a limits t status text (drawing.drawn base has r) = subst IsTold (sym r.answer) (ending-told r.ending)
-sampled-told a limits t status text (drawing.no_base trials lacks e f) = subst IsTold (sym e) tt
-
-bounded-told : (t : Setting) (status : Status) (text : List ℕ) → Bounded t status text → IsTold status
-bounded-told t status text (bounds.based b is e f) = subst IsTold (sym e) tt
-bounded-told t status text (bounds.no_base trials lacks e f) = subst IsTold (sym e) tt
-
-is-told : (w : World) (status : Status) (text : List ℕ) → Answers w status text → IsTold status
-is-told w status text (answers.words_refused fault memory refuses e) = tt
-is-told w status text (answers.not_yet d named later e) = tt
-is-told w status text (answers.not_read d named built rose e) = tt
-is-told w status text (answers.text_refused d read fault asked memory refuses e) = tt
-is-told w status text (answers.unfounded d read t cause asked accepts memory tells e) = tt
-is-told w status text (answers.printed file read t asked accepts founded e) = tt
-is-told w status text (answers.bounded file read x bits t asked accepts founded done) = bounded-told (setting t x.num x.den bits) status text done
-is-told w status text (answers.sampled file read x word limits bits t asked accepts founded done) = sampled-told (setting t x.num x.den bits) (limits_of limits) (tape_of w (source_of word)) status text done
-
--- That an answer tells that words are refused only where they are.
-abbrev RefusedOnly : World → Status → Type 0
-RefusedOnly w Status.WordsRefused = AreRefused w.words
-RefusedOnly w _ = Unit {0}
-
-ending-only : (w : World) (ending : Ending) → RefusedOnly w (ending_status ending)
-ending-only w Ending.Done = tt
-ending-only w Ending.TapeEnded = tt
-ending-only w (Ending.Undecided left_open) = tt
-ending-only w Ending.TurnLimit = tt
-ending-only w Ending.ReadFault = tt
-
-sampled-refused : (w : World) (a : Setting) (limits : Limits) (t : TapeMet) (status : Status) (text : List ℕ) → Sampled a limits t status text → RefusedOnly w status
-sampled-refused w a limits t status text (drawing.drawn base has r) = subst (RefusedOnly w) (sym r.answer) (ending-only w r.ending)
-sampled-refused w a limits t status text (drawing.no_base trials lacks e f) = subst (RefusedOnly w) (sym e) tt
-
-bounded-refused : (w : World) (t : Setting) (status : Status) (text : List ℕ) → Bounded t status text → RefusedOnly w status
-bounded-refused w t status text (bounds.based b is e f) = subst (RefusedOnly w) (sym e) tt
-bounded-refused w t status text (bounds.no_base trials lacks e f) = subst (RefusedOnly w) (sym e) tt
-
-answer-refused : (w : World) (status : Status) (text : List ℕ) → Answers w status text → RefusedOnly w status
-answer-refused w status text (answers.words_refused fault memory refuses e) = commands.no_command fault memory refuses
-answer-refused w status text (answers.not_yet d named later e) = commands.not_yet d named later
-answer-refused w status text (answers.not_read d named built rose e) = tt
-answer-refused w status text (answers.text_refused d read fault asked memory refuses e) = tt
-answer-refused w status text (answers.unfounded d read t cause asked accepts memory tells e) = tt
-answer-refused w status text (answers.printed file read t asked accepts founded e) = tt
-answer-refused w status text (answers.bounded file read x bits t asked accepts founded done) = bounded-refused w (setting t x.num x.den bits) status text done
-answer-refused w status text (answers.sampled file read x word limits bits t asked accepts founded done) = sampled-refused w (setting t x.num x.den bits) (limits_of limits) (tape_of w (source_of word)) status text done
-
--- words are refused only where they stand for no command that is built
-pub refused-only : (w : World) (status : Status) (text : List ℕ) → Answers w status text → status ≡ Status.WordsRefused → AreRefused w.words
-refused-only w status text h e = subst (RefusedOnly w) e (answer-refused w status text h)
-
--- an answer whose text is written is how a call ends
-pub written : (w : World) (o : Output) (status : Status) (text : List ℕ) → Answers w status text → Appends o.before o.after text → Ends w o status
-written w o variants.Done text h a = record { text = text; answers = h; appends = a }
-written w o variants.WordsRefused text h a = record { text = text; answers = h; appends = a }
-written w o variants.SpecRefused text h a = record { text = text; answers = h; appends = a }
-written w o variants.NoUpper text h a = record { text = text; answers = h; appends = a }
-written w o variants.TapeEnded text h a = record { text = text; answers = h; appends = a }
-written w o variants.Undecided text h a = record { text = text; answers = h; appends = a }
-written w o variants.TurnLimit text h a = record { text = text; answers = h; appends = a }
-written w o variants.ReadFault text h a = record { text = text; answers = h; appends = a }
-written w o variants.WriteFault text h a = absurd (is-told w Status.WriteFault text h)
-written w o variants.OutOfMemory text h a = absurd (is-told w Status.OutOfMemory text h)
-
--- what holds of each answer holds of how a call ends, but for want of memory
-pub unless-wanting : (w : World) (o : Output) (status want : Status) → Ends w o status → ((text : List ℕ) → Answers w status text → status ≡ want) → ¬ (Rose o.faults_before o.faults_after) → (status ≡ want) ⊎ (status ≡ Status.OutOfMemory)
-unless-wanting w o variants.Done want h told no_fault = inl (told h.text h.answers)
-unless-wanting w o variants.WordsRefused want h told no_fault = inl (told h.text h.answers)
-unless-wanting w o variants.SpecRefused want h told no_fault = inl (told h.text h.answers)
-unless-wanting w o variants.NoUpper want h told no_fault = inl (told h.text h.answers)
-unless-wanting w o variants.TapeEnded want h told no_fault = inl (told h.text h.answers)
-unless-wanting w o variants.Undecided want h told no_fault = inl (told h.text h.answers)
-unless-wanting w o variants.TurnLimit want h told no_fault = inl (told h.text h.answers)
-unless-wanting w o variants.ReadFault want h told no_fault = inl (told h.text h.answers)
-unless-wanting w o variants.WriteFault want h told no_fault = absurd (no_fault h.rose)
-unless-wanting w o variants.OutOfMemory want h told no_fault = inr refl
-
-pub complete : (w : World) (o : Output) (status : Status) → Ends w o status → (s : Spec) → IsPrintable w s → ¬ (Rose o.faults_before o.faults_after) → (status ≡ Status.Done) ⊎ (status ≡ Status.OutOfMemory)
-complete w o status h s p no_fault = unless-wanting w o status Status.Done h (λ text a. (printed w s status text p a).0) no_fault
-
-pub refuses : (w : World) (o : Output) (status : Status) → Ends w o status → IsUnfit w → ¬ (Rose o.faults_before o.faults_after) → (status ≡ Status.SpecRefused) ⊎ (status ≡ Status.OutOfMemory)
-refuses w o status h p no_fault = unless-wanting w o status Status.SpecRefused h (λ text a. refused w status text p a) no_fault
-
-pub draws : (w : World) (o : Output) (status : Status) → Ends w o status → (s : Spec) (x : Fraction) (F turns : ℕ) (limits : Given) (base : List ℕ) (bits : ℕ → Option Bool) (ending : Ending) → IsDrawable w s x F limits base bits turns ending → ¬ (Rose o.faults_before o.faults_after) → (status ≡ ending_status ending) ⊎ (status ≡ Status.OutOfMemory)
-draws w o status h s x F turns limits base bits ending p no_fault = unless-wanting w o status (ending_status ending) h (λ text a. (drawn w s x F turns limits base bits ending status text p a).0) no_fault
-
-pub bounds_told : (w : World) (o : Output) (status : Status) → Ends w o status → (s : Spec) (x : Fraction) (F : ℕ) (base : List ℕ) → IsBoundable w s x F base → ¬ (Rose o.faults_before o.faults_after) → (status ≡ Status.Done) ⊎ (status ≡ Status.OutOfMemory)
-bounds_told w o status h s x F base p no_fault = unless-wanting w o status Status.Done h (λ text a. (bounded w s x F base status text p a).0) no_fault
-
-pub lacks_base : (w : World) (o : Output) (status : Status) → Ends w o status → (s : Spec) (x : Fraction) (F : ℕ) → IsBaseless w s x F → ¬ (Rose o.faults_before o.faults_after) → (status ≡ Status.NoUpper) ⊎ (status ≡ Status.OutOfMemory)
-lacks_base w o status h s x F p no_fault = unless-wanting w o status Status.NoUpper h (λ text a. (baseless w s x F status text p a).0) no_fault
-
-pub words_told : (w : World) (o : Output) (status : Status) → Ends w o status → AreRefused w.words → ¬ (Rose o.faults_before o.faults_after) → (status ≡ Status.WordsRefused) ⊎ (status ≡ Status.OutOfMemory)
-words_told w o status h p no_fault = unless-wanting w o status Status.WordsRefused h (λ text a. words-refused w status text p a) no_fault
+pub not_yet : (w : World) (asked : Command) (status : Status) (text : List ℕ) (ticks : ℕ) → IsCommand w.words asked → ¬ (IsBuilt asked) → status ≢ Status.OutOfMemory → Answers w status text ticks → (status ≡ Status.WordsRefused) × (text ≡ not_yet_line)
+not_yet w asked status text ticks named unbuilt memory h = later-only w.files asked unbuilt status text ticks memory (outcome-of w asked named status text ticks memory h)

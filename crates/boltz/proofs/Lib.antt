@@ -1,8 +1,11 @@
+pub mod Endings
+pub mod Staging
+pub mod BaseSearch
+pub mod Held
 pub mod Bounding
-pub mod Told
+pub mod OracleCommand
 pub mod Commands
 pub mod Courses
-pub mod Complete
 pub mod KeptObjects
 pub mod KeptLabels
 pub mod OneTurn
@@ -10,3 +13,9 @@ pub mod Spelling
 pub mod SpelledLabels
 pub mod SpelledTurns
 pub mod AtTheEnd
+pub mod Turns
+pub mod OneRefusal
+pub mod OneReading
+pub mod OneDrawing
+pub mod Calls
+pub mod Complete

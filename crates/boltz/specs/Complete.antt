@@ -3,7 +3,6 @@ use Rattle.std.specs.Prelude.{◌≡◌, ℕ, Bool, List, take, Option, Some, No
 use Rattle.bz_model.specs.Spec.{Spec}
 use Rattle.bz_model.specs.WellFounded.{IsWellFounded}
 use Rattle.bz_model.specs.declared.fraction.Fraction.{Fraction}
-use Rattle.bz_outside.specs.Outside.{Rose}
 use Rattle.bit_tape.specs.Tape.{bits_of}
 use Rattle.newton_upper.specs.BaseRule.{base_of}
 use Rattle.oracle_memo.specs.Levels.{level_bounds}
@@ -14,58 +13,63 @@ use Rattle.size_window.specs.declared.limits.Limits.{Limits}
 use Rattle.command_words.specs.Commands.{IsCommand}
 use Rattle.command_words.specs.declared.command.Command.{Command}
 use Rattle.command_words.specs.declared.command.Command.TheVariants as command
+use Rattle.command_words.specs.declared.command.FractionBits.{FractionBits}
 use Rattle.command_words.specs.declared.command.TapeWord.{TapeWord}
-use Rattle.boltz.specs.Answers.{World, IsAccepted, tape_of}
-use Rattle.boltz.specs.Commands.{file_of, IsBuilt, source_of}
+use Rattle.command_words.specs.Fractions.{fraction_bits}
+use Rattle.boltz.specs.Answers.{World}
+use Rattle.boltz.specs.Commands.{Specifies}
 use Rattle.boltz.specs.Drawn.{HasFailed, sampling}
+use Rattle.boltz.specs.SampleCommand.{source_of, tape_in}
+use Rattle.boltz.specs.Stages.{IsAccepted, HasFailedRead}
 
--- The words stand for a command that is built, its file is told to have these bytes, and no read of the file failed in the call.
-pub record IsGiven (w : World) (c : Command) (bytes : List ℕ) : Type 0 where
+-- The words stand for a command, this file is known to have these bytes, and no read of it failed in the call.
+pub record IsGiven (w : World) (c : Command) (file bytes : List ℕ) : Type 0 where
   pub named : IsCommand w.words c
-  pub built : IsBuilt c
-  pub is_told : w.content (file_of c) ≡ Some bytes
-  pub no_fault : ¬ (Rose (w.before (file_of c)) (w.after (file_of c)))
+  pub is_known : w.files.content file ≡ Some bytes
+  pub no_fault : ¬ (HasFailedRead w.files file)
 
 -- The bytes of the command's file stand for this specification, which is within the limits and well founded.
-pub record IsFit (w : World) (c : Command) (s : Spec) : Type 0 where
+pub record IsFit (w : World) (c : Command) (file : List ℕ) (s : Spec) : Type 0 where
   pub bytes : List ℕ
-  pub given : IsGiven w c bytes
+  pub given : IsGiven w c file bytes
   pub accepted : IsAccepted bytes s
   pub founded : IsWellFounded s
 
 -- The words ask to print this specification.
 pub record IsPrintable (w : World) (s : Spec) : Type 0 where
   pub file : List ℕ
-  pub fit : IsFit w (command.Spec file) s
+  pub fit : IsFit w (command.Spec file) file s
 
--- What is read of the command's file stands for no specification within the limits that is well founded.
+-- What is read of the specification's file stands for no specification within the limits that is well founded.
 pub record IsUnfit (w : World) : Type 0 where
   pub asked : Command
+  pub file : List ℕ
+  pub specifies : Specifies asked file
   pub bytes : List ℕ
-  pub given : IsGiven w asked bytes
+  pub given : IsGiven w asked file bytes
   pub unfit : (s : Spec) → IsAccepted (take 65537 bytes) s → ¬ (IsWellFounded s)
 
 -- The words ask to bound the classes of a specification at an x, in units of 2^-F, with this base.
-pub record IsBoundable (w : World) (s : Spec) (x : Fraction) (F : ℕ) (base : List ℕ) : Type 0 where
+pub record IsBoundable (w : World) (s : Spec) (x : Fraction) (F : FractionBits) (base : List ℕ) : Type 0 where
   pub file : List ℕ
-  pub fit : IsFit w (command.Oracle file x F) s
-  pub has_base : base_of (setting s x.num x.den F) ≡ Some base
+  pub fit : IsFit w (command.Oracle file x F) file s
+  pub has_base : base_of (setting s x.num x.den (fraction_bits F)) ≡ Some base
 
 -- The words ask to bound the classes of a specification at an x, in units of 2^-F, without a base, or to draw from it there.
-pub data IsBaseless (w : World) (s : Spec) (x : Fraction) (F : ℕ) : Type 0 where
-  to_bound : (file : List ℕ) → IsFit w (command.Oracle file x F) s → base_of (setting s x.num x.den F) ≡ None → IsBaseless w s x F
-  to_draw : (file : List ℕ) (word : TapeWord) (limits : Limits) → IsFit w (command.Sample file x word limits F) s → base_of (setting s x.num x.den F) ≡ None → IsBaseless w s x F
+pub data IsBaseless (w : World) (s : Spec) (x : Fraction) (F : FractionBits) : Type 0 where
+  to_bound : (file : List ℕ) → IsFit w (command.Oracle file x F) file s → base_of (setting s x.num x.den (fraction_bits F)) ≡ None → IsBaseless w s x F
+  to_draw : (file : List ℕ) (word : TapeWord) (limits : Limits) → IsFit w (command.Sample file x word limits F) file s → base_of (setting s x.num x.den (fraction_bits F)) ≡ None → IsBaseless w s x F
 
 -- The course of so many turns over the levels of a base and these bits, where no read fails.
 abbrev pub undisturbed : Setting → (base : List ℕ) → Window → (bits : ℕ → Option Bool) → (turns : ℕ) → Course
 undisturbed t base limits bits turns = after (sampling t.spec t.bits (level_bounds t base) limits bits) (λ n. None) turns
 
--- The words ask to draw from a specification at an x within these limits, in units of 2^-F and with this base. The bits of the tape are told to be these, as those of a seed always are, no read of it failed in the call, and over them the course of so many turns comes to this end.
-pub record IsDrawable (w : World) (s : Spec) (x : Fraction) (F : ℕ) (limits : Limits) (base : List ℕ) (bits : ℕ → Option Bool) (turns : ℕ) (ending : Ending) : Type 0 where
+-- The words ask to draw from a specification at an x within these limits, in units of 2^-F and with this base. The bits of the tape are known to be these, as those of a seed always are, no read of it failed in the call, and over them the course of so many turns comes to this end.
+pub record IsDrawable (w : World) (s : Spec) (x : Fraction) (F : FractionBits) (limits : Limits) (base : List ℕ) (bits : ℕ → Option Bool) (turns : ℕ) (ending : Ending) : Type 0 where
   pub file : List ℕ
   pub word : TapeWord
-  pub fit : IsFit w (command.Sample file x word limits F) s
-  pub has_base : base_of (setting s x.num x.den F) ≡ Some base
-  pub are_told : bits_of (source_of word) w.content ≡ Some bits
-  pub no_fault : ¬ (HasFailed (tape_of w (source_of word)))
-  pub ends : (undisturbed (setting s x.num x.den F) base (limits_of limits) bits turns).state.ending ≡ Some ending
+  pub fit : IsFit w (command.Sample file x word limits F) file s
+  pub has_base : base_of (setting s x.num x.den (fraction_bits F)) ≡ Some base
+  pub are_told : bits_of (source_of word) w.files.content ≡ Some bits
+  pub no_fault : ¬ (HasFailed (tape_in w.files (source_of word)))
+  pub ends : (undisturbed (setting s x.num x.den (fraction_bits F)) base (limits_of limits) bits turns).state.ending ≡ Some ending

@@ -1,6 +1,6 @@
 -- Drawings: what they are functions of, why they end, and what they write.
 use Rattle.std.specs.Prelude.{◌≡◌, ℕ, Bool, List, [], ◌∷◌, ◌++◌, Option, Some, IfSome, codes}
-use Rattle.bz_model.specs.Fraction.{Fraction, ratio}
+use Rattle.bz_model.specs.Fraction.{Fraction}
 use Rattle.bz_model.specs.Spec.{Spec}
 use Rattle.bz_model.specs.ObjectText.{object_text}
 use Rattle.bz_model.specs.declared.cell.Bounds.{Bounds}
@@ -11,19 +11,18 @@ use Rattle.size_window.specs.Ideally.{chooser_of}
 use Rattle.well_founded.specs.EmptyObjects.{has_empty}
 use Rattle.size_window.specs.Follows.{Follows}
 use Rattle.boltz.specs.Spelling.{Spells}
-use Rattle.newton_upper.specs.BaseRule.{base_of, HasNoUpper}
-use Rattle.newton_upper.specs.declared.trials.Trial.{Trial}
-use Rattle.oracle_memo.specs.Levels.{level_bounds}
+use Rattle.choice_draw.specs.Decision.{level_for}
 use Rattle.rounded_map.specs.RoundedMap.{Setting}
+use Rattle.boltz.specs.Outcomes.{Says}
+use Rattle.boltz.specs.Sweeps.{Gives, most_bits}
 use Rattle.boltz.specs.Lines.{certified_header, window_line, base_lines, entry_lines, open_line, open_label_line, end_line}
-use Rattle.boltz.specs.Refusals.{no_upper_text}
 use Rattle.boltz.specs.declared.status.Status.{Status}
 
 -- A drawing is a function of the specification, a table of bounds of its nodes in units of 2^-F, the limits, and the bits of the tape.
 abbrev pub sampling : Spec → (F : ℕ) → (table : (level node : ℕ) → Bounds) → Limits → (bits : ℕ → Option Bool) → Sampling
 sampling s F table limits bits = record { chooser = chooser_of s F table (has_empty s); limits = limits; tape = bits }
 
--- A tape as a call meets it: where its bits come from, the contents of the files where they are told, and the counts of failed reads of each name when the call began and now.
+-- A tape as a call meets it: where its bits come from, the contents of the files where they are known, and the counts of failed reads of each name when the call began and now.
 pub record TapeMet : Type 0 where
   pub source : TapeSource
   pub contents : List ℕ → Option (List ℕ)
@@ -34,34 +33,40 @@ pub record TapeMet : Type 0 where
 abbrev pub HasFailed : TapeMet → Type 0
 HasFailed t = HasFault t.source t.before t.now
 
--- A course is that of so many turns over these bits. The shelf failed in a turn only if a read of the tape failed in the call.
-pub record IsCourseOver (s : Spec) (F : ℕ) (table : (level node : ℕ) → Bounds) (limits : Limits) (t : TapeMet) (c : Course) (bits : ℕ → Option Bool) : Type 0 where
+-- A course is that of so many turns over these bits, in which one number of a choice node was given at most so many. The shelf failed in a turn only if a read of the tape failed in the call.
+pub record IsCourseOver (s : Spec) (F : ℕ) (table : (level node : ℕ) → Bounds) (limits : Limits) (t : TapeMet) (c : Course) (given : ℕ) (bits : ℕ → Option Bool) : Type 0 where
   pub turns : ℕ
   pub faults : ℕ → Option ℕ
-  pub caused : (n given : ℕ) → faults n ≡ Some given → HasFailed t
+  pub caused : (n before : ℕ) → faults n ≡ Some before → HasFailed t
   pub same : c ≡ after (sampling s F table limits bits) faults turns
+  pub most : given ≡ most_bits (sampling s F table limits bits) faults turns
 
--- A course has come to its end. It follows the ideal run: for all numbers in its cells that run keeps the objects of its entries. Where the tape's bits are told, it is the course over them, and its cells spell the first of them, as many as were used, but for those of a number that was still open. Done comes only where as many objects as wanted are kept, the limit of turns only where as many were made, and a failed read only if a read of the tape failed in the call.
-pub record IsDrawn (s : Spec) (x : Fraction) (F : ℕ) (table : (level node : ℕ) → Bounds) (limits : Limits) (t : TapeMet) (c : Course) (ending : Ending) : Type 0 where
-  pub ended : c.state.ending ≡ Some ending
+-- A course so far. It follows the ideal run: for all numbers in its cells that run keeps the objects of its entries. Where the tape's bits are known, it is the course over them, and its cells spell the first of them, as many as were used, but for those of a number that was still open. `given` is the greatest number of bits that one number of a choice node was given in a turn.
+pub record IsCourse (s : Spec) (x : Fraction) (F : ℕ) (table : (level node : ℕ) → Bounds) (limits : Limits) (t : TapeMet) (c : Course) (given : ℕ) : Type 0 where
   pub follows : Follows s x limits c
-  pub by_bits : IfSome (bits_of t.source t.contents) (IsCourseOver s F table limits t c)
+  pub by_bits : IfSome (bits_of t.source t.contents) (IsCourseOver s F table limits t c given)
   pub spells : IfSome (bits_of t.source t.contents) (Spells c)
+  pub gives : Gives c given
+
+-- A course has come to its end. Done comes only where as many objects as wanted are kept, the limit of turns only where as many were made, and a failed read only if a read of the tape failed in the call.
+pub record IsDrawn (s : Spec) (x : Fraction) (F : ℕ) (table : (level node : ℕ) → Bounds) (limits : Limits) (t : TapeMet) (c : Course) (given : ℕ) (ending : Ending) : Type 0 where
+  pub course : IsCourse s x F table limits t c given
+  pub ended : c.state.ending ≡ Some ending
   pub kept : ending ≡ Ending.Done → c.state.kept ≡ limits.count
   pub out_of_turns : ending ≡ Ending.TurnLimit → c.state.turns ≡ limits.turns
   pub failed : ending ≡ Ending.ReadFault → HasFailed t
 
--- The lines of an entry tell its number, place and size, its object's text, and its cells.
+-- The lines of an entry state its number, place and size, its object's text, and its cells. The object is the one that its tokens spell, in whichever way that is seen.
 pub record AreLinesOf (s : Spec) (e : Entry) (lines : List ℕ) : Type 0 where
   pub is_of : IsOf s 0 e.tokens
-  pub same : lines ≡ entry_lines e.number e.place e.size (object_text s is_of.body is_of.object is_of.belongs e.labels) e.cells
+  pub same : (of : IsOf s 0 e.tokens) → lines ≡ entry_lines e.number e.place e.size (object_text s of.body of.object of.belongs e.labels) e.cells
 
 -- The lines of entries, in order.
 pub data Lists (s : Spec) : List Entry → List ℕ → Type 0 where
-  none : {text : List ℕ} → text ≡ [] → Lists s [] text
+  none : {entries : List Entry} {text : List ℕ} → entries ≡ [] → text ≡ [] → Lists s entries text
   one_more : {entries : List Entry} {text : List ℕ} → (before : List Entry) (last : Entry) (front lines : List ℕ) → Lists s before front → AreLinesOf s last lines → entries ≡ before ++ last ∷ [] → text ≡ front ++ lines → Lists s entries text
 
--- Why a drawing ended, as its last line tells it.
+-- Why a drawing ended, as its last line states it.
 abbrev pub ending_word : Ending → List ℕ
 ending_word Ending.Done = codes "done"
 ending_word Ending.TapeEnded = codes "tape-ended"
@@ -83,25 +88,16 @@ open_lines table (Ending.Undecided (Open.AtNode node cell)) = open_line node cel
 open_lines table (Ending.Undecided (Open.AtLabel m cell)) = open_label_line m cell
 open_lines table ending = []
 
+-- The lines after the last object: that of a number that was left open, if one was, and how the drawing ended.
+abbrev pub closing_lines : (table : (level node : ℕ) → Bounds) → Course → Ending → List ℕ
+closing_lines table c ending = open_lines table ending ++ end_line (ending_word ending) c.state.kept c.state.thrown c.state.attempt.used c.state.turns
+
 -- The lines before the first object: the header, the window of sizes, and the base.
 abbrev pub drawn_header : Setting → (base : List ℕ) → Limits → List ℕ
 drawn_header t base limits = certified_header t.spec t.num t.den t.bits ++ (window_line limits.min limits.max ++ base_lines t.spec base)
 
--- The text of a drawing over the levels of a base: the header, the lines of its entries, and how it ended.
-pub record IsDrawnText (t : Setting) (base : List ℕ) (limits : Limits) (c : Course) (ending : Ending) (text : List ℕ) : Type 0 where
-  pub entries : List ℕ
-  pub lists : Lists t.spec c.entries entries
-  pub same : text ≡ drawn_header t base limits ++ (entries ++ (open_lines (level_bounds t base) ending ++ end_line (ending_word ending) c.state.kept c.state.thrown c.state.attempt.used c.state.turns))
-
--- What a drawing over the levels of a base reports: a course that has come to its end, its text, and the answer for that end.
-pub record IsReported (t : Setting) (base : List ℕ) (limits : Limits) (tape : TapeMet) (status : Status) (text : List ℕ) : Type 0 where
-  pub course : Course
-  pub ending : Ending
-  pub drawn : IsDrawn t.spec (ratio t.num t.den) t.bits (level_bounds t base) limits tape course ending
-  pub told : IsDrawnText t base limits course ending text
-  pub answer : status ≡ ending_status ending
-
--- What becomes of a command that draws from a well-founded specification within the limits: where there is a base, a drawing over its levels is reported, and where there is none, the proposals are told.
-pub data Sampled (t : Setting) (limits : Limits) (tape : TapeMet) (status : Status) (text : List ℕ) : Type 0 where
-  drawn : (base : List ℕ) → base_of t ≡ Some base → IsReported t base limits tape status text → Sampled t limits tape status text
-  no_base : (trials : List Trial) → HasNoUpper t trials → status ≡ Status.NoUpper → text ≡ no_upper_text t.spec t.bits trials → Sampled t limits tape status text
+-- Objects are drawn by a table of bounds whose levels cost so much to raise, after these lines of a header. The drawing comes to its end: the header, the lines of the kept objects and the closing are its text, and its end gives the status. Or memory runs out: the text until then is the header with the lines of the first entries of a course so far, or nothing. A level is raised only for the bits that one number of a choice node was given: one for each ten of them begun.
+pub data Drawn (cost : (level : ℕ) → ℕ) (header : List ℕ) (s : Spec) (x : Fraction) (F : ℕ) (table : (level node : ℕ) → Bounds) (limits : Limits) (t : TapeMet) (status : Status) (text : List ℕ) (ticks : ℕ) : Type 0 where
+  ended : (course : Course) (given : ℕ) (ending : Ending) (lines : List ℕ) → IsDrawn s x F table limits t course given ending → Lists s course.entries lines → Says (ending_status ending) (header ++ (lines ++ closing_lines table course ending)) (cost (level_for given)) status text ticks → Drawn cost header s x F table limits t status text ticks
+  so_far : (course : Course) (given : ℕ) (first others : List Entry) (lines : List ℕ) → IsCourse s x F table limits t course given → course.entries ≡ first ++ others → Lists s first lines → Says Status.OutOfMemory (header ++ lines) (cost (level_for given)) status text ticks → Drawn cost header s x F table limits t status text ticks
+  no_memory : Says Status.OutOfMemory [] 0 status text ticks → Drawn cost header s x F table limits t status text ticks

@@ -1,63 +1,84 @@
 //! Laws of answers. Each function's contract is the law; none does anything.
-ghost use Rattle.std.specs.Prelude.{◌≡◌, ◌≢◌, ℕ, Bool, List, Option};
+//!
+//! `run` ends with an outcome that its words and files have (`ends`). The laws say which outcome that is.
+ghost use Rattle.std.specs.Prelude.{◌≡◌, ◌≢◌, ◌⊎◌, ℕ, Bool, List, ◌++◌, Option};
 ghost use Rattle.bz_model.specs.Spec.{Spec};
 ghost use Rattle.bz_model.specs.declared.fraction.Fraction.{Fraction};
+ghost use Rattle.bz_outside.specs.Outside.{Rose};
 ghost use Rattle.command_words.specs.Commands.{IsCommand, Refuses};
+ghost use Rattle.command_words.specs.Fractions.{fraction_bits};
 ghost use Rattle.command_words.specs.declared.command.Command.{Command};
+ghost use Rattle.command_words.specs.declared.command.FractionBits.{FractionBits};
 ghost use Rattle.command_words.specs.declared.fault.WordsFault.{WordsFault};
+ghost use Rattle.newton_upper.specs.BaseRule.{HasNoUpper};
+ghost use Rattle.newton_upper.specs.declared.trials.Trial.{Trial};
+ghost use Rattle.oracle_memo.specs.Levels.{level_bounds};
+ghost use Rattle.rounded_map.specs.RoundedMap.{setting};
 ghost use Rattle.size_window.specs.Drawing.{limits_of};
 ghost use Rattle.size_window.specs.RunByBits.{Ending};
 ghost use Rattle.size_window.specs.declared.limits.Limits.{Limits};
-ghost use Rattle.boltz.specs.Answers.{World, Answers, spec_text};
+ghost use Rattle.boltz.specs.Answers.{World, Answers, IsUndisturbed};
 ghost use Rattle.boltz.specs.Commands.{IsBuilt, AreRefused};
 ghost use Rattle.boltz.specs.Complete.{IsPrintable, IsUnfit, IsDrawable, IsBoundable, IsBaseless, undisturbed};
-ghost use Rattle.boltz.specs.Drawn.{IsDrawnText, ending_status};
+ghost use Rattle.boltz.specs.Drawn.{Lists, drawn_header, closing_lines, ending_status};
+ghost use Rattle.boltz.specs.Ends.{Output, EndsBy, IsWritten};
+ghost use Rattle.boltz.specs.OracleCommand.{bounded_text};
+ghost use Rattle.boltz.specs.Outcomes.{IsOne};
 ghost use Rattle.boltz.specs.Refusals.{words_line, not_yet_line, no_upper_text};
-ghost use Rattle.boltz.specs.Bounded.{bounded_text};
-ghost use Rattle.newton_upper.specs.BaseRule.{HasNoUpper};
-ghost use Rattle.newton_upper.specs.declared.trials.Trial.{Trial};
-ghost use Rattle.rounded_map.specs.RoundedMap.{setting};
+ghost use Rattle.boltz.specs.SpecCommand.{spec_text};
 ghost use Rattle.boltz.specs.declared.status.Status.{Status};
+
+/// A call in which no write fails writes the whole text of an answer, or memory runs out.
+pub fn without_a_failed_write_the_answer_is_whole()
+    ensures whole { (w : World) (o : Output) (result : Status) → EndsBy (Answers w) o result → ¬ (Rose o.faults_before o.faults_after)
+        → (result ≡ Status.OutOfMemory) ⊎ ((result ≢ Status.OutOfMemory) × IsWritten (Answers w) o result) }
+{}
+
+/// An undisturbed call has one status with one text, but for want of memory.
+pub fn an_undisturbed_call_has_one_answer()
+    ensures one { (w : World) → IsUndisturbed w → IsOne (Answers w) }
+{}
 
 /// Words that stand for no command have no other answer than the line that says why, and words that
 /// stand for one that isn't built yet none but the line that says so. Other words aren't refused.
 pub fn words_are_refused_by_their_line()
-    ensures no_command { (w : World) (fault : WordsFault) (status : Status) (text : List ℕ) → Refuses w.words fault
-        → fault ≢ WordsFault.OutOfMemory → Answers w status text → (status ≡ Status.WordsRefused) × (text ≡ words_line fault) }
-    ensures not_yet { (w : World) (c : Command) (status : Status) (text : List ℕ) → IsCommand w.words c
-        → ¬ (IsBuilt c) → Answers w status text → (status ≡ Status.WordsRefused) × (text ≡ not_yet_line) }
-    ensures only { (w : World) (status : Status) (text : List ℕ) → Answers w status text → status ≡ Status.WordsRefused
+    ensures no_command { (w : World) (fault : WordsFault) (status : Status) (text : List ℕ) (ticks : ℕ) → Refuses w.words fault
+        → fault ≢ WordsFault.OutOfMemory → status ≢ Status.OutOfMemory → Answers w status text ticks
+        → (status ≡ Status.WordsRefused) × (text ≡ words_line fault) }
+    ensures not_yet { (w : World) (c : Command) (status : Status) (text : List ℕ) (ticks : ℕ) → IsCommand w.words c
+        → ¬ (IsBuilt c) → status ≢ Status.OutOfMemory → Answers w status text ticks
+        → (status ≡ Status.WordsRefused) × (text ≡ not_yet_line) }
+    ensures only { (w : World) (status : Status) (text : List ℕ) (ticks : ℕ) → Answers w status text ticks → status ≡ Status.WordsRefused
         → AreRefused w.words }
 {}
 
 /// What can be printed has no other answer than to be printed.
 pub fn what_can_be_printed_is_printed()
-    ensures printed { (w : World) (s : Spec) (status : Status) (text : List ℕ) → IsPrintable w s
-        → Answers w status text → (status ≡ Status.Done) × (text ≡ spec_text s) }
+    ensures printed { (w : World) (s : Spec) (status : Status) (text : List ℕ) (ticks : ℕ) → IsPrintable w s
+        → status ≢ Status.OutOfMemory → Answers w status text ticks → (status ≡ Status.Done) × (text ≡ spec_text s) }
 {}
 
 /// What has a base has no other answer than the text of the base and the levels, and what has none,
 /// to be bounded or to be drawn, no other than the text of the proposals.
 pub fn what_can_be_bounded_is_bounded()
-    ensures bounded { (w : World) (s : Spec) (x : Fraction) (F : ℕ) (base : List ℕ) (status : Status) (text : List ℕ)
-        → IsBoundable w s x F base → Answers w status text
-        → (status ≡ Status.Done) × (text ≡ bounded_text (setting s x.num x.den F) base) }
-    ensures baseless { (w : World) (s : Spec) (x : Fraction) (F : ℕ) (status : Status) (text : List ℕ)
-        → IsBaseless w s x F → Answers w status text
-        → (status ≡ Status.NoUpper) × ((trials : List Trial) × HasNoUpper (setting s x.num x.den F) trials × (text ≡ no_upper_text s F trials)) }
+    ensures bounded { (w : World) (s : Spec) (x : Fraction) (F : FractionBits) (base : List ℕ) (status : Status) (text : List ℕ) (ticks : ℕ)
+        → IsBoundable w s x F base → status ≢ Status.OutOfMemory → Answers w status text ticks
+        → (status ≡ Status.Done) × (text ≡ bounded_text (setting s x.num x.den (fraction_bits F)) base) }
+    ensures baseless { (w : World) (s : Spec) (x : Fraction) (F : FractionBits) (status : Status) (text : List ℕ) (ticks : ℕ)
+        → IsBaseless w s x F → status ≢ Status.OutOfMemory → Answers w status text ticks
+        → (trials : List Trial) × HasNoUpper (setting s x.num x.den (fraction_bits F)) trials × (status ≡ Status.NoUpper) × (text ≡ no_upper_text s (fraction_bits F) trials) }
 {}
 
 /// What can be drawn has no other answer than the text of the drawing over the base's levels and the
 /// tape's bits, with the status of its end.
 pub fn what_can_be_drawn_is_drawn()
-    ensures drawn { (w : World) (s : Spec) (x : Fraction) (F turns : ℕ) (limits : Limits) (base : List ℕ) (bits : ℕ → Option Bool) (ending : Ending) (status : Status) (text : List ℕ)
-        → IsDrawable w s x F limits base bits turns ending → Answers w status text
-        → (status ≡ ending_status ending) × IsDrawnText (setting s x.num x.den F) base (limits_of limits) (undisturbed (setting s x.num x.den F) base (limits_of limits) bits turns) ending text }
+    ensures drawn { (w : World) (s : Spec) (x : Fraction) (F : FractionBits) (turns : ℕ) (limits : Limits) (base : List ℕ) (bits : ℕ → Option Bool) (ending : Ending) (status : Status) (text : List ℕ) (ticks : ℕ)
+        → IsDrawable w s x F limits base bits turns ending → status ≢ Status.OutOfMemory → Answers w status text ticks
+        → (status ≡ ending_status ending) × ((lines : List ℕ) × Lists s (undisturbed (setting s x.num x.den (fraction_bits F)) base (limits_of limits) bits turns).entries lines × (text ≡ drawn_header (setting s x.num x.den (fraction_bits F)) base (limits_of limits) ++ (lines ++ closing_lines (level_bounds (setting s x.num x.den (fraction_bits F)) base) (undisturbed (setting s x.num x.den (fraction_bits F)) base (limits_of limits) bits turns) ending))) }
 {}
 
 /// What is read of an unfit specification is refused.
-#[tactic(auto, using(crate::proofs::Complete::refused))]
 pub fn what_is_unfit_is_refused()
-    ensures refused { (w : World) (status : Status) (text : List ℕ) → IsUnfit w → Answers w status text
-        → status ≡ Status.SpecRefused }
+    ensures refused { (w : World) (status : Status) (text : List ℕ) (ticks : ℕ) → IsUnfit w → status ≢ Status.OutOfMemory
+        → Answers w status text ticks → status ≡ Status.SpecRefused }
 {}

@@ -1,12 +1,16 @@
-//! The lines that tell why a command is refused.
+//! What is reported where a command is refused: a status, and the lines that say why.
 ghost use Rattle.std.specs.Prelude.{◌≡◌, ◌≢◌, ◌≤◌, ◌++◌, codes, flat_map, IfOk, OnOk, string_bytes};
 ghost use Rattle.command_words.specs.declared.fault.WordsFault.{WordsFault};
 ghost use Rattle.spec_reader.specs.declared.fault.SpecFault.{SpecFault};
 ghost use Rattle.well_founded.specs.declared.cause.UnfoundedCause.{UnfoundedCause};
 ghost use Rattle.boltz.specs.Lines.{feed};
-ghost use Rattle.boltz.specs.Refusals.{value_name, words_line, limit_line, text_line, cause_line, IsNamed, number_field, value_text, proposal_line, no_upper_line, no_upper_text};
+ghost use Rattle.boltz.specs.Outcomes.{Says};
+ghost use Rattle.boltz.specs.declared.status.Status.{Status};
+ghost use Rattle.boltz.specs.Refusals.{value_name, words_line, not_yet_line, read_line, limit_line, text_line, cause_line, IsNamed, number_field, value_text, proposal_line, no_upper_line, no_upper_text};
 
-use crate::lines::name_of;
+use crate::format::name_of;
+use crate::report::Report;
+use crate::status::Status;
 use bz_outside::word::Word;
 use class_system::limits::BuildFault;
 use class_system::system::System;
@@ -17,8 +21,94 @@ use std::alloc::{AllocError, Global};
 use std::fmt::Write;
 use well_founded::cause::UnfoundedCause;
 
+/// Words stand for no command; `Err` where that is want of memory.
+pub fn words_refusal(alloc: Global, fault: WordsFault) -> Result<Report, AllocError>
+    ensures says { IfOk result (λ r. Says Status.WordsRefused (words_line fault) 0 r.status r.text.items 0) }
+    ensures memory { OnOk result (fault ≢ WordsFault.OutOfMemory) }
+{
+    let text = line_for_words(alloc, fault)?.into_bytes();
+    Ok(Report {
+        status: Status::WordsRefused,
+        text,
+    })
+}
+
+/// The command isn't built yet.
+pub fn not_yet_refusal(alloc: Global) -> Result<Report, AllocError>
+    ensures { IfOk result (λ r. Says Status.WordsRefused not_yet_line 0 r.status r.text.items 0) }
+{
+    let text = line(alloc, "refused not yet\n")?;
+    Ok(Report {
+        status: Status::WordsRefused,
+        text,
+    })
+}
+
+/// A read of a file failed.
+pub fn read_refusal(alloc: Global) -> Result<Report, AllocError>
+    ensures { IfOk result (λ r. Says Status.ReadFault read_line 0 r.status r.text.items 0) }
+{
+    let text = line(alloc, "refused read\n")?;
+    Ok(Report {
+        status: Status::ReadFault,
+        text,
+    })
+}
+
+/// A text is no specification, or breaks a limit; `Err` where that is want of memory.
+pub fn text_refusal(alloc: Global, fault: SpecFault) -> Result<Report, AllocError>
+    ensures says { IfOk result (λ r. Says Status.SpecRefused (text_line fault) 0 r.status r.text.items 0) }
+    ensures memory { OnOk result (fault ≢ SpecFault.OutOfMemory) }
+{
+    let text = line_for_text(alloc, fault)?.into_bytes();
+    Ok(Report {
+        status: Status::SpecRefused,
+        text,
+    })
+}
+
+/// A specification isn't well founded; `Err` where that is want of memory.
+pub fn cause_refusal(
+    alloc: Global,
+    system: &System,
+    cause: UnfoundedCause,
+) -> Result<Report, AllocError>
+    requires in_range { IsNamed system.now cause }
+    ensures says { IfOk result (λ r. Says Status.SpecRefused (cause_line system.now cause) 0 r.status r.text.items 0) }
+    ensures memory { OnOk result (cause ≢ UnfoundedCause.OutOfMemory) }
+{
+    let text = line_for_cause(alloc, system, cause)?;
+    Ok(Report {
+        status: Status::SpecRefused,
+        text,
+    })
+}
+
+/// No base was found, with a line for each proposal.
+pub fn upper_refusal<const F: u32>(
+    alloc: Global,
+    system: &System,
+    proposals: &[Trial],
+) -> Result<Report, AllocError>
+    requires fraction_bits { (24 ≤ F) × (F ≤ 56) }
+    ensures { IfOk result (λ r. Says Status.NoUpper (no_upper_text system.now F proposals.now) 0 r.status r.text.items 0) }
+{
+    let text = no_upper::<F>(alloc, system, proposals)?;
+    Ok(Report {
+        status: Status::NoUpper,
+        text,
+    })
+}
+
+/// A line as bytes.
+fn line(alloc: Global, line: &str) -> Result<Vec<u8>, AllocError>
+    ensures { IfOk result (λ text. text.items ≡ line.now) }
+{
+    Vec::from_slice(alloc, line.as_bytes())
+}
+
 /// Why words stand for no command; `Err` where that is want of memory.
-pub fn words_refusal(alloc: Global, fault: WordsFault) -> Result<String, AllocError>
+fn line_for_words(alloc: Global, fault: WordsFault) -> Result<String, AllocError>
     ensures line { IfOk result (λ text. string_bytes text ≡ words_line fault) }
     ensures memory { OnOk result (fault ≢ WordsFault.OutOfMemory) }
 {
@@ -49,7 +139,7 @@ fn name_of_value(value: ValueName) -> &'static str
 }
 
 /// Why a text is no specification; `Err` where that is want of memory.
-pub fn text_refusal(alloc: Global, fault: SpecFault) -> Result<String, AllocError>
+fn line_for_text(alloc: Global, fault: SpecFault) -> Result<String, AllocError>
     ensures line { IfOk result (λ text. string_bytes text ≡ text_line fault) }
     ensures memory { OnOk result (fault ≢ SpecFault.OutOfMemory) }
 {
@@ -91,7 +181,7 @@ fn limit_refusal(alloc: Global, fault: BuildFault) -> Result<String, AllocError>
 }
 
 /// Why a specification isn't well founded; `Err` where that is want of memory.
-pub fn cause_refusal(
+fn line_for_cause(
     alloc: Global,
     system: &System,
     cause: UnfoundedCause,
@@ -125,7 +215,7 @@ fn named(alloc: Global, why: &str, name: &Word) -> Result<Vec<u8>, AllocError>
 }
 
 /// That no base was found, with a line for each proposal.
-pub fn no_upper<const F: u32>(
+fn no_upper<const F: u32>(
     alloc: Global,
     system: &System,
     proposals: &[Trial],

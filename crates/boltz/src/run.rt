@@ -1,33 +1,33 @@
 //! The top call.
-ghost use Rattle.std.specs.Prelude.{◌≡◌, ℕ, ◌≤◌, ◌⊎◌, Bool, List, Option};
-ghost use Rattle.bz_model.specs.Spec.{Spec};
-ghost use Rattle.bz_model.specs.declared.fraction.Fraction.{Fraction};
-ghost use Rattle.bz_outside.specs.Outside.{Rose};
-ghost use Rattle.size_window.specs.RunByBits.{Ending};
-ghost use Rattle.size_window.specs.declared.limits.Limits.{Limits};
-ghost use Rattle.boltz.specs.Answers.{World, Output, Ends};
-ghost use Rattle.boltz.specs.Commands.{AreRefused};
-ghost use Rattle.boltz.specs.Complete.{IsPrintable, IsUnfit, IsDrawable, IsBoundable, IsBaseless};
-ghost use Rattle.boltz.specs.Drawn.{ending_status};
+ghost use Rattle.std.specs.Prelude.{◌≡◌, ◌≢◌, ℕ, ◌≤◌, ◌⊎◌, List};
+ghost use Rattle.bz_outside.specs.Outside.{Rose, Appends};
+ghost use Rattle.boltz.specs.Answers.{world, Answers, Carries, NotYet, Unworded, IsUndisturbed};
+ghost use Rattle.boltz.specs.Commands.{IsBuilt, IsStoodFor, AreRefused};
+ghost use Rattle.boltz.specs.Ends.{EndsBy, output};
+ghost use Rattle.boltz.specs.Stages.{files};
 ghost use Rattle.boltz.specs.declared.status.Status.{Status};
 
-use crate::report::answer_to;
+use crate::oracle::oracle;
+use crate::refusals::{not_yet_refusal, words_refusal};
+use crate::report::written;
+use crate::sample::sample;
+use crate::spec::spec;
 use crate::status::Status;
 use bz_model::steps::Steps;
 use bz_outside::shelf::Shelf;
-use bz_outside::sink::{Sink, put_all};
+use bz_outside::sink::Sink;
 use bz_outside::word::Word;
+use command_words::command::Command;
+use command_words::fault::WordsFault;
+use command_words::read::read_words;
 use std::alloc::Global;
 use std::sync::ledger::Ledger;
 
-/// Does all that the program does: reads the words and the files that they name, and writes the
-/// answer's whole text at once.
+/// Does all that the program does: reads the words and the files that they name, and writes the answer.
 ///
-/// Where memory is wanting nothing is written. Where a write fails a front of the text is written,
-/// and nothing after it. Words that stand for no command that is built are refused, and nothing is read
-/// then. A well-founded specification within the limits is printed, where no read and
-/// no write fails and memory suffices; any other one is refused then.
-#[tactic(auto, using(crate::proofs::Complete::words_told, crate::proofs::Complete::complete, crate::proofs::Complete::refuses, crate::proofs::Complete::bounds_told, crate::proofs::Complete::lacks_base, crate::proofs::Complete::draws))]
+/// A drawing's lines are written while it goes on, other answers at their end. Where memory runs out, or
+/// a write fails, a prefix of an answer's text was written, and nothing more is. Words that stand for no
+/// command that is built are refused, and nothing is read then.
 pub fn run<S: Shelf, K: Sink, L: Ledger>(
     alloc: Global,
     words: &[Word],
@@ -35,32 +35,73 @@ pub fn run<S: Shelf, K: Sink, L: Ledger>(
     out: &mut K,
     steps: &mut Steps<L>,
 ) -> Status
-    ensures ends { Ends (record { words = words.now; content = S.content shelf.old; before = S.faults shelf.old; after = S.faults shelf.new })
-        (record { before = K.written out.old; after = K.written out.new; faults_before = K.faults out.old; faults_after = K.faults out.new }) result }
-    ensures words { AreRefused words.now
-        → ¬ (Rose (K.faults out.old) (K.faults out.new)) → (result ≡ Status.WordsRefused) ⊎ (result ≡ Status.OutOfMemory) }
-    ensures words_only { result ≡ Status.WordsRefused → AreRefused words.now }
+    ensures ends { EndsBy (Answers (world words.now (files (S.content shelf.old) (S.faults shelf.old) (S.faults shelf.new)))) (output (K.written out.old) (K.written out.new) (K.faults out.old) (K.faults out.new) steps.old steps.new) result }
+    ensures exact { (status : Status) (text : List ℕ) (ticks : ℕ) → IsUndisturbed (world words.now (files (S.content shelf.old) (S.faults shelf.old) (S.faults shelf.new)))
+        → Answers (world words.now (files (S.content shelf.old) (S.faults shelf.old) (S.faults shelf.new))) status text ticks → status ≢ Status.OutOfMemory → ¬ (Rose (K.faults out.old) (K.faults out.new))
+        → (result ≡ Status.OutOfMemory) ⊎ ((result ≡ status) × Appends (K.written out.old) (K.written out.new) text) }
     ensures unread { AreRefused words.now → shelf.new ≡ shelf.old }
-    ensures complete { (s : Spec) → IsPrintable (record { words = words.now; content = S.content shelf.old; before = S.faults shelf.old; after = S.faults shelf.new }) s
-        → ¬ (Rose (K.faults out.old) (K.faults out.new)) → (result ≡ Status.Done) ⊎ (result ≡ Status.OutOfMemory) }
-    ensures refuses { IsUnfit (record { words = words.now; content = S.content shelf.old; before = S.faults shelf.old; after = S.faults shelf.new })
-        → ¬ (Rose (K.faults out.old) (K.faults out.new)) → (result ≡ Status.SpecRefused) ⊎ (result ≡ Status.OutOfMemory) }
-    ensures bounds { (s : Spec) (x : Fraction) (F : ℕ) (base : List ℕ) → IsBoundable (record { words = words.now; content = S.content shelf.old; before = S.faults shelf.old; after = S.faults shelf.new }) s x F base
-        → ¬ (Rose (K.faults out.old) (K.faults out.new)) → (result ≡ Status.Done) ⊎ (result ≡ Status.OutOfMemory) }
-    ensures no_base { (s : Spec) (x : Fraction) (F : ℕ) → IsBaseless (record { words = words.now; content = S.content shelf.old; before = S.faults shelf.old; after = S.faults shelf.new }) s x F
-        → ¬ (Rose (K.faults out.old) (K.faults out.new)) → (result ≡ Status.NoUpper) ⊎ (result ≡ Status.OutOfMemory) }
-    ensures draws { (s : Spec) (x : Fraction) (F turns : ℕ) (limits : Limits) (base : List ℕ) (bits : ℕ → Option Bool) (ending : Ending)
-        → IsDrawable (record { words = words.now; content = S.content shelf.old; before = S.faults shelf.old; after = S.faults shelf.new }) s x F limits base bits turns ending
-        → ¬ (Rose (K.faults out.old) (K.faults out.new)) → (result ≡ ending_status ending) ⊎ (result ≡ Status.OutOfMemory) }
     ensures content { S.content shelf.new ≡ S.content shelf.old }
     ensures counts { (name : List ℕ) → S.faults shelf.old name ≤ S.faults shelf.new name }
     ensures writes { K.faults out.old ≤ K.faults out.new }
 {
-    match answer_to(alloc, words, shelf, steps) {
-        Ok(report) => match put_all(out, report.text.as_slice()) {
-            Ok(()) => report.status,
-            Err(_) => Status::WriteFault,
-        },
+    match read_words(alloc, words) {
+        Ok(command) => carried_out(alloc, &command, shelf, out, steps),
+        Err(fault) => without_command(alloc, fault, out),
+    }
+}
+
+/// Carries out a command. A new command has a line here.
+fn carried_out<S: Shelf, K: Sink, L: Ledger>(
+    alloc: Global,
+    command: &Command,
+    shelf: &mut S,
+    out: &mut K,
+    steps: &mut Steps<L>,
+) -> Status
+    requires stood_for { IsStoodFor command.now }
+    ensures ends { EndsBy (Carries (files (S.content shelf.old) (S.faults shelf.old) (S.faults shelf.new)) command.now) (output (K.written out.old) (K.written out.new) (K.faults out.old) (K.faults out.new) steps.old steps.new) result }
+    ensures unread { ¬ (IsBuilt command.now) → shelf.new ≡ shelf.old }
+    ensures content { S.content shelf.new ≡ S.content shelf.old }
+    ensures counts { (name : List ℕ) → S.faults shelf.old name ≤ S.faults shelf.new name }
+    ensures writes { K.faults out.old ≤ K.faults out.new }
+{
+    match command {
+        Command::Spec { file } => spec(alloc, file, shelf, out),
+        Command::Oracle { file, x, fraction } => {
+            oracle(alloc, file, *x, *fraction, shelf, out, steps)
+        }
+        Command::Sample {
+            file,
+            x,
+            tape,
+            limits,
+            fraction,
+        } => sample(alloc, file, *x, tape, *limits, *fraction, shelf, out, steps),
+        Command::Pool { .. } => not_yet(alloc, out),
+        Command::Verify { .. } => not_yet(alloc, out),
+        Command::Migrate { .. } => not_yet(alloc, out),
+        Command::Bulk { .. } => not_yet(alloc, out),
+    }
+}
+
+/// Refuses a command that isn't built yet.
+fn not_yet<K: Sink>(alloc: Global, out: &mut K) -> Status
+    ensures ends { (ticks : ℕ) → EndsBy NotYet (output (K.written out.old) (K.written out.new) (K.faults out.old) (K.faults out.new) ticks ticks) result }
+    ensures writes { K.faults out.old ≤ K.faults out.new }
+{
+    match not_yet_refusal(alloc) {
+        Ok(report) => written(out, report.status, report.text.as_slice()),
+        Err(_) => Status::OutOfMemory,
+    }
+}
+
+/// Refuses words that stand for no command.
+fn without_command<K: Sink>(alloc: Global, fault: WordsFault, out: &mut K) -> Status
+    ensures ends { (ticks : ℕ) → EndsBy (Unworded fault) (output (K.written out.old) (K.written out.new) (K.faults out.old) (K.faults out.new) ticks ticks) result }
+    ensures writes { K.faults out.old ≤ K.faults out.new }
+{
+    match words_refusal(alloc, fault) {
+        Ok(report) => written(out, report.status, report.text.as_slice()),
         Err(_) => Status::OutOfMemory,
     }
 }

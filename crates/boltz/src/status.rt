@@ -21,9 +21,9 @@ pub enum Status {
     TurnLimit,
     /// A read failed.
     ReadFault,
-    /// A write failed.
+    /// A write failed. A prefix of the text is written.
     WriteFault,
-    /// Memory is wanting. Nothing is written.
+    /// Memory ran out. A prefix of the text that was made is written.
     OutOfMemory,
 }
 

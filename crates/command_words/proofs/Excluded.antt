@@ -3,7 +3,9 @@ use Rattle.std.proofs.Common.{◌≡◌, ℕ, ◌+◌, ◌≤◌, List, [], ◌�
 use Rattle.std.proofs.lemmas.Bool.{cases_eq, cases_lt}
 use Rattle.size_window.specs.declared.limits.Limits.{Limits}
 use Rattle.command_words.specs.declared.command.Command.{Command}
+use Rattle.command_words.specs.declared.command.FractionBits.{FractionBits}
 use Rattle.command_words.specs.declared.command.TapeWord.{TapeWord}
+use Rattle.command_words.specs.Fractions.{fraction_bits}
 use Rattle.command_words.specs.declared.fault.ValueName.{ValueName}
 use Rattle.command_words.specs.declared.fault.ValueName.TheVariants as value
 use Rattle.command_words.specs.declared.names.CommandName.{CommandName}
@@ -54,8 +56,8 @@ count_fine given l are = set-not_refused value.Count 1 (given.values option.Coun
 turns_fine : (given : Given) (l : Limits) → AreLimits given l → ¬ (IsRefused value.Turns (given.values option.Turns))
 turns_fine given l are = set-not_refused value.Turns 1000000 (given.values option.Turns) l.turns are.turns
 
-bits_fine : (given : Given) (b : ℕ) → AreFractionBits given b → ¬ (IsRefused value.Fraction (given.values option.Fraction))
-bits_fine given b are = set-not_refused value.Fraction 48 (given.values option.Fraction) b are.is
+bits_fine : (given : Given) (b : FractionBits) → AreFractionBits given b → ¬ (IsRefused value.Fraction (given.values option.Fraction))
+bits_fine given b are = set-not_refused value.Fraction 48 (given.values option.Fraction) (fraction_bits b) are.is
 
 seed_fine : (given : Given) (t : TapeWord) → length (given.values option.Tape) + length (given.values option.Seed) ≡ 1 → IsTape given t → ¬ (IsRefused value.Seed (given.values option.Seed))
 seed_fine given t one (makes.file w e) = not_given value.Seed (given.values option.Seed) (omega (arith, ap length e))

@@ -1,5 +1,5 @@
 -- The command that is made of what is given.
-use Rattle.std.proofs.Common.{◌≡◌, ℕ, ◌+◌, List, [], ◌∷◌, length, refl, sym, ◌∙◌, ap, subst, arith}
+use Rattle.std.proofs.Common.{◌≡◌, ℕ, ◌+◌, ◌⊎◌, inl, inr, List, [], ◌∷◌, length, refl, sym, ◌∙◌, ap, subst, arith}
 use Rattle.std.specs.Prelude.{Option, Some, Ok}
 use Rattle.bz_model.specs.declared.fraction.Fraction.{Fraction}
 use Rattle.bz_model.specs.FractionRead.{ReadsAs}
@@ -83,6 +83,11 @@ seeded given (text ∷ other ∷ seeds) seed e long set = absurd (omega arith)
 
 pub tape-seed : (given : Given) (seed : ℕ) → [] ≡ given.values option.Tape → length (given.values option.Tape) + length (given.values option.Seed) ≡ 1 → IsSet value.Seed 0 (given.values option.Seed) seed → IsTape given (tape.Seed seed)
 tape-seed given seed none one set = seeded given (given.values option.Seed) seed refl (omega (arith, ap length none)) set
+
+-- fraction bits that are set are 40, 48 or 52
+pub set-bits : (texts : List (List ℕ)) (n : ℕ) → IsSet value.Fraction 48 texts n → (n ≡ 40) ⊎ (n ≡ 48) ⊎ (n ≡ 52)
+set-bits [] n set = inr (inl set)
+set-bits (text ∷ others) n set = set.within
 
 bulk_of : (given : Given) (values : Values) (places : List (List ℕ)) → given.places ≡ places → length places ≡ 1 → IsSet value.N 0 (n_among Bulk places) values.n → AreFractionBits given values.fraction → Makes given Bulk (command.Bulk values.n values.fraction)
 bulk_of given values [] e long set bits = absurd (omega arith)

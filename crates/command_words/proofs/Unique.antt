@@ -8,6 +8,9 @@ use Rattle.bz_model.specs.Number.{IsPart, number_value}
 use Rattle.bz_model.proofs.Numbers.{one-form}
 use Rattle.size_window.specs.declared.limits.Limits.{Limits}
 use Rattle.command_words.specs.declared.command.Command.{Command}
+use Rattle.command_words.specs.declared.command.FractionBits.{FractionBits}
+use Rattle.command_words.specs.declared.command.FractionBits.TheVariants.{F40, F48, F52}
+use Rattle.command_words.specs.Fractions.{fraction_bits}
 use Rattle.command_words.specs.declared.command.TapeWord.{TapeWord}
 use Rattle.command_words.specs.declared.command.TapeWord.TheVariants as tape
 use Rattle.command_words.specs.declared.fault.ValueName.{ValueName}
@@ -57,8 +60,19 @@ same_limits given l m h i =
     ∙ ap (λ n. record { min = m.min; max = m.max; count = n; turns = l.turns }) count
     ∙ ap (λ n. record { min = m.min; max = m.max; count = m.count; turns = n }) turns
 
-same_bits : (given : Given) (n m : ℕ) → AreFractionBits given n → AreFractionBits given m → n ≡ m
-same_bits given n m h i = same_set value.Fraction 48 (given.values option.Fraction) n m h.is i.is
+one-number : (a b : FractionBits) → fraction_bits a ≡ fraction_bits b → a ≡ b
+one-number F40 F40 e = refl
+one-number F40 F48 e = absurd (omega arith)
+one-number F40 F52 e = absurd (omega arith)
+one-number F48 F40 e = absurd (omega arith)
+one-number F48 F48 e = refl
+one-number F48 F52 e = absurd (omega arith)
+one-number F52 F40 e = absurd (omega arith)
+one-number F52 F48 e = absurd (omega arith)
+one-number F52 F52 e = refl
+
+same_bits : (given : Given) (a b : FractionBits) → AreFractionBits given a → AreFractionBits given b → a ≡ b
+same_bits given a b h i = one-number a b (same_set value.Fraction 48 (given.values option.Fraction) (fraction_bits a) (fraction_bits b) h.is i.is)
 
 same_tape : (given : Given) (t u : TapeWord) → length (given.values option.Tape) + length (given.values option.Seed) ≡ 1 → IsTape given t → IsTape given u → t ≡ u
 same_tape given t u one (makes.file w e) (makes.file v h) = cc

@@ -5,6 +5,7 @@ use Rattle.bz_model.specs.FractionRead.{ReadsAs}
 use Rattle.size_window.specs.declared.limits.Limits.{Limits}
 use Rattle.command_words.specs.declared.command.Command.{Command}
 use Rattle.command_words.specs.declared.command.Command.TheVariants as command
+use Rattle.command_words.specs.declared.command.FractionBits.{FractionBits}
 use Rattle.command_words.specs.declared.command.TapeWord.{TapeWord}
 use Rattle.command_words.specs.declared.command.TapeWord.TheVariants as tape
 use Rattle.command_words.specs.declared.fault.ValueName.{ValueName}
@@ -15,6 +16,7 @@ use Rattle.command_words.specs.declared.names.CommandName.{CommandName}
 use Rattle.command_words.specs.declared.names.CommandName.TheVariants as name
 use Rattle.command_words.specs.declared.names.OptionName.TheVariants as option
 use Rattle.command_words.specs.Words.{Argument, Given, given_by, HasForm, IsNoCommand}
+use Rattle.command_words.specs.Fractions.{fraction_bits}
 use Rattle.command_words.specs.Values.{StandsFor, IsSet, IsBad}
 
 -- The bits of a sample are those of the tape that is given, or of the seed.
@@ -31,18 +33,18 @@ pub record AreLimits (given : Given) (limits : Limits) : Type 0 where
   pub window : limits.min ≤ limits.max
 
 -- The fraction bits are those that are given, or 48.
-pub record AreFractionBits (given : Given) (bits : ℕ) : Type 0 where
-  pub is : IsSet value.Fraction 48 (given.values option.Fraction) bits
+pub record AreFractionBits (given : Given) (bits : FractionBits) : Type 0 where
+  pub is : IsSet value.Fraction 48 (given.values option.Fraction) (fraction_bits bits)
 
 -- What is given makes a command of a name: its files, its x, its numbers.
 pub data Makes (given : Given) : CommandName → Command → Type 0 where
   spec : (file : List ℕ) → given.places ≡ file ∷ [] → Makes given name.Spec (command.Spec file)
-  oracle : (file text : List ℕ) (x : Fraction) (bits : ℕ) → given.places ≡ file ∷ text ∷ [] → ReadsAs text (Ok x) → AreFractionBits given bits → Makes given name.Oracle (command.Oracle file x bits)
-  sample : (file text : List ℕ) (x : Fraction) (tape_word : TapeWord) (limits : Limits) (bits : ℕ) → given.places ≡ file ∷ text ∷ [] → ReadsAs text (Ok x) → IsTape given tape_word → AreLimits given limits → AreFractionBits given bits → Makes given name.Sample (command.Sample file x tape_word limits bits)
-  pool : (file text schedule : List ℕ) (tapes : List (List ℕ)) (x : Fraction) (limits : Limits) (bits : ℕ) → given.places ≡ file ∷ text ∷ schedule ∷ tapes → ReadsAs text (Ok x) → AreLimits given limits → AreFractionBits given bits → Makes given name.Pool (command.Pool file x schedule tapes limits bits)
+  oracle : (file text : List ℕ) (x : Fraction) (bits : FractionBits) → given.places ≡ file ∷ text ∷ [] → ReadsAs text (Ok x) → AreFractionBits given bits → Makes given name.Oracle (command.Oracle file x bits)
+  sample : (file text : List ℕ) (x : Fraction) (tape_word : TapeWord) (limits : Limits) (bits : FractionBits) → given.places ≡ file ∷ text ∷ [] → ReadsAs text (Ok x) → IsTape given tape_word → AreLimits given limits → AreFractionBits given bits → Makes given name.Sample (command.Sample file x tape_word limits bits)
+  pool : (file text schedule : List ℕ) (tapes : List (List ℕ)) (x : Fraction) (limits : Limits) (bits : FractionBits) → given.places ≡ file ∷ text ∷ schedule ∷ tapes → ReadsAs text (Ok x) → AreLimits given limits → AreFractionBits given bits → Makes given name.Pool (command.Pool file x schedule tapes limits bits)
   verify : (file cert : List ℕ) → given.places ≡ file ∷ cert ∷ [] → Makes given name.Verify (command.Verify file cert)
   migrate : (file cert : List ℕ) → given.places ≡ file ∷ cert ∷ [] → Makes given name.Migrate (command.Migrate file cert)
-  bulk : (text : List ℕ) (n bits : ℕ) → given.places ≡ text ∷ [] → StandsFor value.N text n → AreFractionBits given bits → Makes given name.Bulk (command.Bulk n bits)
+  bulk : (text : List ℕ) (n : ℕ) (bits : FractionBits) → given.places ≡ text ∷ [] → StandsFor value.N text n → AreFractionBits given bits → Makes given name.Bulk (command.Bulk n bits)
 
 -- Words stand for a command where they have its form and what they give makes it.
 pub record IsCommand (words : List (List ℕ)) (stood_for : Command) : Type 0 where

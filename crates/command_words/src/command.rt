@@ -1,4 +1,7 @@
 //! Commands.
+ghost use Rattle.std.specs.Prelude.{◌≡◌, ◌⊎◌};
+ghost use Rattle.command_words.specs.Fractions.{fraction_bits};
+
 use crate::word_list::WordList;
 use bz_model::fraction::Fraction;
 use bz_outside::word::Word;
@@ -13,8 +16,40 @@ pub enum TapeWord {
     Seed(u64),
 }
 
-/// What the program is asked for. `fraction` is how many bits stand behind the point in rounded
-/// numbers: 40, 48 or 52.
+/// How many bits stand behind the point in rounded numbers: 40, 48 or 52.
+#[derive(Clone, Copy, Debug, PartialEq, Eq)]
+pub enum FractionBits {
+    F40,
+    F48,
+    F52,
+}
+
+impl FractionBits {
+    /// This many bits. Takes no memory.
+    pub fn of(number: u64) -> FractionBits
+        requires { (number ≡ 40) ⊎ (number ≡ 48) ⊎ (number ≡ 52) }
+        ensures { fraction_bits result ≡ number }
+    {
+        match number {
+            40 => FractionBits::F40,
+            48 => FractionBits::F48,
+            _ => FractionBits::F52,
+        }
+    }
+
+    /// How many bits these are. Takes no memory.
+    pub fn number(self) -> u32
+        ensures { result ≡ fraction_bits self }
+    {
+        match self {
+            FractionBits::F40 => 40,
+            FractionBits::F48 => 48,
+            FractionBits::F52 => 52,
+        }
+    }
+}
+
+/// What the program is asked for.
 #[derive(Debug, Drop)]
 pub enum Command {
     /// Prints a specification in its canonical form.
@@ -25,7 +60,7 @@ pub enum Command {
     Oracle {
         file: Word,
         x: Fraction,
-        fraction: u32,
+        fraction: FractionBits,
     },
     /// Draws from a specification at `x`.
     Sample {
@@ -33,7 +68,7 @@ pub enum Command {
         x: Fraction,
         tape: TapeWord,
         limits: Limits,
-        fraction: u32,
+        fraction: FractionBits,
     },
     /// Draws from a specification at `x`, one drawing over each tape, in the order of a schedule.
     Pool {
@@ -42,7 +77,7 @@ pub enum Command {
         schedule: Word,
         tapes: WordList,
         limits: Limits,
-        fraction: u32,
+        fraction: FractionBits,
     },
     /// Checks a certificate of a specification.
     Verify {
@@ -57,6 +92,6 @@ pub enum Command {
     /// Draws from a specification that the number makes.
     Bulk {
         n: u64,
-        fraction: u32,
+        fraction: FractionBits,
     },
 }

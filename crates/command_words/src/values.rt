@@ -7,6 +7,7 @@ ghost use Rattle.command_words.specs.Values.{IsWithinLimits, StandsFor, IsRefuse
 ghost use Rattle.command_words.specs.Reading.{IsX, AreValues, IsBadOne};
 ghost use Rattle.command_words.specs.Views.{given_of, texts_in};
 
+use crate::command::FractionBits;
 use crate::fault::{ValueName, WordsFault};
 use crate::form::Form;
 use crate::names::{CommandName, OptionName};
@@ -21,7 +22,7 @@ pub struct Values {
     pub x: Option<Fraction>,
     pub seed: u64,
     pub limits: Limits,
-    pub fraction: u32,
+    pub fraction: FractionBits,
     pub n: u64,
 }
 
@@ -54,7 +55,7 @@ impl Form<'_> {
                 count,
                 turns,
             },
-            fraction: fraction as u32,
+            fraction: FractionBits::of(fraction),
             n,
         })
     }

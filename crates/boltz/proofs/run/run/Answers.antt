@@ -1,36 +1,29 @@
-use Rattle.std.proofs.Common.{inl, subst}
-use Rattle.bz_outside.specs.Outside.{Appends}
-use Rattle.boltz.proofs.Complete.{printed, refused, drawn, bounded, baseless, words-refused, refused-only, written}
+use Rattle.boltz.specs.Answers.{world}
+use Rattle.boltz.specs.Stages.{files}
+use Rattle.boltz.proofs.Calls.{exact, carried_answers, refused_answers, not_both}
 use Rattle.boltz.proofs.run.run.Goals as goal
 
--- words that are refused have no other answer
-pub returns-in-Ok-put_all-clause-words : goal.returns-in-Ok-put_all-clause-words
-returns-in-Ok-put_all-clause-words g c = λ p no_fault. inl (words-refused _ c.in-Ok.report.status c.in-Ok.report.text.items p c.in-Ok.ensures.answer)
+-- a command is carried out
+pub returns-in-Ok-clause-ends : goal.returns-in-Ok-clause-ends
+returns-in-Ok-clause-ends g c =
+    let f = files (g.S.Shelf.content c.args.shelf.now) (g.S.Shelf.faults c.args.shelf.now) (g.S.Shelf.faults c.carried_out.new.shelf) in
+    carried_answers c.args.words.now f c.in-Ok.command _ _ _ _ _ _ _ c.in-Ok.ensures.command c.carried_out.ensures.ends
 
--- other words have no such answer
-pub returns-in-Ok-put_all-clause-words_only : goal.returns-in-Ok-put_all-clause-words_only
-returns-in-Ok-put_all-clause-words_only g c = λ e. refused-only _ c.in-Ok.report.status c.in-Ok.report.text.items c.in-Ok.ensures.answer e
+pub returns-in-Ok-clause-exact : goal.returns-in-Ok-clause-exact
+returns-in-Ok-clause-exact g c =
+    let f = files (g.S.Shelf.content c.args.shelf.now) (g.S.Shelf.faults c.args.shelf.now) (g.S.Shelf.faults c.carried_out.new.shelf) in
+    exact (world c.args.words.now f) _ _ _ _ _ _ _ (carried_answers c.args.words.now f c.in-Ok.command _ _ _ _ _ _ _ c.in-Ok.ensures.command c.carried_out.ensures.ends)
 
--- what can be printed has no other answer
-pub returns-in-Ok-put_all-clause-complete : goal.returns-in-Ok-put_all-clause-complete
-returns-in-Ok-put_all-clause-complete g c = λ s p no_fault. inl (printed _ s c.in-Ok.report.status c.in-Ok.report.text.items p c.in-Ok.ensures.answer).0
+pub returns-in-Ok-clause-unread : goal.returns-in-Ok-clause-unread
+returns-in-Ok-clause-unread g c = λ refused. c.carried_out.ensures.unread (λ built. not_both c.args.words.now c.in-Ok.command c.in-Ok.ensures.command built refused)
 
--- what is unfit has no other answer
-pub returns-in-Ok-put_all-clause-refuses : goal.returns-in-Ok-put_all-clause-refuses
-returns-in-Ok-put_all-clause-refuses g c = λ p no_fault. inl (refused _ c.in-Ok.report.status c.in-Ok.report.text.items p c.in-Ok.ensures.answer)
+-- the words stand for no command
+pub returns-in-Err-clause-ends : goal.returns-in-Err-clause-ends
+returns-in-Err-clause-ends g c =
+    let f = files (g.S.Shelf.content c.args.shelf.now) (g.S.Shelf.faults c.args.shelf.now) (g.S.Shelf.faults c.args.shelf.now) in
+    refused_answers c.args.words.now f c.in-Err.fault _ _ _ _ _ _ _ c.in-Err.ensures.refused (c.without_command.ensures.ends c.args.steps.now)
 
--- what has a base has no other answer
-pub returns-in-Ok-put_all-clause-bounds : goal.returns-in-Ok-put_all-clause-bounds
-returns-in-Ok-put_all-clause-bounds g c = λ s x F base p no_fault. inl (bounded _ s x F base c.in-Ok.report.status c.in-Ok.report.text.items p c.in-Ok.ensures.answer).0
-
--- what has no base has no other answer
-pub returns-in-Ok-put_all-clause-no_base : goal.returns-in-Ok-put_all-clause-no_base
-returns-in-Ok-put_all-clause-no_base g c = λ s x F p no_fault. inl (baseless _ s x F c.in-Ok.report.status c.in-Ok.report.text.items p c.in-Ok.ensures.answer).0
-
--- what can be drawn has no other answer
-pub returns-in-Ok-put_all-clause-draws : goal.returns-in-Ok-put_all-clause-draws
-returns-in-Ok-put_all-clause-draws g c = λ s x F turns limits base bits ending p no_fault. inl (drawn _ s x F turns limits base bits ending c.in-Ok.report.status c.in-Ok.report.text.items p c.in-Ok.ensures.answer).0
-
--- the whole text is written
-pub returns-in-Ok-put_all-clause-ends : goal.returns-in-Ok-put_all-clause-ends
-returns-in-Ok-put_all-clause-ends g c = written _ _ c.in-Ok.report.status c.in-Ok.report.text.items c.in-Ok.ensures.answer (subst (Appends (g.K.Sink.written c.args.out.now) (g.K.Sink.written c.put_all.new.out)) c.as_slice.ensures.value c.in-Ok-put_all.ensures.appends)
+pub returns-in-Err-clause-exact : goal.returns-in-Err-clause-exact
+returns-in-Err-clause-exact g c =
+    let f = files (g.S.Shelf.content c.args.shelf.now) (g.S.Shelf.faults c.args.shelf.now) (g.S.Shelf.faults c.args.shelf.now) in
+    exact (world c.args.words.now f) _ _ _ _ _ _ _ (refused_answers c.args.words.now f c.in-Err.fault _ _ _ _ _ _ _ c.in-Err.ensures.refused (c.without_command.ensures.ends c.args.steps.now))

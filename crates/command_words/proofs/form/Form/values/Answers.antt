@@ -1,7 +1,8 @@
 use Rattle.std.proofs.Common.{refl, arith}
 use Rattle.command_words.specs.declared.fault.ValueName.TheVariants as value
 use Rattle.command_words.specs.Values as bad
-use Rattle.command_words.specs.Views.{given_of}
+use Rattle.command_words.specs.Views.{given_of, texts_in}
+use Rattle.command_words.proofs.Made.{set-bits}
 use Rattle.command_words.proofs.Refused.{fine_x, fine_more, fine_all, bad_first}
 use Rattle.command_words.proofs.form.Form.values.Goals as goal
 
@@ -98,3 +99,7 @@ returns-then-max-min-clause-err c =
       is = refl;
       bad = bad.empty (record { none_refused = fine_all name given n; min = c.in_ok-min.min; max = c.in_ok-max.max; is_min = c.in_ok-min.ensures.ok; is_max = c.in_ok-max.ensures.ok; above = c.if-max-min.true });
     }
+
+-- the fraction bits are 40, 48 or 52
+pub of-requires : goal.of-requires
+of-requires c = set-bits (texts_in c.args.self.now value.Fraction) c.in_ok-fraction.fraction c.in_ok-fraction.ensures.ok

@@ -1,0 +1,99 @@
+-- Calls: from commands to answers, and that an undisturbed call has one answer.
+use Rattle.std.proofs.Common.{◌≡◌, ◌≢◌, ℕ, ◌+◌, ◌≤◌, ◌⊎◌, inl, inr, List, [], ◌∷◌, refl, sym, ap, subst, ◌∙◌, arith}
+use Rattle.std.specs.Prelude.{Bool, Option, Some, None, option_map}
+use Rattle.bz_model.specs.Spec.{Spec}
+use Rattle.bz_outside.specs.Outside.{Rose, Appends}
+use Rattle.bit_tape.specs.Bits.{file_bit, seed_bit}
+use Rattle.bit_tape.specs.Tape.{bits_of}
+use Rattle.command_words.specs.Commands.{IsCommand, Refuses}
+use Rattle.command_words.specs.Fractions.{fraction_bits}
+use Rattle.command_words.specs.declared.command.Command.{Command}
+use Rattle.command_words.specs.declared.command.Command.TheVariants as command
+use Rattle.command_words.specs.declared.command.TapeWord.{TapeWord}
+use Rattle.command_words.specs.declared.command.TapeWord.TheVariants as tape
+use Rattle.command_words.specs.declared.fault.WordsFault.{WordsFault}
+use Rattle.command_words.proofs.Unique.{one_command}
+use Rattle.rounded_map.specs.RoundedMap.{Setting, setting}
+use Rattle.oracle_memo.specs.Levels.{level_bounds, cost_at}
+use Rattle.bz_model.specs.Fraction.{ratio}
+use Rattle.size_window.specs.Drawing.{limits_of}
+use Rattle.size_window.specs.RunByBits.{Limits as Window}
+use Rattle.boltz.specs.Answers.{World, world, Carries, NotYet, Unworded, Answers, files_of, tape_files, IsCalm, AreCalm, IsUndisturbed}
+use Rattle.boltz.specs.Answers as answers
+use Rattle.boltz.specs.Commands.{IsBuilt, AreRefused}
+use Rattle.boltz.specs.Commands as commands
+use Rattle.boltz.specs.Drawn.{TapeMet, HasFailed, drawn_header}
+use Rattle.boltz.specs.Ends.{output, EndsBy}
+use Rattle.boltz.specs.Ends as ends
+use Rattle.boltz.specs.OracleCommand.{Bounded, bounded_text}
+use Rattle.boltz.specs.Outcomes.{Outcome, Says, MaySay, IsOne}
+use Rattle.boltz.specs.Outcomes as outcomes
+use Rattle.boltz.specs.Refusals.{words_line, not_yet_line}
+use Rattle.boltz.specs.SampleCommand.{source_of, tape_in, DrawnFrom}
+use Rattle.boltz.specs.SpecCommand.{Printed, spec_text}
+use Rattle.boltz.specs.Stages.{Files, files, Based}
+use Rattle.boltz.specs.declared.status.Status.{Status}
+use Rattle.boltz.proofs.Commands.{not-refused, one-fault}
+use Rattle.boltz.proofs.Endings as endings
+use Rattle.boltz.proofs.Endings.{ends_as, written_on}
+use Rattle.boltz.proofs.OneDrawing.{one-drawn}
+use Rattle.boltz.proofs.OneReading.{one-said, one-specified, one-based}
+
+-- the tape of a sample is known, and no read of it failed
+pub known-bits : (f : Files) (word : TapeWord) → AreCalm f (tape_files word) → (bits : ℕ → Option Bool) × (bits_of (source_of word) f.content ≡ Some bits)
+known-bits f (tape.File name) calm = (file_bit calm.0.bytes, ap (option_map file_bit) calm.0.known)
+known-bits f (tape.Seed seed) calm = (seed_bit seed, refl)
+
+pub calm-tape : (f : Files) (word : TapeWord) → AreCalm f (tape_files word) → ¬ (HasFailed (tape_in f (source_of word)))
+calm-tape f (tape.File name) calm rose = calm.0.unfailed rose
+calm-tape f (tape.Seed seed) calm never = never
+
+-- each command has one outcome where its files are calm: a command adds its line
+one-carried : (f : Files) (asked : Command) → AreCalm f (files_of asked) → IsOne (Carries f asked)
+one-carried f (command.Spec file) calm = one-specified f file Printed calm.0 (λ s. one-said Status.Done (spec_text s) 0)
+one-carried f (command.Oracle file x F) calm = one-specified f file (λ s. Based (setting s x.num x.den (fraction_bits F)) (Bounded (setting s x.num x.den (fraction_bits F)))) calm.0 (λ s. one-based (setting s x.num x.den (fraction_bits F)) (Bounded (setting s x.num x.den (fraction_bits F))) (λ base. one-said Status.Done (bounded_text (setting s x.num x.den (fraction_bits F)) base) (cost_at 6)))
+one-carried f (command.Sample file x word limits F) calm =
+    let bits = known-bits f word calm.1 in
+    let t = λ (s : Spec). setting s x.num x.den (fraction_bits F) in
+    let met = tape_in f (source_of word) in
+    one-specified f file (λ s. Based (t s) (DrawnFrom (t s) (limits_of limits) met)) calm.0 (λ s. one-based (t s) (DrawnFrom (t s) (limits_of limits) met) (λ base. one-drawn cost_at (drawn_header (t s) base (limits_of limits)) s (ratio x.num x.den) (fraction_bits F) (level_bounds (t s) base) (limits_of limits) met bits.0 bits.1 (calm-tape f word calm.1)))
+one-carried f later calm = one-said Status.WordsRefused not_yet_line 0
+
+-- words that are refused
+only-unworded : (fault : WordsFault) (status : Status) (text : List ℕ) (ticks : ℕ) → status ≢ Status.OutOfMemory → Unworded fault status text ticks → (fault ≢ WordsFault.OutOfMemory) × (status ≡ Status.WordsRefused) × (text ≡ words_line fault)
+only-unworded fault status text ticks memory (answers.refused m says) = (m, says.status_is, says.text_is)
+only-unworded fault status text ticks memory (answers.no_memory says) = absurd (memory says.status_is)
+
+module _ (w : World) (calm : IsUndisturbed w) (status other : Status) (text others : List ℕ) (ticks more : ℕ) (m : status ≢ Status.OutOfMemory) (n : other ≢ Status.OutOfMemory) where
+  answered-twice : Answers w status text ticks → Answers w other others more → (status ≡ other) × (text ≡ others)
+  answered-twice (answers.refused fault refuses p) (answers.refused fault_too refuses_too q) =
+      let a = only-unworded fault status text ticks m p in
+      let b = only-unworded fault_too other others more n q in
+      (a.1 ∙ sym b.1, a.2 ∙ ap words_line (one-fault w.words fault fault_too a.0 b.0 refuses refuses_too) ∙ sym b.2)
+  answered-twice (answers.refused fault refuses p) (answers.carried asked named q) = absurd (not-refused w.words asked fault named (only-unworded fault status text ticks m p).0 refuses)
+  answered-twice (answers.carried asked named p) (answers.refused fault refuses q) = absurd (not-refused w.words asked fault named (only-unworded fault other others more n q).0 refuses)
+  answered-twice (answers.carried asked named p) (answers.carried asked_too named_too q) =
+      (one-carried w.files asked (calm.calm asked named)).one status other text others ticks more m n p (subst (λ c. Carries w.files c other others more) (one_command w.words asked_too asked named_too named) q)
+
+-- an undisturbed call has one answer
+pub one_answer : (w : World) → IsUndisturbed w → IsOne (Answers w)
+one_answer w calm = record { one = λ status other text others ticks more m n p q. answered-twice w calm status other text others ticks more m n p q }
+
+pub exact : (w : World) (b a : Option (List ℕ)) (fb fa tb ta : ℕ) (result : Status) → EndsBy (Answers w) (output b a fb fa tb ta) result → (status : Status) (text : List ℕ) (ticks : ℕ) → IsUndisturbed w → Answers w status text ticks → status ≢ Status.OutOfMemory → ¬ (Rose fb fa) → (result ≡ Status.OutOfMemory) ⊎ ((result ≡ status) × Appends b a text)
+exact w b a fb fa tb ta result h status text ticks calm p memory fine = endings.exact (Answers w) (output b a fb fa tb ta) result status text ticks (one_answer w calm) h p memory fine
+
+-- a command's outcome is an answer
+pub carried_answers : (words : List (List ℕ)) (f : Files) (asked : Command) (b a : Option (List ℕ)) (fb fa tb ta : ℕ) (result : Status) → IsCommand words asked → EndsBy (Carries f asked) (output b a fb fa tb ta) result → EndsBy (Answers (world words f)) (output b a fb fa tb ta) result
+carried_answers words f asked b a fb fa tb ta result named h = ends_as (Carries f asked) (Answers (world words f)) b a fb fa tb ta result (λ status text ticks p. answers.carried asked named p) h
+
+pub refused_answers : (words : List (List ℕ)) (f : Files) (fault : WordsFault) (b a : Option (List ℕ)) (fb fa tb ta : ℕ) (result : Status) → Refuses words fault → EndsBy (Unworded fault) (output b a fb fa tb ta) result → EndsBy (Answers (world words f)) (output b a fb fa tb ta) result
+refused_answers words f fault b a fb fa tb ta result refuses h = ends_as (Unworded fault) (Answers (world words f)) b a fb fa tb ta result (λ status text ticks p. answers.refused fault refuses p) h
+
+-- words that stand for a command that is built aren't refused
+pub not_both : (words : List (List ℕ)) (asked : Command) → IsCommand words asked → IsBuilt asked → ¬ (AreRefused words)
+not_both words asked named built (commands.no_command fault memory refuses) = not-refused words asked fault named memory refuses
+not_both words asked named built (commands.not_yet other named_too later) = later (subst IsBuilt (one_command words asked other named named_too) built)
+
+-- memory ran out before a refusal of words was made
+pub words_lack_memory : (fault : WordsFault) (o : Option (List ℕ)) (fb fa ticks : ℕ) → EndsBy (Unworded fault) (output o o fb fa ticks ticks) Status.OutOfMemory
+words_lack_memory fault o fb fa ticks = ends.out_of_memory refl (record { text = []; ticks = 0; is = answers.no_memory (record { status_is = refl; text_is = refl; ticks_are = refl }); front = endings.no_front o []; few = omega arith })

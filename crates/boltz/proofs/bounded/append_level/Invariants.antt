@@ -1,8 +1,0 @@
-use Rattle.std.proofs.Common.{◌≡◌, ◌++◌}
-use Rattle.boltz.specs.Bounded.{class_level}
-use Rattle.boltz.specs.Lines.{lines_below}
-use Rattle.boltz.proofs.bounded.append_level.Given as goal
-
--- the lines of the classes so far are appended
-abbrev pub invariant-loop-class : goal.invariant-loop-class
-invariant-loop-class l = l.text.items ≡ l.initial.text.items ++ lines_below (class_level l.system l.level l.lower l.upper) l.class

@@ -1,0 +1,6 @@
+use Rattle.boltz.proofs.Endings.{write_failed}
+use Rattle.boltz.proofs.report.written.Goals as goal
+
+-- a prefix is written
+pub returns-in-Err-clause-ends : goal.returns-in-Err-clause-ends
+returns-in-Err-clause-ends g c = write_failed c.args.status c.args.text.now _ _ _ _ c.in-Err.ensures.front c.in-Err.ensures.cause

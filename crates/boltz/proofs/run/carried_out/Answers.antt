@@ -1,0 +1,40 @@
+use Rattle.std.proofs.Common.{subst, sym}
+use Rattle.command_words.specs.declared.command.Command.{Command}
+use Rattle.boltz.specs.Answers.{Carries}
+use Rattle.boltz.specs.Commands.{IsStoodFor}
+use Rattle.boltz.specs.Ends.{EndsBy, output}
+use Rattle.boltz.specs.Stages.{files}
+use Rattle.boltz.proofs.Commands.{sample_limits}
+use Rattle.boltz.proofs.run.carried_out.Goals as goal
+
+-- the limits of a sample are within those of a drawing
+pub sample-requires : goal.sample-requires
+sample-requires g c = sample_limits c.in-Sample.file c.in-Sample.x c.in-Sample.tape c.in-Sample.limits c.in-Sample.fraction (subst IsStoodFor c.in-Sample.is c.requires.stood_for)
+
+-- a specification is printed
+pub returns-in-Spec-clause-ends : goal.returns-in-Spec-clause-ends
+returns-in-Spec-clause-ends g c = subst (λ (k : Command). EndsBy (Carries (files (g.S.Shelf.content c.args.shelf.now) (g.S.Shelf.faults c.args.shelf.now) (g.S.Shelf.faults c.spec.new.shelf)) k) (output (g.K.Sink.written c.args.out.now) (g.K.Sink.written c.spec.new.out) (g.K.Sink.faults c.args.out.now) (g.K.Sink.faults c.spec.new.out) c.args.steps.now c.args.steps.now) c.spec.result) (sym c.in-Spec.is) (c.spec.ensures.ends c.args.steps.now)
+
+-- the command isn't built yet
+pub returns-in-Pool-clause-ends : goal.returns-in-Pool-clause-ends
+returns-in-Pool-clause-ends g c =
+    let at = c.not_yet in
+    subst (λ (k : Command). EndsBy (Carries (files (g.S.Shelf.content c.args.shelf.now) (g.S.Shelf.faults c.args.shelf.now) (g.S.Shelf.faults c.args.shelf.now)) k) (output (g.K.Sink.written c.args.out.now) (g.K.Sink.written at.new.out) (g.K.Sink.faults c.args.out.now) (g.K.Sink.faults at.new.out) c.args.steps.now c.args.steps.now) at.result) (sym c.in-Pool.is) (at.ensures.ends c.args.steps.now)
+
+-- the command isn't built yet
+pub returns-in-Verify-clause-ends : goal.returns-in-Verify-clause-ends
+returns-in-Verify-clause-ends g c =
+    let at = c.not_yet-in-Verify in
+    subst (λ (k : Command). EndsBy (Carries (files (g.S.Shelf.content c.args.shelf.now) (g.S.Shelf.faults c.args.shelf.now) (g.S.Shelf.faults c.args.shelf.now)) k) (output (g.K.Sink.written c.args.out.now) (g.K.Sink.written at.new.out) (g.K.Sink.faults c.args.out.now) (g.K.Sink.faults at.new.out) c.args.steps.now c.args.steps.now) at.result) (sym c.in-Verify.is) (at.ensures.ends c.args.steps.now)
+
+-- the command isn't built yet
+pub returns-in-Migrate-clause-ends : goal.returns-in-Migrate-clause-ends
+returns-in-Migrate-clause-ends g c =
+    let at = c.not_yet-in-Migrate in
+    subst (λ (k : Command). EndsBy (Carries (files (g.S.Shelf.content c.args.shelf.now) (g.S.Shelf.faults c.args.shelf.now) (g.S.Shelf.faults c.args.shelf.now)) k) (output (g.K.Sink.written c.args.out.now) (g.K.Sink.written at.new.out) (g.K.Sink.faults c.args.out.now) (g.K.Sink.faults at.new.out) c.args.steps.now c.args.steps.now) at.result) (sym c.in-Migrate.is) (at.ensures.ends c.args.steps.now)
+
+-- the command isn't built yet
+pub returns-in-Bulk-clause-ends : goal.returns-in-Bulk-clause-ends
+returns-in-Bulk-clause-ends g c =
+    let at = c.not_yet-in-Bulk in
+    subst (λ (k : Command). EndsBy (Carries (files (g.S.Shelf.content c.args.shelf.now) (g.S.Shelf.faults c.args.shelf.now) (g.S.Shelf.faults c.args.shelf.now)) k) (output (g.K.Sink.written c.args.out.now) (g.K.Sink.written at.new.out) (g.K.Sink.faults c.args.out.now) (g.K.Sink.faults at.new.out) c.args.steps.now c.args.steps.now) at.result) (sym c.in-Bulk.is) (at.ensures.ends c.args.steps.now)

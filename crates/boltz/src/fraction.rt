@@ -1,0 +1,17 @@
+//! One call for each number of fraction bits that a command may ask for.
+
+/// Calls a function at the number of fraction bits.
+macro_rules! at_fraction {
+    ($bits:expr, $call:ident [$($types:ty),*] $args:tt) => {
+        match $bits {
+            FractionBits::F40 => at_fraction!(@call $call [40 $(, $types)*] $args),
+            FractionBits::F48 => at_fraction!(@call $call [48 $(, $types)*] $args),
+            FractionBits::F52 => at_fraction!(@call $call [52 $(, $types)*] $args),
+        }
+    };
+    (@call $call:ident [$($types:tt)*] ($($args:tt)*)) => {
+        $call::<$($types)*>($($args)*)
+    };
+}
+
+pub(crate) use at_fraction;
