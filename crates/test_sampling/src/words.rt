@@ -62,16 +62,16 @@ sample s 1/2 --seed 1 --min 9 --max 8 @ BadValue { name: Min }
 sample s 1/2 --seed 1 --min 1001 @ BadValue { name: Min }
 sample s 1/2 --seed 1 --min 1001 --count 0 @ BadValue { name: Count }
 spec spec @ Spec { file: Word { content: [115, 112, 101, 99] } }
-oracle s 3/16 @ Oracle { file: Word { content: [115] }, x: Fraction { num: 3, den: 16 }, fraction: 48 }
-oracle --fraction 40 s 3/16 @ Oracle { file: Word { content: [115] }, x: Fraction { num: 3, den: 16 }, fraction: 40 }
-sample s 1/2 --tape t @ Sample { file: Word { content: [115] }, x: Fraction { num: 1, den: 2 }, tape: File(Word { content: [116] }), limits: Limits { min: 0, max: 1000, count: 1, turns: 1000000 }, fraction: 48 }
-sample s 1/2 --seed 18446744073709551615 @ Sample { file: Word { content: [115] }, x: Fraction { num: 1, den: 2 }, tape: Seed(18446744073709551615), limits: Limits { min: 0, max: 1000, count: 1, turns: 1000000 }, fraction: 48 }
-sample --min 8 s --turns 50000000 --max 1000000 1/2 --count 100000 --seed 0 --fraction 52 @ Sample { file: Word { content: [115] }, x: Fraction { num: 1, den: 2 }, tape: Seed(0), limits: Limits { min: 8, max: 1000000, count: 100000, turns: 50000000 }, fraction: 52 }
-pool s 1/2 k t @ Pool { file: Word { content: [115] }, x: Fraction { num: 1, den: 2 }, schedule: Word { content: [107] }, tapes: WordList { content: [Word { content: [116] }] }, limits: Limits { min: 0, max: 1000, count: 1, turns: 1000000 }, fraction: 48 }
-pool s 1/2 --max 8 k t --min 8 u t @ Pool { file: Word { content: [115] }, x: Fraction { num: 1, den: 2 }, schedule: Word { content: [107] }, tapes: WordList { content: [Word { content: [116] }, Word { content: [117] }, Word { content: [116] }] }, limits: Limits { min: 8, max: 8, count: 1, turns: 1000000 }, fraction: 48 }
+oracle s 3/16 @ Oracle { file: Word { content: [115] }, x: Fraction { num: 3, den: 16 }, fraction: F48 }
+oracle --fraction 40 s 3/16 @ Oracle { file: Word { content: [115] }, x: Fraction { num: 3, den: 16 }, fraction: F40 }
+sample s 1/2 --tape t @ Sample { file: Word { content: [115] }, x: Fraction { num: 1, den: 2 }, tape: File(Word { content: [116] }), limits: Limits { min: 0, max: 1000, count: 1, turns: 1000000 }, fraction: F48 }
+sample s 1/2 --seed 18446744073709551615 @ Sample { file: Word { content: [115] }, x: Fraction { num: 1, den: 2 }, tape: Seed(18446744073709551615), limits: Limits { min: 0, max: 1000, count: 1, turns: 1000000 }, fraction: F48 }
+sample --min 8 s --turns 50000000 --max 1000000 1/2 --count 100000 --seed 0 --fraction 52 @ Sample { file: Word { content: [115] }, x: Fraction { num: 1, den: 2 }, tape: Seed(0), limits: Limits { min: 8, max: 1000000, count: 100000, turns: 50000000 }, fraction: F52 }
+pool s 1/2 k t @ Pool { file: Word { content: [115] }, x: Fraction { num: 1, den: 2 }, schedule: Word { content: [107] }, tapes: WordList { content: [Word { content: [116] }] }, limits: Limits { min: 0, max: 1000, count: 1, turns: 1000000 }, fraction: F48 }
+pool s 1/2 --max 8 k t --min 8 u t @ Pool { file: Word { content: [115] }, x: Fraction { num: 1, den: 2 }, schedule: Word { content: [107] }, tapes: WordList { content: [Word { content: [116] }, Word { content: [117] }, Word { content: [116] }] }, limits: Limits { min: 8, max: 8, count: 1, turns: 1000000 }, fraction: F48 }
 verify s c @ Verify { file: Word { content: [115] }, cert: Word { content: [99] } }
 migrate s c @ Migrate { file: Word { content: [115] }, cert: Word { content: [99] } }
-bulk 1000 --fraction 52 @ Bulk { n: 1000, fraction: 52 }";
+bulk 1000 --fraction 52 @ Bulk { n: 1000, fraction: F52 }";
 
 /// The command or the refusal of the words of a text.
 fn told_text(alloc: Global, text: &str) -> Result<String, Fail> {
