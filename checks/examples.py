@@ -1,0 +1,91 @@
+#!/usr/bin/env python3
+"""Draws every specification of examples/ with the built program, and compares with the table of examples/README.md.
+
+    python3 checks/examples.py PROGRAM
+
+For each file 300 objects are drawn from a seed at the table's x: the run ends well, each text is that of an object
+of the printed size, and the mean of the sizes is near the table's. The numbers of objects by size are counted from
+the specification, and compared with the table's. Texts are read, and objects counted, by the companions' modules.
+"""
+import glob
+import math
+import os
+import re
+import subprocess
+import sys
+
+ROOT = os.path.join(os.path.dirname(os.path.abspath(__file__)), "..")
+sys.path.insert(0, os.path.join(ROOT, "companions"))
+
+from boltz.certificate import Certificate  # noqa: E402
+from boltz.objects import ObjectReader  # noqa: E402
+from boltz.series import size_weights  # noqa: E402
+from boltz.spec import read_spec_file  # noqa: E402
+
+EXAMPLES = os.path.join(ROOT, "examples")
+OBJECTS = 300
+# How many standard errors the mean of the sizes may be off.
+MOST_OFF = 5.0
+
+
+def table():
+    """The rows of the page: the file, the first numbers of objects, x and the mean."""
+    with open(os.path.join(EXAMPLES, "README.md"), encoding="utf-8") as file:
+        for line in file:
+            found = re.match(r"\| \[(\w+)\]\(\1\.boltz\) \| [^|]* \| ([0-9, ]+)[^|]*\| (\S+) \| (\S+) \|$", line)
+            if found:
+                name, counts, x, mean = found.groups()
+                yield name, [int(count) for count in counts.split(",")], x, float(mean)
+
+
+def count_objects(spec, most):
+    """The numbers of objects of the sizes from 0 to `most`."""
+    labelled = spec.mode == "labelled"
+    weights = size_weights(spec, 1.0, most)
+    return [round(weight * (math.factorial(size) if labelled else 1)) for size, weight in enumerate(weights)]
+
+
+def faults(program, name, counts, x, mean):
+    """What is wrong with a row, in words."""
+    path = os.path.join(EXAMPLES, name + ".boltz")
+    spec = read_spec_file(path)
+    if count_objects(spec, len(counts) - 1) != counts:
+        yield "the numbers of objects are %s" % count_objects(spec, len(counts) - 1)
+    words = [program, "sample", path, x, "--seed", "1", "--max", "1000000", "--count", str(OBJECTS)]
+    ran = subprocess.run(words + ["--turns", "50000000"], stdout=subprocess.PIPE)
+    if ran.returncode:
+        yield "the run ends with status %d" % ran.returncode
+        return
+    reader, sizes = ObjectReader(spec), []
+    for entry in Certificate(ran.stdout.splitlines(keepends=True)):
+        tree = reader.read(entry.text)
+        if tree.size() != entry.size or tree.text() != entry.text:
+            yield "object %d isn't one of its size: %s" % (entry.number, entry.text)
+        sizes.append(entry.size)
+    if len(sizes) != OBJECTS:
+        yield "%d objects are printed" % len(sizes)
+    got = sum(sizes) / len(sizes)
+    error = math.sqrt(sum((size - got) ** 2 for size in sizes) / (len(sizes) - 1) / len(sizes))
+    if abs(got - mean) > MOST_OFF * error + 0.01:
+        yield "the mean is %.2f with standard error %.2f" % (got, error)
+
+
+def main(words):
+    if len(words) != 1:
+        sys.exit(__doc__)
+    program, bad = os.path.abspath(words[0]), 0
+    rows = list(table())
+    files = sorted(os.path.basename(path)[:-6] for path in glob.glob(os.path.join(EXAMPLES, "*.boltz")))
+    if sorted(row[0] for row in rows) != files:
+        print("the page names %s" % sorted(row[0] for row in rows))
+        bad += 1
+    for row in rows:
+        for fault in faults(program, *row):
+            print("%s: %s" % (row[0], fault))
+            bad += 1
+    print("examples: %d specifications, %d objects drawn of each, %d faults" % (len(rows), OBJECTS, bad))
+    return 1 if bad else 0
+
+
+if __name__ == "__main__":
+    sys.exit(main(sys.argv[1:]))
