@@ -4,7 +4,7 @@ use Rattle.std.specs.Prelude.{◌<◌, Option, Some, None, IfSome}
 use Rattle.std.proofs.lemmas.Option.{slice_get_within}
 use Rattle.bz_model.specs.Spec.{Spec}
 use Rattle.bz_model.specs.WellFounded.{IsWellFounded}
-use Rattle.bz_outside.specs.Outside.{Rose}
+use Rattle.bz_outside.specs.Outside.{ReadFailed}
 use Rattle.class_system.specs.Sound.{IsSound}
 use Rattle.spec_reader.specs.Reading.{Grammar, Refuses}
 use Rattle.spec_reader.specs.declared.fault.SpecFault.{SpecFault}
@@ -27,8 +27,8 @@ pub says-nothing : (most : ℕ) (e : Refusal) → e ≡ refusal.OutOfMemory → 
 says-nothing most e is = record { status_is = ap refusal_status is; text_is = ap refusal_text is; ticks_are = refl }
 
 -- a file was not read
-pub read_failed : (content : List ℕ → Option (List ℕ)) (before after : List ℕ → ℕ) (name : List ℕ) (most : ℕ) (status : Status) (text : List ℕ) → Rose (before name) (after name) → Says Status.ReadFault read_line 0 status text 0 → FileRead (files content before after) name most (λ bytes. Never) status text 0
-read_failed content before after name most status text rose says = stages.failed rose says
+pub read_failed : (content : List ℕ → Option (List ℕ)) (before after : List ℕ → ℕ) (name : List ℕ) (most : ℕ) (status : Status) (text : List ℕ) → ReadFailed name before after → Says Status.ReadFault read_line 0 status text 0 → FileRead (files content before after) name most (λ bytes. Never) status text 0
+read_failed content before after name most status text failed says = stages.failed (let here = failed.here in omega arith) says
 
 pub read_lacks_memory : (f : Files) (name : List ℕ) (most : ℕ) (e : Refusal) → e ≡ refusal.OutOfMemory → FileRead f name most (λ bytes. Never) (refusal_status e) (refusal_text e) 0
 read_lacks_memory f name most e is = stages.no_memory (says-nothing 0 e is)
