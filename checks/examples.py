@@ -15,6 +15,7 @@ import subprocess
 import sys
 
 ROOT = os.path.join(os.path.dirname(os.path.abspath(__file__)), "..")
+sys.dont_write_bytecode = True
 sys.path.insert(0, os.path.join(ROOT, "companions"))
 
 from boltz.certificate import Certificate  # noqa: E402

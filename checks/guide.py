@@ -46,7 +46,7 @@ def printed_by(command, folder, path):
 
 def read_page(page, program, write):
     """Runs a page's commands. How many there are, and how many print something else."""
-    with open(page) as file:
+    with open(page, encoding="utf-8") as file:
         lines = file.read().split("\n")
     out, commands, others = [], 0, 0
     with tempfile.TemporaryDirectory() as folder:
@@ -69,7 +69,7 @@ def read_page(page, program, write):
                     os.path.relpath(page, ROOT), command, "\n".join(got), "\n".join(shown)))
             out += first + got
     if write:
-        with open(page, "w") as file:
+        with open(page, "w", encoding="utf-8") as file:
             file.write("\n".join(out))
     return commands, others
 
