@@ -18,26 +18,26 @@ use Rattle.oracle_memo.specs.Levels.{level_bounds, cost_at}
 use Rattle.bz_model.specs.Fraction.{ratio}
 use Rattle.size_window.specs.Drawing.{limits_of}
 use Rattle.size_window.specs.RunByBits.{Limits as Window}
-use Rattle.boltz.specs.Answers.{World, world, Carries, NotYet, Unworded, Answers, files_of, tape_files, IsCalm, AreCalm, IsUndisturbed}
+use Rattle.boltz.specs.Answers.{World, world, Carries, NotYet, Unworded, Answers, files_of, tape_files, IsUndisturbed}
 use Rattle.boltz.specs.Answers as answers
 use Rattle.boltz.specs.Commands.{IsBuilt, AreRefused}
 use Rattle.boltz.specs.Commands as commands
-use Rattle.boltz.specs.Drawn.{TapeMet, HasFailed, drawn_header}
-use Rattle.boltz.specs.Ends.{output, EndsBy}
-use Rattle.boltz.specs.Ends as ends
+use Rattle.sample_command.specs.Drawn.{TapeMet, HasFailed, drawn_header}
+use Rattle.call_stages.specs.Ends.{output, EndsBy}
+use Rattle.call_stages.specs.Ends as ends
 use Rattle.boltz.specs.OracleCommand.{Bounded, bounded_text}
-use Rattle.boltz.specs.Outcomes.{Outcome, Says, MaySay, IsOne}
-use Rattle.boltz.specs.Outcomes as outcomes
-use Rattle.boltz.specs.Refusals.{words_line, not_yet_line}
-use Rattle.boltz.specs.SampleCommand.{source_of, tape_in, DrawnFrom}
+use Rattle.call_stages.specs.Outcomes.{Outcome, Says, MaySay, IsOne}
+use Rattle.call_stages.specs.Outcomes as outcomes
+use Rattle.call_stages.specs.Refusals.{words_line, not_yet_line}
+use Rattle.sample_command.specs.SampleCommand.{source_of, tape_in, DrawnFrom}
 use Rattle.boltz.specs.SpecCommand.{Printed, spec_text}
-use Rattle.boltz.specs.Stages.{Files, files, Based}
-use Rattle.boltz.specs.declared.status.Status.{Status}
+use Rattle.call_stages.specs.Stages.{AreCalm, Files, files, Based}
+use Rattle.call_stages.specs.declared.status.Status.{Status}
 use Rattle.boltz.proofs.Commands.{not-refused, one-fault}
-use Rattle.boltz.proofs.Endings as endings
-use Rattle.boltz.proofs.Endings.{ends_as, written_on}
-use Rattle.boltz.proofs.OneDrawing.{one-drawn}
-use Rattle.boltz.proofs.OneReading.{one-said, one-specified, one-based}
+use Rattle.call_stages.proofs.Endings as endings
+use Rattle.call_stages.proofs.Endings.{ends_as, written_on}
+use Rattle.sample_command.proofs.OneDrawing.{one-drawn}
+use Rattle.call_stages.proofs.OneReading.{one-said, one-specified, one-based}
 
 -- the tape of a sample is known, and no read of it failed
 pub known-bits : (f : Files) (word : TapeWord) → AreCalm f (tape_files word) → (bits : ℕ → Option Bool) × (bits_of (source_of word) f.content ≡ Some bits)

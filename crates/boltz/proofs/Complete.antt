@@ -21,26 +21,26 @@ use Rattle.command_words.specs.declared.command.FractionBits.{FractionBits}
 use Rattle.command_words.specs.declared.command.TapeWord.{TapeWord}
 use Rattle.command_words.specs.declared.fault.WordsFault.{WordsFault}
 use Rattle.command_words.proofs.Unique.{one_command}
-use Rattle.boltz.specs.Answers.{World, Carries, Answers, Unworded, IsCalm}
+use Rattle.boltz.specs.Answers.{World, Carries, Answers, Unworded}
 use Rattle.boltz.specs.Answers as answers
 use Rattle.boltz.specs.Commands.{IsBuilt, Specifies, AreRefused}
 use Rattle.boltz.specs.Commands as commands
 use Rattle.boltz.specs.Complete.{IsGiven, IsFit, IsPrintable, IsUnfit, undisturbed, IsDrawable, IsBoundable, IsBaseless}
 use Rattle.boltz.specs.Complete as complete
-use Rattle.boltz.specs.Drawn.{TapeMet, HasFailed, Drawn, Lists, drawn_header, closing_lines, ending_status}
-use Rattle.boltz.specs.Drawn as drawn
+use Rattle.sample_command.specs.Drawn.{TapeMet, HasFailed, Drawn, Lists, drawn_header, closing_lines, ending_status}
+use Rattle.sample_command.specs.Drawn as drawn
 use Rattle.boltz.specs.OracleCommand.{Bounded, bounded_text}
-use Rattle.boltz.specs.Outcomes.{Outcome, Says, MaySay}
-use Rattle.boltz.specs.Outcomes as outcomes
-use Rattle.boltz.specs.Refusals.{words_line, not_yet_line, no_upper_text}
-use Rattle.boltz.specs.SampleCommand.{DrawnFrom, source_of, tape_in}
+use Rattle.call_stages.specs.Outcomes.{Outcome, Says, MaySay}
+use Rattle.call_stages.specs.Outcomes as outcomes
+use Rattle.call_stages.specs.Refusals.{words_line, not_yet_line, no_upper_text}
+use Rattle.sample_command.specs.SampleCommand.{DrawnFrom, source_of, tape_in}
 use Rattle.boltz.specs.SpecCommand.{Printed, spec_text}
-use Rattle.boltz.specs.Stages.{Files, IsAccepted, FileRead, Judged, Specified, Based}
-use Rattle.boltz.specs.Stages as stages
-use Rattle.boltz.specs.declared.status.Status.{Status}
+use Rattle.call_stages.specs.Stages.{IsCalm, Files, IsAccepted, FileRead, Judged, Specified, Based}
+use Rattle.call_stages.specs.Stages as stages
+use Rattle.call_stages.specs.declared.status.Status.{Status}
 use Rattle.boltz.proofs.Commands.{not-refused, one-fault}
-use Rattle.boltz.proofs.OneDrawing.{same-course}
-use Rattle.boltz.proofs.OneReading.{may-say-only, read-only, judged-only, unfit-refused, based-only, baseless-only}
+use Rattle.sample_command.proofs.OneDrawing.{same-course}
+use Rattle.call_stages.proofs.OneReading.{may-say-only, read-only, judged-only, unfit-refused, based-only, baseless-only}
 
 -- words that stand for a command have an outcome of it
 pub outcome-of : (w : World) (asked : Command) → IsCommand w.words asked → (status : Status) (text : List ℕ) (ticks : ℕ) → status ≢ Status.OutOfMemory → Answers w status text ticks → Carries w.files asked status text ticks

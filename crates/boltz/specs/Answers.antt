@@ -8,13 +8,13 @@ use Rattle.command_words.specs.declared.command.Command.TheVariants as command
 use Rattle.command_words.specs.declared.command.TapeWord.{TapeWord}
 use Rattle.command_words.specs.declared.command.TapeWord.TheVariants as tape
 use Rattle.command_words.specs.declared.fault.WordsFault.{WordsFault}
-use Rattle.boltz.specs.Outcomes.{Outcome, Says, MaySay}
+use Rattle.call_stages.specs.Outcomes.{Outcome, Says, MaySay}
 use Rattle.boltz.specs.OracleCommand.{CarriesOracle}
-use Rattle.boltz.specs.Refusals.{words_line, not_yet_line}
-use Rattle.boltz.specs.SampleCommand.{CarriesSample}
+use Rattle.call_stages.specs.Refusals.{words_line, not_yet_line}
+use Rattle.sample_command.specs.SampleCommand.{CarriesSample}
 use Rattle.boltz.specs.SpecCommand.{CarriesSpec}
-use Rattle.boltz.specs.Stages.{Files, HasFailedRead}
-use Rattle.boltz.specs.declared.status.Status.{Status}
+use Rattle.call_stages.specs.Stages.{Files, AreCalm}
+use Rattle.call_stages.specs.declared.status.Status.{Status}
 
 -- What a call meets: its words and the files.
 pub record World : Type 0 where
@@ -56,17 +56,6 @@ files_of (command.Spec file) = file ∷ []
 files_of (command.Oracle file x F) = file ∷ []
 files_of (command.Sample file x word limits F) = file ∷ tape_files word
 files_of later = []
-
--- A file's content is known, and no read of it failed in the call.
-pub record IsCalm (f : Files) (name : List ℕ) : Type 0 where
-  pub bytes : List ℕ
-  pub known : f.content name ≡ Some bytes
-  pub unfailed : ¬ (HasFailedRead f name)
-
--- Each of some files is so.
-abbrev pub AreCalm : Files → List (List ℕ) → Type 0
-AreCalm f [] = Unit {0}
-AreCalm f (name ∷ names) = IsCalm f name × AreCalm f names
 
 -- A call is undisturbed where each file that its words ask to read is known and no read of it failed.
 pub record IsUndisturbed (w : World) : Type 0 where

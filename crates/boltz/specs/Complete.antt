@@ -18,9 +18,9 @@ use Rattle.command_words.specs.declared.command.TapeWord.{TapeWord}
 use Rattle.command_words.specs.Fractions.{fraction_bits}
 use Rattle.boltz.specs.Answers.{World}
 use Rattle.boltz.specs.Commands.{Specifies}
-use Rattle.boltz.specs.Drawn.{HasFailed, sampling}
-use Rattle.boltz.specs.SampleCommand.{source_of, tape_in}
-use Rattle.boltz.specs.Stages.{IsAccepted, HasFailedRead}
+use Rattle.sample_command.specs.Drawn.{HasFailed, sampling}
+use Rattle.sample_command.specs.SampleCommand.{source_of, tape_in}
+use Rattle.call_stages.specs.Stages.{IsAccepted, HasFailedRead}
 
 -- The words stand for a command, this file is known to have these bytes, and no read of it failed in the call.
 pub record IsGiven (w : World) (c : Command) (file bytes : List ℕ) : Type 0 where

@@ -1,17 +1,5 @@
-pub mod Statuses
-pub mod Outcomes
-pub mod Ends
-pub mod Lines
-pub mod Refusals
-pub mod Reports
-pub mod Stages
-pub mod Spelling
-pub mod Sweeps
-pub mod Drawn
-pub mod UnderWay
 pub mod SpecCommand
 pub mod OracleCommand
-pub mod SampleCommand
 pub mod Answers
 pub mod Commands
 pub mod Complete

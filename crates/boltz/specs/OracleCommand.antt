@@ -4,10 +4,10 @@ use Rattle.bz_model.specs.Spec.{Spec}
 use Rattle.bz_model.specs.declared.fraction.Fraction.{Fraction}
 use Rattle.oracle_memo.specs.Levels.{level_down, level_up, cost_at}
 use Rattle.rounded_map.specs.RoundedMap.{Setting, setting}
-use Rattle.boltz.specs.Lines.{class_name, certified_header, base_lines, level_line, lines_below, levels_end_line}
-use Rattle.boltz.specs.Outcomes.{Outcome, MaySay}
-use Rattle.boltz.specs.Stages.{Files, Specified, Based}
-use Rattle.boltz.specs.declared.status.Status.{Status}
+use Rattle.call_stages.specs.Lines.{class_name, certified_header, base_lines, level_line, lines_below, levels_end_line}
+use Rattle.call_stages.specs.Outcomes.{Outcome, MaySay}
+use Rattle.call_stages.specs.Stages.{Files, Specified, Based}
+use Rattle.call_stages.specs.declared.status.Status.{Status}
 
 -- The line of a class at a level with these class vectors.
 abbrev pub class_level : Spec → (level : ℕ) → (lower upper : List ℕ) → (class : ℕ) → List ℕ

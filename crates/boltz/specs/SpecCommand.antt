@@ -2,10 +2,10 @@
 use Rattle.std.specs.Prelude.{ℕ, List, ◌++◌, length}
 use Rattle.bz_model.specs.Spec.{Spec}
 use Rattle.class_system.specs.CanonicalText.{canonical_text}
-use Rattle.boltz.specs.Lines.{spec_end_line}
-use Rattle.boltz.specs.Outcomes.{Outcome, MaySay}
-use Rattle.boltz.specs.Stages.{Files, Specified}
-use Rattle.boltz.specs.declared.status.Status.{Status}
+use Rattle.call_stages.specs.Lines.{spec_end_line}
+use Rattle.call_stages.specs.Outcomes.{Outcome, MaySay}
+use Rattle.call_stages.specs.Stages.{Files, Specified}
+use Rattle.call_stages.specs.declared.status.Status.{Status}
 
 -- A specification in its canonical form.
 abbrev pub spec_text : Spec → List ℕ

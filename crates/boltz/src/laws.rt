@@ -20,13 +20,13 @@ ghost use Rattle.size_window.specs.declared.limits.Limits.{Limits};
 ghost use Rattle.boltz.specs.Answers.{World, Answers, IsUndisturbed};
 ghost use Rattle.boltz.specs.Commands.{IsBuilt, AreRefused};
 ghost use Rattle.boltz.specs.Complete.{IsPrintable, IsUnfit, IsDrawable, IsBoundable, IsBaseless, undisturbed};
-ghost use Rattle.boltz.specs.Drawn.{Lists, drawn_header, closing_lines, ending_status};
-ghost use Rattle.boltz.specs.Ends.{Output, EndsBy, IsWritten};
+ghost use Rattle.sample_command.specs.Drawn.{Lists, drawn_header, closing_lines, ending_status};
+ghost use Rattle.call_stages.specs.Ends.{Output, EndsBy, IsWritten};
 ghost use Rattle.boltz.specs.OracleCommand.{bounded_text};
-ghost use Rattle.boltz.specs.Outcomes.{IsOne};
-ghost use Rattle.boltz.specs.Refusals.{words_line, not_yet_line, no_upper_text};
+ghost use Rattle.call_stages.specs.Outcomes.{IsOne};
+ghost use Rattle.call_stages.specs.Refusals.{words_line, not_yet_line, no_upper_text};
 ghost use Rattle.boltz.specs.SpecCommand.{spec_text};
-ghost use Rattle.boltz.specs.declared.status.Status.{Status};
+ghost use Rattle.call_stages.specs.declared.status.Status.{Status};
 
 /// A call in which no write fails writes the whole text of an answer, or memory runs out.
 pub fn without_a_failed_write_the_answer_is_whole()

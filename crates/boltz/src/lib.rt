@@ -25,17 +25,7 @@
 //! of `run`.
 #![tactic(auto)]
 
-mod drawing;
-mod entries;
-mod format;
-mod fraction;
 pub mod laws;
 mod oracle;
-mod page;
-mod refusals;
-mod report;
 pub mod run;
-mod sample;
 mod spec;
-mod stages;
-pub mod status;

@@ -5,16 +5,16 @@ ghost use Rattle.newton_upper.specs.BaseRule.{base_of};
 ghost use Rattle.oracle_memo.specs.Memos.{Memory};
 ghost use Rattle.oracle_memo.specs.Levels.{cost_at};
 ghost use Rattle.command_words.specs.Fractions.{fraction_bits};
-ghost use Rattle.boltz.specs.Ends.{EndsBy, output};
-ghost use Rattle.boltz.specs.Lines.{lines_below};
+ghost use Rattle.call_stages.specs.Ends.{EndsBy, output};
+ghost use Rattle.call_stages.specs.Lines.{lines_below};
 ghost use Rattle.boltz.specs.OracleCommand.{CarriesOracle, Bounded, bounded_text, class_level, level_after};
-ghost use Rattle.boltz.specs.Stages.{files, Based};
+ghost use Rattle.call_stages.specs.Stages.{files, Based};
 
-use crate::format::{append_base, certified_header, level_of_class};
-use crate::fraction::at_fraction;
-use crate::report::{refused, written};
-use crate::stages::{based, specified};
-use crate::status::Status;
+use call_stages::format::{append_base, certified_header, level_of_class};
+use call_stages::at_fraction;
+use call_stages::report::{refused, written};
+use call_stages::stages::{based, specified};
+use call_stages::status::Status;
 use bz_model::cell::Bounds;
 use bz_model::fraction::Fraction;
 use bz_model::steps::Steps;
@@ -152,7 +152,7 @@ fn append_levels<const F: u32, L: Ledger>(
 }
 
 /// Appends the lines of a level with these class vectors.
-#[tactic(auto, using(crate::proofs::Bounding::below_start, crate::proofs::Bounding::below_more))]
+#[tactic(auto, using(call_stages::proofs::LinesBelow::below_start, call_stages::proofs::LinesBelow::below_more))]
 fn append_level(
     alloc: Global,
     system: &System,

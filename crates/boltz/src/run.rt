@@ -3,16 +3,16 @@ ghost use Rattle.std.specs.Prelude.{◌≡◌, ◌≢◌, ℕ, ◌≤◌, ◌⊎
 ghost use Rattle.bz_outside.specs.Outside.{Rose, Appends};
 ghost use Rattle.boltz.specs.Answers.{world, Answers, Carries, NotYet, Unworded, IsUndisturbed};
 ghost use Rattle.boltz.specs.Commands.{IsBuilt, IsStoodFor, AreRefused};
-ghost use Rattle.boltz.specs.Ends.{EndsBy, output};
-ghost use Rattle.boltz.specs.Stages.{files};
-ghost use Rattle.boltz.specs.declared.status.Status.{Status};
+ghost use Rattle.call_stages.specs.Ends.{EndsBy, output};
+ghost use Rattle.call_stages.specs.Stages.{files};
+ghost use Rattle.call_stages.specs.declared.status.Status.{Status};
 
 use crate::oracle::oracle;
-use crate::refusals::{not_yet_refusal, words_refusal};
-use crate::report::written;
-use crate::sample::sample;
+use call_stages::refusals::{not_yet_refusal, words_refusal};
+use call_stages::report::written;
+use sample_command::sample::sample;
 use crate::spec::spec;
-use crate::status::Status;
+use call_stages::status::Status;
 use bz_model::steps::Steps;
 use bz_outside::shelf::Shelf;
 use bz_outside::sink::Sink;

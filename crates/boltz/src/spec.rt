@@ -1,13 +1,13 @@
 //! The command `spec`: a specification in its canonical form.
 ghost use Rattle.std.specs.Prelude.{◌≡◌, ℕ, ◌≤◌, List, IfOk};
-ghost use Rattle.boltz.specs.Ends.{EndsBy, output};
+ghost use Rattle.call_stages.specs.Ends.{EndsBy, output};
 ghost use Rattle.boltz.specs.SpecCommand.{CarriesSpec, Printed, spec_text};
-ghost use Rattle.boltz.specs.Stages.{files};
+ghost use Rattle.call_stages.specs.Stages.{files};
 
-use crate::format::spec_end;
-use crate::report::{refused, written};
-use crate::stages::specified;
-use crate::status::Status;
+use call_stages::format::spec_end;
+use call_stages::report::{refused, written};
+use call_stages::stages::specified;
+use call_stages::status::Status;
 use bz_outside::shelf::Shelf;
 use bz_outside::sink::Sink;
 use bz_outside::word::Word;

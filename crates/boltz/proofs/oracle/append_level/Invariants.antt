@@ -1,6 +1,6 @@
 use Rattle.std.proofs.Common.{◌≡◌, ◌++◌}
 use Rattle.boltz.specs.OracleCommand.{class_level}
-use Rattle.boltz.specs.Lines.{lines_below}
+use Rattle.call_stages.specs.Lines.{lines_below}
 use Rattle.boltz.proofs.oracle.append_level.Given as goal
 
 -- the lines of the classes so far are appended

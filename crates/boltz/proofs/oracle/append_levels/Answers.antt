@@ -3,7 +3,8 @@ use Rattle.bz_model.specs.Spec.{Spec}
 use Rattle.oracle_memo.specs.Memos.{Memory}
 use Rattle.rounded_map.specs.RoundedMap.{setting}
 use Rattle.boltz.specs.OracleCommand.{level_after}
-use Rattle.boltz.proofs.Bounding.{below_start, levels_more, lower_told, upper_told, next_raised, none_raised}
+use Rattle.call_stages.proofs.LinesBelow.{below_start}
+use Rattle.boltz.proofs.Bounding.{levels_more, lower_told, upper_told, next_raised, none_raised}
 use Rattle.boltz.proofs.OracleCommand.{costs_no_more, level_ticks}
 use Rattle.boltz.proofs.oracle.append_levels.Goals as goal
 

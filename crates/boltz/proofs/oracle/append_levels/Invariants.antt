@@ -2,7 +2,7 @@ use Rattle.std.proofs.Common.{◌≡◌, ◌+◌, ◌≤◌, ◌++◌}
 use Rattle.oracle_memo.specs.Levels.{cost_at}
 use Rattle.rounded_map.specs.RoundedMap.{setting}
 use Rattle.boltz.specs.OracleCommand.{level_after}
-use Rattle.boltz.specs.Lines.{lines_below}
+use Rattle.call_stages.specs.Lines.{lines_below}
 use Rattle.boltz.proofs.oracle.append_levels.Given as goal
 
 -- so many levels are raised, and their lines are appended

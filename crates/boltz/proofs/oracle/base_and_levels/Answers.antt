@@ -2,7 +2,7 @@ use Rattle.std.proofs.Common.{◌≡◌, ◌++◌, ◌∙◌, ap, subst, sym}
 use Rattle.bz_model.specs.Spec.{Spec}
 use Rattle.rounded_map.specs.RoundedMap.{setting}
 use Rattle.boltz.specs.OracleCommand.{level_after}
-use Rattle.boltz.specs.Lines.{certified_header, base_lines, lines_below, levels_end_line}
+use Rattle.call_stages.specs.Lines.{certified_header, base_lines, lines_below, levels_end_line}
 use Rattle.boltz.proofs.Bounding.{joined_four, levels_of, base_lines_of}
 use Rattle.boltz.proofs.oracle.base_and_levels.Goals as goal
 

@@ -2,9 +2,9 @@ use Rattle.std.proofs.Common.{arith}
 use Rattle.newton_upper.specs.BaseRule.{most_ticks}
 use Rattle.rounded_map.specs.RoundedMap.{setting}
 use Rattle.boltz.specs.OracleCommand.{Bounded}
-use Rattle.boltz.specs.Stages.{Based}
-use Rattle.boltz.proofs.BaseSearch.{ended_by_search, ends_from_base}
-use Rattle.boltz.proofs.Endings.{written_on}
+use Rattle.call_stages.specs.Stages.{Based}
+use Rattle.call_stages.proofs.BaseSearch.{ended_by_search, ends_from_base}
+use Rattle.call_stages.proofs.Endings.{written_on}
 use Rattle.boltz.proofs.oracle.bounded.Goals as goal
 
 -- the levels over the base are printed

@@ -2,8 +2,8 @@ use Rattle.std.proofs.Common.{◌∙◌}
 use Rattle.oracle_memo.specs.Levels.{cost_at}
 use Rattle.rounded_map.specs.RoundedMap.{setting}
 use Rattle.boltz.specs.OracleCommand.{bounded_text}
-use Rattle.boltz.specs.declared.status.Status.{Status}
-use Rattle.boltz.proofs.Endings.{said_written, not_said}
+use Rattle.call_stages.specs.declared.status.Status.{Status}
+use Rattle.call_stages.proofs.Endings.{said_written, not_said}
 use Rattle.boltz.proofs.oracle.leveled.Goals as goal
 
 -- the text is written

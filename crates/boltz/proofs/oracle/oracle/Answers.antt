@@ -3,10 +3,10 @@ use Rattle.bz_model.specs.Spec.{Spec}
 use Rattle.command_words.specs.Fractions.{fraction_bits}
 use Rattle.rounded_map.specs.RoundedMap.{Setting, setting}
 use Rattle.boltz.specs.OracleCommand.{Bounded, CarriesOracle}
-use Rattle.boltz.specs.Outcomes.{Outcome}
-use Rattle.boltz.specs.Stages.{files, Based}
-use Rattle.boltz.proofs.Endings.{written_on, ends_as}
-use Rattle.boltz.proofs.Staging.{ended_before, goes_on_with}
+use Rattle.call_stages.specs.Outcomes.{Outcome}
+use Rattle.call_stages.specs.Stages.{files, Based}
+use Rattle.call_stages.proofs.Endings.{written_on, ends_as}
+use Rattle.call_stages.proofs.Staging.{ended_before, goes_on_with}
 use Rattle.boltz.proofs.oracle.oracle.Goals as goal
 
 -- the classes are bounded

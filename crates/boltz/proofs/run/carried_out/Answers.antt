@@ -2,8 +2,8 @@ use Rattle.std.proofs.Common.{subst, sym}
 use Rattle.command_words.specs.declared.command.Command.{Command}
 use Rattle.boltz.specs.Answers.{Carries}
 use Rattle.boltz.specs.Commands.{IsStoodFor}
-use Rattle.boltz.specs.Ends.{EndsBy, output}
-use Rattle.boltz.specs.Stages.{files}
+use Rattle.call_stages.specs.Ends.{EndsBy, output}
+use Rattle.call_stages.specs.Stages.{files}
 use Rattle.boltz.proofs.Commands.{sample_limits}
 use Rattle.boltz.proofs.run.carried_out.Goals as goal
 

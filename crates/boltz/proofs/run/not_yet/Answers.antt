@@ -1,9 +1,9 @@
 use Rattle.std.proofs.Common.{refl, ◌∙◌, arith}
 use Rattle.boltz.specs.Answers.{NotYet}
-use Rattle.boltz.specs.Outcomes as outcomes
-use Rattle.boltz.specs.Refusals.{not_yet_line}
-use Rattle.boltz.specs.declared.status.Status.{Status}
-use Rattle.boltz.proofs.Endings.{written_on, not_said}
+use Rattle.call_stages.specs.Outcomes as outcomes
+use Rattle.call_stages.specs.Refusals.{not_yet_line}
+use Rattle.call_stages.specs.declared.status.Status.{Status}
+use Rattle.call_stages.proofs.Endings.{written_on, not_said}
 use Rattle.boltz.proofs.run.not_yet.Goals as goal
 
 -- the line is written

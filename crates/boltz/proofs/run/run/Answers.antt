@@ -1,5 +1,5 @@
 use Rattle.boltz.specs.Answers.{world}
-use Rattle.boltz.specs.Stages.{files}
+use Rattle.call_stages.specs.Stages.{files}
 use Rattle.boltz.proofs.Calls.{exact, carried_answers, refused_answers, not_both}
 use Rattle.boltz.proofs.run.run.Goals as goal
 

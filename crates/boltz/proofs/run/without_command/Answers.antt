@@ -2,7 +2,7 @@ use Rattle.std.proofs.Common.{refl, ◌∙◌, arith}
 use Rattle.boltz.specs.Answers.{Unworded}
 use Rattle.boltz.specs.Answers as answers
 use Rattle.boltz.proofs.Calls.{words_lack_memory}
-use Rattle.boltz.proofs.Endings.{written_on}
+use Rattle.call_stages.proofs.Endings.{written_on}
 use Rattle.boltz.proofs.run.without_command.Goals as goal
 
 -- the line is written

@@ -1,7 +1,7 @@
 use Rattle.std.proofs.Common.{◌∙◌, ap, arith}
 use Rattle.boltz.specs.SpecCommand.{spec_text}
-use Rattle.boltz.specs.declared.status.Status.{Status}
-use Rattle.boltz.proofs.Endings.{said_written, not_said}
+use Rattle.call_stages.specs.declared.status.Status.{Status}
+use Rattle.call_stages.proofs.Endings.{said_written, not_said}
 use Rattle.boltz.proofs.spec.printed.Goals as goal
 
 -- its text is written

@@ -1,7 +1,7 @@
 use Rattle.boltz.specs.SpecCommand.{Printed, CarriesSpec}
-use Rattle.boltz.specs.Stages.{files}
-use Rattle.boltz.proofs.Staging.{ended_before, goes_on_with}
-use Rattle.boltz.proofs.Endings.{written_on, ends_as}
+use Rattle.call_stages.specs.Stages.{files}
+use Rattle.call_stages.proofs.Staging.{ended_before, goes_on_with}
+use Rattle.call_stages.proofs.Endings.{written_on, ends_as}
 use Rattle.std.proofs.Common.{arith}
 use Rattle.boltz.proofs.spec.spec.Goals as goal
 

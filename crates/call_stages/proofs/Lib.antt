@@ -1,0 +1,7 @@
+pub mod Endings
+pub mod Staging
+pub mod BaseSearch
+pub mod Held
+pub mod LinesBelow
+pub mod OneRefusal
+pub mod OneReading

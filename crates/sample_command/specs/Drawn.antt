@@ -1,0 +1,103 @@
+-- Drawings: what they are functions of, why they end, and what they write.
+use Rattle.std.specs.Prelude.{◌≡◌, ℕ, Bool, List, [], ◌∷◌, ◌++◌, Option, Some, IfSome, codes}
+use Rattle.bz_model.specs.Fraction.{Fraction}
+use Rattle.bz_model.specs.Spec.{Spec}
+use Rattle.bz_model.specs.ObjectText.{object_text}
+use Rattle.bz_model.specs.declared.cell.Bounds.{Bounds}
+use Rattle.bit_tape.specs.Tape.{TapeSource, bits_of, HasFault}
+use Rattle.object_store.specs.Tokens.{IsOf}
+use Rattle.size_window.specs.RunByBits.{Limits, Sampling, Entry, Course, Ending, Open, after}
+use Rattle.size_window.specs.Ideally.{chooser_of}
+use Rattle.well_founded.specs.EmptyObjects.{has_empty}
+use Rattle.size_window.specs.Follows.{Follows}
+use Rattle.sample_command.specs.Spelling.{Spells}
+use Rattle.choice_draw.specs.Decision.{level_for}
+use Rattle.rounded_map.specs.RoundedMap.{Setting}
+use Rattle.call_stages.specs.Outcomes.{Says}
+use Rattle.sample_command.specs.Sweeps.{Gives, most_bits}
+use Rattle.call_stages.specs.Lines.{certified_header, window_line, base_lines, entry_lines, open_line, open_label_line, end_line}
+use Rattle.call_stages.specs.declared.status.Status.{Status}
+
+-- A drawing is a function of the specification, a table of bounds of its nodes in units of 2^-F, the limits, and the bits of the tape.
+abbrev pub sampling : Spec → (F : ℕ) → (table : (level node : ℕ) → Bounds) → Limits → (bits : ℕ → Option Bool) → Sampling
+sampling s F table limits bits = record { chooser = chooser_of s F table (has_empty s); limits = limits; tape = bits }
+
+-- A tape as a call meets it: where its bits come from, the contents of the files where they are known, and the counts of failed reads of each name when the call began and now.
+pub record TapeMet : Type 0 where
+  pub source : TapeSource
+  pub contents : List ℕ → Option (List ℕ)
+  pub before : List ℕ → ℕ
+  pub now : List ℕ → ℕ
+
+-- A read of the tape failed in the call: its count of failed reads rose.
+abbrev pub HasFailed : TapeMet → Type 0
+HasFailed t = HasFault t.source t.before t.now
+
+-- A course is that of so many turns over these bits, in which one number of a choice node was given at most so many. The shelf failed in a turn only if a read of the tape failed in the call.
+pub record IsCourseOver (s : Spec) (F : ℕ) (table : (level node : ℕ) → Bounds) (limits : Limits) (t : TapeMet) (c : Course) (given : ℕ) (bits : ℕ → Option Bool) : Type 0 where
+  pub turns : ℕ
+  pub faults : ℕ → Option ℕ
+  pub caused : (n before : ℕ) → faults n ≡ Some before → HasFailed t
+  pub same : c ≡ after (sampling s F table limits bits) faults turns
+  pub most : given ≡ most_bits (sampling s F table limits bits) faults turns
+
+-- A course so far. It follows the ideal run: for all numbers in its cells that run keeps the objects of its entries. Where the tape's bits are known, it is the course over them, and its cells spell the first of them, as many as were used, but for those of a number that was still open. `given` is the greatest number of bits that one number of a choice node was given in a turn.
+pub record IsCourse (s : Spec) (x : Fraction) (F : ℕ) (table : (level node : ℕ) → Bounds) (limits : Limits) (t : TapeMet) (c : Course) (given : ℕ) : Type 0 where
+  pub follows : Follows s x limits c
+  pub by_bits : IfSome (bits_of t.source t.contents) (IsCourseOver s F table limits t c given)
+  pub spells : IfSome (bits_of t.source t.contents) (Spells c)
+  pub gives : Gives c given
+
+-- A course has come to its end. Done comes only where as many objects as wanted are kept, the limit of turns only where as many were made, and a failed read only if a read of the tape failed in the call.
+pub record IsDrawn (s : Spec) (x : Fraction) (F : ℕ) (table : (level node : ℕ) → Bounds) (limits : Limits) (t : TapeMet) (c : Course) (given : ℕ) (ending : Ending) : Type 0 where
+  pub course : IsCourse s x F table limits t c given
+  pub ended : c.state.ending ≡ Some ending
+  pub kept : ending ≡ Ending.Done → c.state.kept ≡ limits.count
+  pub out_of_turns : ending ≡ Ending.TurnLimit → c.state.turns ≡ limits.turns
+  pub failed : ending ≡ Ending.ReadFault → HasFailed t
+
+-- The lines of an entry state its number, place and size, its object's text, and its cells. The object is the one that its tokens spell, in whichever way that is seen.
+pub record AreLinesOf (s : Spec) (e : Entry) (lines : List ℕ) : Type 0 where
+  pub is_of : IsOf s 0 e.tokens
+  pub same : (of : IsOf s 0 e.tokens) → lines ≡ entry_lines e.number e.place e.size (object_text s of.body of.object of.belongs e.labels) e.cells
+
+-- The lines of entries, in order.
+pub data Lists (s : Spec) : List Entry → List ℕ → Type 0 where
+  none : {entries : List Entry} {text : List ℕ} → entries ≡ [] → text ≡ [] → Lists s entries text
+  one_more : {entries : List Entry} {text : List ℕ} → (before : List Entry) (last : Entry) (front lines : List ℕ) → Lists s before front → AreLinesOf s last lines → entries ≡ before ++ last ∷ [] → text ≡ front ++ lines → Lists s entries text
+
+-- Why a drawing ended, as its last line states it.
+abbrev pub ending_word : Ending → List ℕ
+ending_word Ending.Done = codes "done"
+ending_word Ending.TapeEnded = codes "tape-ended"
+ending_word (Ending.Undecided left_open) = codes "undecided"
+ending_word Ending.TurnLimit = codes "turn-limit"
+ending_word Ending.ReadFault = codes "read-fault"
+
+-- The program's answer for each end of a drawing.
+abbrev pub ending_status : Ending → Status
+ending_status Ending.Done = Status.Done
+ending_status Ending.TapeEnded = Status.TapeEnded
+ending_status (Ending.Undecided left_open) = Status.Undecided
+ending_status Ending.TurnLimit = Status.TurnLimit
+ending_status Ending.ReadFault = Status.ReadFault
+
+-- The line of a number that was left open: at a node, with the node's bounds at level 6, or for a label. Other endings have none.
+abbrev pub open_lines : (table : (level node : ℕ) → Bounds) → Ending → List ℕ
+open_lines table (Ending.Undecided (Open.AtNode node cell)) = open_line node cell (table 6 node)
+open_lines table (Ending.Undecided (Open.AtLabel m cell)) = open_label_line m cell
+open_lines table ending = []
+
+-- The lines after the last object: that of a number that was left open, if one was, and how the drawing ended.
+abbrev pub closing_lines : (table : (level node : ℕ) → Bounds) → Course → Ending → List ℕ
+closing_lines table c ending = open_lines table ending ++ end_line (ending_word ending) c.state.kept c.state.thrown c.state.attempt.used c.state.turns
+
+-- The lines before the first object: the header, the window of sizes, and the base.
+abbrev pub drawn_header : Setting → (base : List ℕ) → Limits → List ℕ
+drawn_header t base limits = certified_header t.spec t.num t.den t.bits ++ (window_line limits.min limits.max ++ base_lines t.spec base)
+
+-- Objects are drawn by a table of bounds whose levels cost so much to raise, after these lines of a header. The drawing comes to its end: the header, the lines of the kept objects and the closing are its text, and its end gives the status. Or memory runs out: the text until then is the header with the lines of the first entries of a course so far, or nothing. A level is raised only for the bits that one number of a choice node was given: one for each ten of them begun.
+pub data Drawn (cost : (level : ℕ) → ℕ) (header : List ℕ) (s : Spec) (x : Fraction) (F : ℕ) (table : (level node : ℕ) → Bounds) (limits : Limits) (t : TapeMet) (status : Status) (text : List ℕ) (ticks : ℕ) : Type 0 where
+  ended : (course : Course) (given : ℕ) (ending : Ending) (lines : List ℕ) → IsDrawn s x F table limits t course given ending → Lists s course.entries lines → Says (ending_status ending) (header ++ (lines ++ closing_lines table course ending)) (cost (level_for given)) status text ticks → Drawn cost header s x F table limits t status text ticks
+  so_far : (course : Course) (given : ℕ) (first others : List Entry) (lines : List ℕ) → IsCourse s x F table limits t course given → course.entries ≡ first ++ others → Lists s first lines → Says Status.OutOfMemory (header ++ lines) (cost (level_for given)) status text ticks → Drawn cost header s x F table limits t status text ticks
+  no_memory : Says Status.OutOfMemory [] 0 status text ticks → Drawn cost header s x F table limits t status text ticks

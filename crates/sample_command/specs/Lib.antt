@@ -1,0 +1,5 @@
+pub mod Spelling
+pub mod Sweeps
+pub mod Drawn
+pub mod UnderWay
+pub mod SampleCommand

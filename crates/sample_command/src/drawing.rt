@@ -1,0 +1,196 @@
+//! Drawings, whose lines are written while it goes on.
+ghost use Rattle.std.specs.Prelude.{◌≡◌, ◌≢◌, ◌+◌, ℕ, ◌≤◌, [], ◌++◌, List, length, max, Option, None, Some, IfOk, IfErr, OnErr, IfSome, IfNone, string_bytes};
+ghost use Rattle.bz_model.specs.Fraction.{ratio};
+ghost use Rattle.bz_model.specs.Oracle.{AreCosts, cost_between};
+ghost use Rattle.bz_outside.specs.Outside.{Rose};
+ghost use Rattle.bit_tape.specs.Tape.{TapeSource, Belongs};
+ghost use Rattle.object_store.specs.Tokens.{IsOf};
+ghost use Rattle.oracle_memo.specs.Memos.{Memory};
+ghost use Rattle.rounded_map.specs.RoundedMap.{setting, IsPostFixed};
+ghost use Rattle.size_window.specs.Drawing.{AreLimits, ending_of, limits_of};
+ghost use Rattle.sample_command.specs.Drawn.{ending_word, ending_status};
+ghost use Rattle.call_stages.specs.Ends.{EndsBy, output};
+ghost use Rattle.call_stages.specs.Lines.{end_line};
+ghost use Rattle.call_stages.specs.Outcomes.{MaySay};
+ghost use Rattle.sample_command.specs.SampleCommand.{DrawnFrom};
+ghost use Rattle.sample_command.specs.UnderWay.{met, CanTurn, IsUnderWay, IsOver, IsBroken, AfterTurn, GoesOn, told_open};
+ghost use Rattle.call_stages.specs.declared.report.Stop.TheVariants as stop;
+
+use crate::entries::{append_entry, closing, header, status_of};
+use call_stages::page::send_enough;
+use call_stages::report::{Stop, written};
+use call_stages::status::Status;
+use bit_tape::tape::Tape;
+use bz_model::fraction::Fraction;
+use bz_model::oracle::Oracle;
+use bz_model::steps::Steps;
+use bz_outside::shelf::Shelf;
+use bz_outside::sink::Sink;
+use newton_upper::Base;
+use oracle_memo::Memo;
+use size_window::drawing::Drawing;
+use size_window::ending::Ending;
+use size_window::limits::{Counts, Limits};
+use size_window::turned::Turned;
+use std::alloc::{AllocError, Global};
+use std::sync::ledger::Ledger;
+use well_founded::examination::Founded;
+
+/// Draws objects over the levels of the base, and writes the lines of each when there are enough.
+pub fn drawn<const F: u32, S: Shelf, K: Sink, L: Ledger>(
+    alloc: Global,
+    founded: &Founded,
+    x: Fraction,
+    base: Base<F>,
+    limits: Limits,
+    mut tape: Tape,
+    shelf: &mut S,
+    out: &mut K,
+    steps: &mut Steps<L>,
+) -> Status
+    requires fraction_bits { (24 ≤ F) × (F ≤ 56) }
+    requires post_fixed { IsPostFixed (setting founded.now x.num x.den F) base }
+    requires limits { AreLimits (limits_of limits) }
+    requires unused { tape.used ≡ 0 }
+    requires ahead { Belongs (S.content shelf.old) tape }
+    ensures ends { (before : List ℕ → ℕ) → ((name : List ℕ) → before name ≤ S.faults shelf.old name)
+        → EndsBy (DrawnFrom (setting founded.now x.num x.den F) (limits_of limits) (met tape.source (S.content shelf.old) before (S.faults shelf.new)) base.entry) (output (K.written out.old) (K.written out.new) (K.faults out.old) (K.faults out.new) steps.old steps.new) result }
+    ensures content { S.content shelf.new ≡ S.content shelf.old }
+    ensures counts { (name : List ℕ) → S.faults shelf.old name ≤ S.faults shelf.new name }
+    ensures writes { K.faults out.old ≤ K.faults out.new }
+{
+    let system = founded.system();
+    system.known();
+    let Ok(mut page) = header::<F>(alloc, system, x, limits, base.values()) else {
+        return Status::OutOfMemory;
+    };
+    let Ok(mut memo) = Memo::make(alloc, founded, x, base) else {
+        return Status::OutOfMemory;
+    };
+    let Ok(mut drawing) = Drawing::new(alloc, founded, limits) else {
+        return Status::OutOfMemory;
+    };
+    memo.known();
+    match draw_to_the_end::<F, _, S, K, L>(
+        alloc,
+        founded,
+        &mut memo,
+        &mut tape,
+        &mut drawing,
+        shelf,
+        out,
+        steps,
+        &mut page,
+    ) {
+        Ok(ending) => finished(alloc, ending, drawing.counts(), tape.used(), page, out),
+        Err(stop) => stop.status(),
+    }
+}
+
+/// Writes what is held back of a drawing that has come to its end, and its closing lines.
+fn finished<K: Sink>(
+    alloc: Global,
+    ending: Ending,
+    counts: Counts,
+    bits: u64,
+    mut page: Vec<u8>,
+    out: &mut K,
+) -> Status
+    ensures ends { EndsBy (MaySay (ending_status (ending_of ending)) (page.items ++ (told_open ending ++ end_line (ending_word (ending_of ending)) counts.kept counts.thrown bits counts.turns)) 0) (output (K.written out.old) (K.written out.new) (K.faults out.old) (K.faults out.new) 0 0) result }
+    ensures writes { K.faults out.old ≤ K.faults out.new }
+{
+    let Ok(lines) = closing(alloc, ending, counts, bits) else {
+        return Status::OutOfMemory;
+    };
+    match page.extend_from_slice(lines.as_bytes()) {
+        Ok(()) => written(out, status_of(ending), page.as_slice()),
+        Err(_) => Status::OutOfMemory,
+    }
+}
+
+/// Makes turns until the drawing ends, and writes the lines of the kept objects when there are enough.
+fn draw_to_the_end<const F: u32, O: Oracle<F>, S: Shelf, K: Sink, L: Ledger>(
+    alloc: Global,
+    founded: &Founded,
+    oracle: &mut O,
+    tape: &mut Tape,
+    drawing: &mut Drawing,
+    shelf: &mut S,
+    out: &mut K,
+    steps: &mut Steps<L>,
+    page: &mut Vec<u8>,
+) -> Result<Ending, Stop>
+    requires fraction { (24 ≤ F) × (F ≤ 56) }
+    requires spec { O.spec oracle.old ≡ founded.now }
+    requires costs { AreCosts (O.cost oracle.old) }
+    requires levels { O.raised oracle.old ≤ 6 }
+    requires can_turn { CanTurn founded.now (O.x oracle.old) (S.content shelf.old) drawing.old.limits drawing.old tape.old }
+    ensures ended { IfOk result (λ ending. (before : List ℕ → ℕ) → ((name : List ℕ) → before name ≤ S.faults shelf.old name) → (header : List ℕ) (start : Option (List ℕ))
+        → IsUnderWay founded.now (O.x oracle.old) F (O.table oracle.old) drawing.old.limits (met tape.old.source (S.content shelf.old) before (S.faults shelf.old)) drawing.old tape.old.used (O.raised oracle.old) header start (K.written out.old) page.old.items
+        → IsOver founded.now (O.x oracle.old) F (O.table oracle.old) drawing.old.limits (met tape.old.source (S.content shelf.old) before (S.faults shelf.new)) drawing.new tape.new.used (O.raised oracle.new) header start (K.written out.new) page.new.items ending) }
+    ensures broken { IfErr result (λ broken. (before : List ℕ → ℕ) → ((name : List ℕ) → before name ≤ S.faults shelf.old name) → (header : List ℕ) (start : Option (List ℕ))
+        → IsUnderWay founded.now (O.x oracle.old) F (O.table oracle.old) drawing.old.limits (met tape.old.source (S.content shelf.old) before (S.faults shelf.old)) drawing.old tape.old.used (O.raised oracle.old) header start (K.written out.old) page.old.items
+        → IsBroken founded.now (O.x oracle.old) F (O.table oracle.old) drawing.old.limits (met tape.old.source (S.content shelf.old) before (S.faults shelf.new)) (O.raised oracle.new) header start (K.written out.new)) }
+    ensures cause { IfErr result (λ broken. broken ≡ stop.WriteFault → Rose (K.faults out.old) (K.faults out.new)) }
+    ensures cost { O.cost oracle.new ≡ O.cost oracle.old }
+    ensures ticks { steps.new ≤ steps.old + cost_between (O.cost oracle.old) (O.raised oracle.old) (O.raised oracle.new) }
+    ensures levels { O.raised oracle.new ≤ 6 }
+    ensures content { S.content shelf.new ≡ S.content shelf.old }
+    ensures counts { (other : List ℕ) → S.faults shelf.old other ≤ S.faults shelf.new other }
+    ensures writes { K.faults out.old ≤ K.faults out.new }
+{
+    'turns: loop {
+        let Ok(turned) = turn_once(alloc, founded, oracle, tape, drawing, shelf, steps, page) else {
+            return Err(Stop::OutOfMemory);
+        };
+        if let Some(ending) = turned {
+            return Ok(ending);
+        }
+        let Ok(()) = send_enough(out, page) else {
+            return Err(Stop::WriteFault);
+        };
+    }
+}
+
+/// Makes one turn, and appends the lines of what it kept.
+fn turn_once<const F: u32, O: Oracle<F>, S: Shelf, L: Ledger>(
+    alloc: Global,
+    founded: &Founded,
+    oracle: &mut O,
+    tape: &mut Tape,
+    drawing: &mut Drawing,
+    shelf: &mut S,
+    steps: &mut Steps<L>,
+    page: &mut Vec<u8>,
+) -> Result<Option<Ending>, AllocError>
+    requires fraction { (24 ≤ F) × (F ≤ 56) }
+    requires spec { O.spec oracle.old ≡ founded.now }
+    requires can_turn { CanTurn founded.now (O.x oracle.old) (S.content shelf.old) drawing.old.limits drawing.old tape.old }
+    ensures turned { IfOk result (λ ending. (before : List ℕ → ℕ) → ((name : List ℕ) → before name ≤ S.faults shelf.old name) → (header : List ℕ) (start now : Option (List ℕ))
+        → IsUnderWay founded.now (O.x oracle.old) F (O.table oracle.old) drawing.old.limits (met tape.old.source (S.content shelf.old) before (S.faults shelf.old)) drawing.old tape.old.used (O.raised oracle.old) header start now page.old.items
+        → AfterTurn founded.now (O.x oracle.old) F (O.table oracle.old) drawing.old.limits (met tape.old.source (S.content shelf.old) before (S.faults shelf.new)) drawing.new tape.new.used (O.raised oracle.new) header start now page.new.items ending) }
+    ensures broken { OnErr result ((before : List ℕ → ℕ) → ((name : List ℕ) → before name ≤ S.faults shelf.old name) → (header : List ℕ) (start now : Option (List ℕ))
+        → IsUnderWay founded.now (O.x oracle.old) F (O.table oracle.old) drawing.old.limits (met tape.old.source (S.content shelf.old) before (S.faults shelf.old)) drawing.old tape.old.used (O.raised oracle.old) header start now page.old.items
+        → IsBroken founded.now (O.x oracle.old) F (O.table oracle.old) drawing.old.limits (met tape.old.source (S.content shelf.old) before (S.faults shelf.new)) (O.raised oracle.new) header start now) }
+    ensures goes_on { IfOk result (λ ending. GoesOn founded.now (O.x oracle.old) (S.content shelf.old) drawing.old.limits drawing.old drawing.new tape.new ending) }
+    ensures spec { O.spec oracle.new ≡ O.spec oracle.old }
+    ensures x { O.x oracle.new ≡ O.x oracle.old }
+    ensures table { O.table oracle.new ≡ O.table oracle.old }
+    ensures cost { O.cost oracle.new ≡ O.cost oracle.old }
+    ensures levels { O.raised oracle.old ≤ 6 → O.raised oracle.new ≤ 6 }
+    ensures raised { O.raised oracle.old ≤ O.raised oracle.new }
+    ensures ticks { steps.new ≤ steps.old + cost_between (O.cost oracle.old) (O.raised oracle.old) (O.raised oracle.new) }
+    ensures source { tape.new.source ≡ tape.old.source }
+    ensures content { S.content shelf.new ≡ S.content shelf.old }
+    ensures counts { (other : List ℕ) → S.faults shelf.old other ≤ S.faults shelf.new other }
+{
+    match drawing.turn(founded, oracle, tape, shelf, steps) {
+        Turned::Going => Ok(None),
+        Turned::Kept(entry) => match append_entry(alloc, founded, &entry, page) {
+            Ok(()) => Ok(None),
+            Err(error) => Err(error),
+        },
+        Turned::Finished(ending) => Ok(Some(ending)),
+        Turned::OutOfMemory => Err(AllocError),
+    }
+}
