@@ -59,7 +59,7 @@ pub fn read_file<S: Shelf>(
 
 /// The specification that bytes stand for, where it is within the limits and well founded.
 #[tactic(auto, using(crate::proofs::Staging::text_refused, crate::proofs::Staging::judging_lacks_memory))]
-fn judged(alloc: Global, bytes: &[u8]) -> Result<Founded, Refusal>
+pub fn judged(alloc: Global, bytes: &[u8]) -> Result<Founded, Refusal>
     ensures accepted { IfOk result (IsAccepted bytes.now) }
     ensures founded { IfOk result IsWellFounded }
     ensures err { IfErr result (λ e. Judged (λ s. Never) bytes.now (refusal_status e) (refusal_text e) 0) }
