@@ -1,15 +1,19 @@
 -- Words have the form of a command in one way.
-use Rattle.std.proofs.Common.{◌≡◌, ℕ, ◌≤◌, List, [], ◌∷◌, ◌++◌, ◌==◌, if◌then◌else◌, All, length, get_or, refl, sym, ◌∙◌, ap, subst, append-nil}
+use Rattle.std.proofs.Common.{◌≡◌, ℕ, ◌+◌, ◌≤◌, List, [], ◌∷◌, ◌++◌, ◌==◌, if◌then◌else◌, All, length, get_or, refl, sym, ◌∙◌, ap, subst, append-nil}
 use Rattle.command_words.specs.declared.names.CommandName.{CommandName}
-use Rattle.command_words.specs.declared.names.CommandName.TheVariants.{Spec, Oracle, Sample, Pool, Verify, Migrate, Bulk}
+use Rattle.command_words.specs.declared.names.CommandName.TheVariants.{Spec, Oracle, Sample, Pool, Verify, Migrate, Bulk, Point, Chance, Count, Unrank, Rank}
 use Rattle.command_words.specs.declared.names.OptionName.{OptionName}
-use Rattle.command_words.specs.Words.{Argument, Given, Takes, command_word, words_of, values_of, given_by, most_values, IsPrintable, HasForm, IsNoCommand}
+use Rattle.command_words.specs.Words.{Argument, Given, Takes, command_word, words_of, values_of, times_fast, given_by, most_values, most_fast, IsPrintable, HasForm, IsNoCommand}
 use Rattle.command_words.specs.Reading.{GivesArguments, GivesForm, IsComplete}
 use Rattle.command_words.proofs.Spelled.{ArePlain, goes_on}
 
--- The command whose word has this letter at its second place.
+-- The command whose word's second and third letters have this sum.
+abbrev command_summed : ℕ → CommandName
+command_summed n = if n == 213 then Spec else (if n == 211 then Oracle else (if n == 206 then Sample else (if n == 222 then Pool else (if n == 215 then Verify else (if n == 208 then Migrate else (if n == 225 then Bulk else (if n == 216 then Point else (if n == 201 then Chance else (if n == 228 then Count else (if n == 224 then Unrank else Rank))))))))))
+
+-- The command that a word names.
 abbrev command_named : List ℕ → CommandName
-command_named word = if get_or word 1 0 == 112 then Spec else (if get_or word 1 0 == 114 then Oracle else (if get_or word 1 0 == 97 then Sample else (if get_or word 1 0 == 111 then Pool else (if get_or word 1 0 == 101 then Verify else (if get_or word 1 0 == 105 then Migrate else Bulk)))))
+command_named word = command_summed (get_or word 1 0 + get_or word 2 0)
 
 command_named-word : (name : CommandName) → command_named (command_word name) ≡ name
 command_named-word Spec = refl
@@ -19,6 +23,11 @@ command_named-word Pool = refl
 command_named-word Verify = refl
 command_named-word Migrate = refl
 command_named-word Bulk = refl
+command_named-word Point = refl
+command_named-word Chance = refl
+command_named-word Count = refl
+command_named-word Unrank = refl
+command_named-word Rank = refl
 
 -- no two commands have one word
 pub command_word-injective : (a b : CommandName) → command_word a ≡ command_word b → a ≡ b
@@ -28,6 +37,7 @@ nothing_more : (more : List Argument) → [] ≡ words_of more → more ≡ []
 nothing_more [] e = refl
 nothing_more (Argument.Positional w ∷ more) e = absurd (cc)
 nothing_more (Argument.Setting o v ∷ more) e = absurd (cc)
+nothing_more (Argument.Fast ∷ more) e = absurd (cc)
 
 -- words are those of plain arguments in one way
 pub same_arguments : (a b : List Argument) → words_of a ≡ words_of b → ArePlain a → ArePlain b → b ≡ a
@@ -51,10 +61,10 @@ same_form words name other arguments others f g =
 complete_in : {name : CommandName} {given : Given} → Takes name given → IsComplete name given
 complete_in t = record { not_too_few = t.not_too_few; not_too_many = t.not_too_many; tape_or_seed = t.tape_or_seed }
 
-taken_by : (name : CommandName) (given : Given) (arguments : List Argument) → given ≡ given_by arguments → IsComplete name given → ((o : OptionName) → length (values_of arguments o) ≤ most_values name o) → Takes name (given_by arguments)
-taken_by name given arguments is complete options =
+taken_by : (name : CommandName) (given : Given) (arguments : List Argument) → given ≡ given_by arguments → IsComplete name given → ((o : OptionName) → length (values_of arguments o) ≤ most_values name o) → times_fast arguments ≤ most_fast name → Takes name (given_by arguments)
+taken_by name given arguments is complete options fast =
     let same = subst (λ g. IsComplete name g) is complete in
-    record { not_too_few = same.not_too_few; not_too_many = same.not_too_many; options = options; tape_or_seed = same.tape_or_seed }
+    record { not_too_few = same.not_too_few; not_too_many = same.not_too_many; options = options; fast = fast; tape_or_seed = same.tape_or_seed }
 
 -- a name and arguments that make what is given complete are the form of words
 pub formed : (words : List (List ℕ)) (first : List ℕ) (others : List (List ℕ)) (name : CommandName) (given : Given) → All IsPrintable words → words ≡ first ∷ others → first ≡ command_word name → GivesArguments name others given → IsComplete name given → GivesForm words name given
@@ -63,7 +73,7 @@ formed words first others name given printable split named gives complete = reco
   form = record {
     spelled = split ∙ ap (λ w. w ∷ others) named ∙ ap (λ o. command_word name ∷ o) gives.are.spelled;
     plain = gives.are.plain;
-    taken = taken_by name given gives.arguments gives.is complete gives.are.options;
+    taken = taken_by name given gives.arguments gives.is complete gives.are.options gives.are.fast;
     printable = printable;
   };
   is = gives.is;

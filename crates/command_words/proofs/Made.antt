@@ -1,6 +1,6 @@
 -- The command that is made of what is given.
 use Rattle.std.proofs.Common.{◌≡◌, ℕ, ◌+◌, ◌⊎◌, inl, inr, List, [], ◌∷◌, length, refl, sym, ◌∙◌, ap, subst, arith}
-use Rattle.std.specs.Prelude.{Option, Some, Ok}
+use Rattle.std.specs.Prelude.{Option, Some, Ok, Bool}
 use Rattle.bz_model.specs.declared.fraction.Fraction.{Fraction}
 use Rattle.bz_model.specs.FractionRead.{ReadsAs}
 use Rattle.command_words.specs.declared.command.Command.TheVariants as command
@@ -8,12 +8,12 @@ use Rattle.command_words.specs.declared.command.TapeWord.{TapeWord}
 use Rattle.command_words.specs.declared.command.TapeWord.TheVariants as tape
 use Rattle.command_words.specs.declared.fault.ValueName.TheVariants as value
 use Rattle.command_words.specs.declared.names.CommandName.{CommandName}
-use Rattle.command_words.specs.declared.names.CommandName.TheVariants.{Spec, Oracle, Sample, Pool, Verify, Migrate, Bulk}
+use Rattle.command_words.specs.declared.names.CommandName.TheVariants.{Spec, Oracle, Sample, Pool, Verify, Migrate, Bulk, Point, Chance, Count, Unrank, Rank}
 use Rattle.command_words.specs.declared.names.OptionName.TheVariants as option
 use Rattle.command_words.specs.declared.values.Values.{Values}
 use Rattle.command_words.specs.Words.{Given, Takes}
-use Rattle.command_words.specs.Values.{IsSet, x_among, n_among}
-use Rattle.command_words.specs.Commands.{IsTape, AreFractionBits, Makes}
+use Rattle.command_words.specs.Values.{IsSet, x_among, n_among, rank_among}
+use Rattle.command_words.specs.Commands.{IsTape, AreFractionBits, IsFast, Makes}
 use Rattle.command_words.specs.Commands as makes
 use Rattle.command_words.specs.Reading.{IsX, AreValues}
 
@@ -61,10 +61,10 @@ made-oracle given values file rest x taken are e known =
     let two = has_x given.places file rest values.x x (omega (arith, taken.not_too_few, taken.not_too_many)) e are.x known in
     makes.oracle file two.text x values.fraction two.are two.reads are.fraction
 
-pub made-sample : (given : Given) (values : Values) (file : List ℕ) (rest : List (List ℕ)) (x : Fraction) (bits : TapeWord) → Takes Sample given → AreValues Sample given values → given.places ≡ file ∷ rest → values.x ≡ Some x → IsTape given bits → Makes given Sample (command.Sample file x bits values.limits values.fraction)
-made-sample given values file rest x bits taken are e known is_tape =
+pub made-sample : (given : Given) (values : Values) (file : List ℕ) (rest : List (List ℕ)) (x : Fraction) (bits : TapeWord) (fast : Bool) → Takes Sample given → AreValues Sample given values → given.places ≡ file ∷ rest → values.x ≡ Some x → IsTape given bits → IsFast given fast → Makes given Sample (command.Sample file x bits values.limits values.fraction fast)
+made-sample given values file rest x bits fast taken are e known is_tape is_fast =
     let two = has_x given.places file rest values.x x (omega (arith, taken.not_too_few, taken.not_too_many)) e are.x known in
-    makes.sample file two.text x bits values.limits values.fraction two.are two.reads is_tape are.limits are.fraction
+    makes.sample file two.text x bits values.limits values.fraction fast two.are two.reads is_tape are.limits are.fraction is_fast
 
 pub made-pool : (given : Given) (values : Values) (file text schedule : List ℕ) (behind_file behind_x tapes : List (List ℕ)) (x : Fraction) → AreValues Pool given values → given.places ≡ file ∷ behind_file → behind_file ≡ text ∷ behind_x → behind_x ≡ schedule ∷ tapes → values.x ≡ Some x → Makes given Pool (command.Pool file x schedule tapes values.limits values.fraction)
 made-pool given values file text schedule behind_file behind_x tapes x are e f g known =
@@ -76,20 +76,20 @@ made-pool given values file text schedule behind_file behind_x tapes x are e f g
 pub tape-file : (given : Given) (word tape_word : List ℕ) → tape_word ∷ [] ≡ given.values option.Tape → word ≡ tape_word → IsTape given (tape.File word)
 tape-file given word tape_word e same = makes.file word (sym e ∙ ap (λ w. w ∷ []) (sym same))
 
-seeded : (given : Given) (seeds : List (List ℕ)) (seed : ℕ) → given.values option.Seed ≡ seeds → length seeds ≡ 1 → IsSet value.Seed 0 seeds seed → IsTape given (tape.Seed seed)
+seeded : (given : Given) (seeds : List (List ℕ)) (seed : ℕ) → given.values option.Seed ≡ seeds → length seeds ≡ 1 → IsSet Sample value.Seed 0 seeds seed → IsTape given (tape.Seed seed)
 seeded given [] seed e long set = absurd (omega arith)
 seeded given (text ∷ []) seed e long set = makes.seed text seed e set
 seeded given (text ∷ other ∷ seeds) seed e long set = absurd (omega arith)
 
-pub tape-seed : (given : Given) (seed : ℕ) → [] ≡ given.values option.Tape → length (given.values option.Tape) + length (given.values option.Seed) ≡ 1 → IsSet value.Seed 0 (given.values option.Seed) seed → IsTape given (tape.Seed seed)
+pub tape-seed : (given : Given) (seed : ℕ) → [] ≡ given.values option.Tape → length (given.values option.Tape) + length (given.values option.Seed) ≡ 1 → IsSet Sample value.Seed 0 (given.values option.Seed) seed → IsTape given (tape.Seed seed)
 tape-seed given seed none one set = seeded given (given.values option.Seed) seed refl (omega (arith, ap length none)) set
 
 -- fraction bits that are set are 40, 48 or 52
-pub set-bits : (texts : List (List ℕ)) (n : ℕ) → IsSet value.Fraction 48 texts n → (n ≡ 40) ⊎ (n ≡ 48) ⊎ (n ≡ 52)
-set-bits [] n set = inr (inl set)
-set-bits (text ∷ others) n set = set.within
+pub set-bits : (name : CommandName) (texts : List (List ℕ)) (n : ℕ) → IsSet name value.Fraction 48 texts n → (n ≡ 40) ⊎ (n ≡ 48) ⊎ (n ≡ 52)
+set-bits name [] n set = inr (inl set)
+set-bits name (text ∷ others) n set = set.within
 
-bulk_of : (given : Given) (values : Values) (places : List (List ℕ)) → given.places ≡ places → length places ≡ 1 → IsSet value.N 0 (n_among Bulk places) values.n → AreFractionBits given values.fraction → Makes given Bulk (command.Bulk values.n values.fraction)
+bulk_of : (given : Given) (values : Values) (places : List (List ℕ)) → given.places ≡ places → length places ≡ 1 → IsSet Bulk value.N 0 (n_among Bulk places) values.n → AreFractionBits Bulk given values.fraction → Makes given Bulk (command.Bulk values.n values.fraction)
 bulk_of given values [] e long set bits = absurd (omega arith)
 bulk_of given values (text ∷ []) e long set bits = makes.bulk text values.n values.fraction e set bits
 bulk_of given values (text ∷ other ∷ places) e long set bits = absurd (omega arith)
@@ -99,3 +99,36 @@ made-bulk given name values is taken are =
     let bulk_takes = subst (λ n. Takes n given) is taken in
     let bulk_has = subst (λ n. AreValues n given values) is are in
     subst (λ n. Makes given n (command.Bulk values.n values.fraction)) (sym is) (bulk_of given values given.places refl (omega (arith, bulk_takes.not_too_few, bulk_takes.not_too_many)) bulk_has.n bulk_has.fraction)
+
+pub made-point : (given : Given) (file : List ℕ) (rest : List (List ℕ)) → Takes Point given → given.places ≡ file ∷ rest → Makes given Point (command.Point file)
+made-point given file rest taken e = makes.point file (one_place given.places file rest (omega (arith, taken.not_too_few, taken.not_too_many)) e)
+
+pub made-rank : (given : Given) (file object : List ℕ) (first_rest rest : List (List ℕ)) → Takes Rank given → given.places ≡ file ∷ first_rest → first_rest ≡ object ∷ rest → Makes given Rank (command.Rank file object)
+made-rank given file object first_rest rest taken e f = makes.rank file object (two_places given.places file object first_rest rest (omega (arith, taken.not_too_few, taken.not_too_many)) e f)
+
+pub made-chance : (given : Given) (values : Values) (file text object : List ℕ) (behind_file behind_x rest : List (List ℕ)) (x : Fraction) → Takes Chance given → AreValues Chance given values → given.places ≡ file ∷ behind_file → behind_file ≡ text ∷ behind_x → behind_x ≡ object ∷ rest → values.x ≡ Some x → Makes given Chance (command.Chance file x object values.fraction)
+made-chance given values file text object behind_file behind_x rest x taken are e f g known =
+    let long : length given.places ≡ 3 = omega (arith, taken.not_too_few, taken.not_too_many) in
+    let none : rest ≡ [] = empty rest (omega (arith, long, ap length e, ap length f, ap length g)) in
+    let places : given.places ≡ file ∷ text ∷ object ∷ [] = e ∙ ap (λ r. file ∷ r) f ∙ ap (λ r. file ∷ text ∷ r) g ∙ ap (λ r. file ∷ text ∷ object ∷ r) none in
+    let P : List (List ℕ) → Type 0 = λ p. IsX (x_among Chance p) values.x in
+    makes.chance file text object x values.fraction places (reads_x text values.x x (subst P places are.x) known) are.fraction
+
+count_of : (given : Given) (values : Values) (file : List ℕ) (rest places : List (List ℕ)) → given.places ≡ places → length places ≡ 2 → places ≡ file ∷ rest → IsSet Count value.N 0 (n_among Count places) values.n → Makes given Count (command.Count file values.n)
+count_of given values file rest [] is long e set = absurd (omega arith)
+count_of given values file rest (a ∷ []) is long e set = absurd (omega arith)
+count_of given values file rest (a ∷ text ∷ []) is long e set = let same : a ≡ file = cc in makes.count file text values.n (is ∙ ap (λ f. f ∷ text ∷ []) same) set
+count_of given values file rest (a ∷ text ∷ other ∷ places) is long e set = absurd (omega arith)
+
+pub made-count : (given : Given) (values : Values) (file : List ℕ) (rest : List (List ℕ)) → Takes Count given → AreValues Count given values → given.places ≡ file ∷ rest → Makes given Count (command.Count file values.n)
+made-count given values file rest taken are e = count_of given values file rest given.places refl (omega (arith, taken.not_too_few, taken.not_too_many)) e are.n
+
+unrank_of : (given : Given) (values : Values) (file : List ℕ) (rest places : List (List ℕ)) → given.places ≡ places → length places ≡ 3 → places ≡ file ∷ rest → IsSet Unrank value.N 0 (n_among Unrank places) values.n → IsSet Unrank value.Rank 0 (rank_among Unrank places) values.rank → Makes given Unrank (command.Unrank file values.n values.rank)
+unrank_of given values file rest [] is long e set ranked = absurd (omega arith)
+unrank_of given values file rest (a ∷ []) is long e set ranked = absurd (omega arith)
+unrank_of given values file rest (a ∷ text ∷ []) is long e set ranked = absurd (omega arith)
+unrank_of given values file rest (a ∷ text ∷ rank ∷ []) is long e set ranked = let same : a ≡ file = cc in makes.unrank file text rank values.n values.rank (is ∙ ap (λ f. f ∷ text ∷ rank ∷ []) same) set ranked
+unrank_of given values file rest (a ∷ text ∷ rank ∷ other ∷ places) is long e set ranked = absurd (omega arith)
+
+pub made-unrank : (given : Given) (values : Values) (file : List ℕ) (rest : List (List ℕ)) → Takes Unrank given → AreValues Unrank given values → given.places ≡ file ∷ rest → Makes given Unrank (command.Unrank file values.n values.rank)
+made-unrank given values file rest taken are e = unrank_of given values file rest given.places refl (omega (arith, taken.not_too_few, taken.not_too_many)) e are.n are.rank

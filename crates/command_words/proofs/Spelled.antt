@@ -2,7 +2,7 @@
 use Rattle.std.proofs.Common.{◌≡◌, ◌≢◌, ℕ, suc, List, [], ◌∷◌, ◌++◌, All, get_or, ◌==◌, if◌then◌else◌, refl, sym, ◌∙◌, ap, subst, arith}
 use Rattle.command_words.specs.declared.names.OptionName.{OptionName}
 use Rattle.command_words.specs.declared.names.OptionName.TheVariants.{Tape, Seed, Min, Max, Count, Turns, Fraction}
-use Rattle.command_words.specs.Words.{Argument, Given, option_word, option_number, words_of, places_of, values_of, text_of, given_by, most_values, IsPlain}
+use Rattle.command_words.specs.Words.{Argument, option_word, fast_word, words_of, IsPlain, HasPlainText}
 use Rattle.command_words.specs.Words as words
 
 -- The option whose word has this letter at its fifth place.
@@ -32,14 +32,30 @@ option_word-not_plain Count h = h.plain refl
 option_word-not_plain Turns h = h.plain refl
 option_word-not_plain Fraction h = h.plain refl
 
+-- so does `--fast`, which is the word of no option
+fast_word-not_plain : ¬ (IsPlain fast_word)
+fast_word-not_plain h = h.plain refl
+
+fast_word-no_option : (o : OptionName) → option_word o ≢ fast_word
+fast_word-no_option Tape e = absurd (omega (arith, ap (λ w. get_or w 4 0) e))
+fast_word-no_option Seed e = absurd (omega (arith, ap (λ w. get_or w 4 0) e))
+fast_word-no_option Min e = absurd (omega (arith, ap (λ w. get_or w 4 0) e))
+fast_word-no_option Max e = absurd (omega (arith, ap (λ w. get_or w 4 0) e))
+fast_word-no_option Count e = absurd (omega (arith, ap (λ w. get_or w 4 0) e))
+fast_word-no_option Turns e = absurd (omega (arith, ap (λ w. get_or w 4 0) e))
+fast_word-no_option Fraction e = absurd (omega (arith, ap (λ w. get_or w 4 0) e))
+
+not_fast : (w : List ℕ) → IsPlain w → w ≢ fast_word
+not_fast w h e = fast_word-not_plain (subst IsPlain e h)
+
 not_option : (w : List ℕ) (o : OptionName) → IsPlain w → w ≢ option_word o
 not_option w o h e = option_word-not_plain o (subst IsPlain e h)
 
 -- Each argument is plain.
 abbrev pub ArePlain : List Argument → Type 0
-ArePlain arguments = All (λ argument. IsPlain (text_of argument)) arguments
+ArePlain arguments = All HasPlainText arguments
 
-plain-first : (a : Argument) (arguments : List Argument) → ArePlain (a ∷ arguments) → IsPlain (text_of a)
+plain-first : (a : Argument) (arguments : List Argument) → ArePlain (a ∷ arguments) → HasPlainText a
 plain-first a arguments h = h 0 a (omega arith)
 
 plain-others : (a : Argument) (arguments : List Argument) → ArePlain (a ∷ arguments) → ArePlain arguments
@@ -56,6 +72,7 @@ pub goes_on : (front all : List Argument) (rest : List (List ℕ)) → words_of 
 goes_on [] all rest e plain plain_all = record { more = all; are = refl; spelled = e }
 goes_on (words.Positional w ∷ front) [] rest e plain plain_all = absurd (cc)
 goes_on (words.Setting o v ∷ front) [] rest e plain plain_all = absurd (cc)
+goes_on (words.Fast ∷ front) [] rest e plain plain_all = absurd (cc)
 goes_on (words.Positional w ∷ front) (words.Positional u ∷ all) rest e plain plain_all =
     let next = goes_on front all rest (cc) (plain-others (words.Positional w) front plain) (plain-others (words.Positional u) all plain_all) in
     record { more = next.more; are = (let same : w ≡ u = cc in let are = next.are in cc); spelled = next.spelled }
@@ -65,3 +82,10 @@ goes_on (words.Setting o v ∷ front) (words.Setting p u ∷ all) rest e plain p
     let next = goes_on front all rest (cc) (plain-others (words.Setting o v) front plain) (plain-others (words.Setting p u) all plain_all) in
     let same = option_word-injective o p (cc) in
     record { more = next.more; are = (let value : v ≡ u = cc in let are = next.are in cc); spelled = next.spelled }
+goes_on (words.Positional w ∷ front) (words.Fast ∷ all) rest e plain plain_all = absurd (not_fast w (plain-first (words.Positional w) front plain) (cc))
+goes_on (words.Fast ∷ front) (words.Positional u ∷ all) rest e plain plain_all = absurd (not_fast u (plain-first (words.Positional u) all plain_all) (cc))
+goes_on (words.Setting o v ∷ front) (words.Fast ∷ all) rest e plain plain_all = absurd (fast_word-no_option o (cc))
+goes_on (words.Fast ∷ front) (words.Setting p u ∷ all) rest e plain plain_all = absurd (fast_word-no_option p (cc))
+goes_on (words.Fast ∷ front) (words.Fast ∷ all) rest e plain plain_all =
+    let next = goes_on front all rest (cc) (plain-others words.Fast front plain) (plain-others words.Fast all plain_all) in
+    record { more = next.more; are = (let are = next.are in cc); spelled = next.spelled }

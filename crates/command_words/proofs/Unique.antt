@@ -1,7 +1,7 @@
 -- Words have one answer at most.
 use Rattle.std.proofs.Common.{◌≡◌, ℕ, ◌+◌, List, [], ◌∷◌, length, refl, sym, ◌∙◌, ap, subst, arith}
 use Rattle.std.proofs.Math.Bridge.{le_prop}
-use Rattle.std.specs.Prelude.{Ok}
+use Rattle.std.specs.Prelude.{Ok, Bool, true, false}
 use Rattle.bz_model.specs.declared.fraction.Fraction.{Fraction}
 use Rattle.bz_model.specs.FractionRead.{ReadsAs}
 use Rattle.bz_model.specs.Number.{IsPart, number_value}
@@ -16,17 +16,18 @@ use Rattle.command_words.specs.declared.command.TapeWord.TheVariants as tape
 use Rattle.command_words.specs.declared.fault.ValueName.{ValueName}
 use Rattle.command_words.specs.declared.fault.ValueName.TheVariants as value
 use Rattle.command_words.specs.declared.names.CommandName.{CommandName}
+use Rattle.command_words.specs.declared.names.CommandName.TheVariants.{Oracle, Sample, Pool, Bulk, Chance, Count, Unrank}
 use Rattle.command_words.specs.declared.names.OptionName.TheVariants as option
 use Rattle.command_words.specs.Words.{Given, Takes, given_by}
 use Rattle.command_words.specs.Values.{StandsFor, IsSet}
-use Rattle.command_words.specs.Commands.{IsTape, AreLimits, AreFractionBits, Makes, IsCommand, IsBadValue}
+use Rattle.command_words.specs.Commands.{IsTape, AreLimits, AreFractionBits, IsFast, Makes, IsCommand}
 use Rattle.command_words.specs.Commands as makes
 use Rattle.command_words.proofs.Formed.{same_form}
 
 -- a number that is set is one number
-pub same_set : (name : ValueName) (default : ℕ) (texts : List (List ℕ)) (n m : ℕ) → IsSet name default texts n → IsSet name default texts m → n ≡ m
-same_set name default [] n m h i = h ∙ sym i
-same_set name default (text ∷ others) n m h i = sym h.is_value ∙ i.is_value
+pub same_set : (name : CommandName) (v : ValueName) (default : ℕ) (texts : List (List ℕ)) (n m : ℕ) → IsSet name v default texts n → IsSet name v default texts m → n ≡ m
+same_set name v default [] n m h i = h ∙ sym i
+same_set name v default (text ∷ others) n m h i = sym h.is_value ∙ i.is_value
 
 is_part-prop : (n : ℕ) → IsProp (IsPart n)
 is_part-prop n = hlevel (le_prop)
@@ -49,12 +50,12 @@ same_x text x y h i =
     let form = one-form text h.form i.form in
     same_fraction x y (sym h.is_num ∙ ap number_value form.0 ∙ i.is_num) (sym h.is_den ∙ ap number_value form.1 ∙ i.is_den)
 
-same_limits : (given : Given) (l m : Limits) → AreLimits given l → AreLimits given m → l ≡ m
-same_limits given l m h i =
-    let min = same_set value.Min 0 (given.values option.Min) l.min m.min h.min i.min in
-    let max = same_set value.Max 1000 (given.values option.Max) l.max m.max h.max i.max in
-    let count = same_set value.Count 1 (given.values option.Count) l.count m.count h.count i.count in
-    let turns = same_set value.Turns 1000000 (given.values option.Turns) l.turns m.turns h.turns i.turns in
+same_limits : (name : CommandName) (given : Given) (l m : Limits) → AreLimits name given l → AreLimits name given m → l ≡ m
+same_limits name given l m h i =
+    let min = same_set name value.Min 0 (given.values option.Min) l.min m.min h.min i.min in
+    let max = same_set name value.Max 1000 (given.values option.Max) l.max m.max h.max i.max in
+    let count = same_set name value.Count 1 (given.values option.Count) l.count m.count h.count i.count in
+    let turns = same_set name value.Turns 1000000 (given.values option.Turns) l.turns m.turns h.turns i.turns in
     ap (λ n. record { min = n; max = l.max; count = l.count; turns = l.turns }) min
     ∙ ap (λ n. record { min = m.min; max = n; count = l.count; turns = l.turns }) max
     ∙ ap (λ n. record { min = m.min; max = m.max; count = n; turns = l.turns }) count
@@ -71,18 +72,28 @@ one-number F52 F40 e = absurd (omega arith)
 one-number F52 F48 e = absurd (omega arith)
 one-number F52 F52 e = refl
 
-same_bits : (given : Given) (a b : FractionBits) → AreFractionBits given a → AreFractionBits given b → a ≡ b
-same_bits given a b h i = one-number a b (same_set value.Fraction 48 (given.values option.Fraction) (fraction_bits a) (fraction_bits b) h.is i.is)
+same_bits : (name : CommandName) (given : Given) (a b : FractionBits) → AreFractionBits name given a → AreFractionBits name given b → a ≡ b
+same_bits name given a b h i = one-number a b (same_set name value.Fraction 48 (given.values option.Fraction) (fraction_bits a) (fraction_bits b) h.is i.is)
+
+same_fast : (given : Given) (a b : Bool) → IsFast given a → IsFast given b → a ≡ b
+same_fast given true true h i = refl
+same_fast given true false h i = absurd (omega (arith, h.is, i.is))
+same_fast given false true h i = absurd (omega (arith, h.is, i.is))
+same_fast given false false h i = refl
 
 same_tape : (given : Given) (t u : TapeWord) → length (given.values option.Tape) + length (given.values option.Seed) ≡ 1 → IsTape given t → IsTape given u → t ≡ u
 same_tape given t u one (makes.file w e) (makes.file v h) = cc
 same_tape given t u one (makes.file w e) (makes.seed text n h is) = absurd (omega (arith, ap length e, ap length h))
 same_tape given t u one (makes.seed text n h is) (makes.file w e) = absurd (omega (arith, ap length e, ap length h))
 same_tape given t u one (makes.seed text n e is) (makes.seed other m h has) =
-    let P : List ℕ → Type 0 = λ w. StandsFor value.Seed w m in
+    let P : List ℕ → Type 0 = λ w. StandsFor Sample value.Seed w m in
     let same : other ≡ text = cc in
-    let moved : StandsFor value.Seed text m = subst P same has in
+    let moved : StandsFor Sample value.Seed text m = subst P same has in
     ap tape.Seed (sym is.is_value ∙ moved.is_value)
+
+-- a text stands for one number as a value
+same_number : (name : CommandName) (v : ValueName) (text other : List ℕ) (n m : ℕ) → other ≡ text → StandsFor name v text n → StandsFor name v other m → n ≡ m
+same_number name v text other n m e h i = sym h.is_value ∙ ap number_value (sym e) ∙ i.is_value
 
 -- what is given makes one command of a name
 pub same_made : (given : Given) (name : CommandName) (c d : Command) → Takes name given → Makes given name c → Makes given name d → c ≡ d
@@ -91,15 +102,16 @@ same_made given name c d takes (makes.oracle f t x b e r is) (makes.oracle g u y
     let text : u ≡ t = cc in
     let file : f ≡ g = cc in
     let fraction : x ≡ y = same_x t x y r (subst (λ w. ReadsAs w (Ok y)) text s) in
-    let bits : b ≡ n = same_bits given b n is has in
+    let bits : b ≡ n = same_bits Oracle given b n is has in
     cc
-same_made given name c d takes (makes.sample f t x v l b e r v_is l_is is) (makes.sample g u y w m n h s w_is m_is has) =
+same_made given name c d takes (makes.sample f t x v l b p e r v_is l_is is fast) (makes.sample g u y w m n q h s w_is m_is has quick) =
     let text : u ≡ t = cc in
     let file : f ≡ g = cc in
     let fraction : x ≡ y = same_x t x y r (subst (λ w. ReadsAs w (Ok y)) text s) in
     let tape_word : v ≡ w = same_tape given v w (takes.tape_or_seed refl) v_is w_is in
-    let limits : l ≡ m = same_limits given l m l_is m_is in
-    let bits : b ≡ n = same_bits given b n is has in
+    let same : p ≡ q = same_fast given p q fast quick in
+    let limits : l ≡ m = same_limits Sample given l m l_is m_is in
+    let bits : b ≡ n = same_bits Sample given b n is has in
     cc
 same_made given name c d takes (makes.pool f t p ts x l b e r l_is is) (makes.pool g u q us y m n h s m_is has) =
     let text : u ≡ t = cc in
@@ -107,17 +119,37 @@ same_made given name c d takes (makes.pool f t p ts x l b e r l_is is) (makes.po
     let schedule : p ≡ q = cc in
     let tapes : ts ≡ us = cc in
     let fraction : x ≡ y = same_x t x y r (subst (λ w. ReadsAs w (Ok y)) text s) in
-    let limits : l ≡ m = same_limits given l m l_is m_is in
-    let bits : b ≡ n = same_bits given b n is has in
+    let limits : l ≡ m = same_limits Pool given l m l_is m_is in
+    let bits : b ≡ n = same_bits Pool given b n is has in
     cc
 same_made given name c d takes (makes.verify f k e) (makes.verify g l h) = cc
 same_made given name c d takes (makes.migrate f k e) (makes.migrate g l h) = cc
 same_made given name c d takes (makes.bulk t n b e st is) (makes.bulk u m o h su has) =
     let text : u ≡ t = cc in
-    let moved : StandsFor value.N t m = subst (λ w. StandsFor value.N w m) text su in
-    let number : n ≡ m = sym st.is_value ∙ moved.is_value in
-    let bits : b ≡ o = same_bits given b o is has in
+    let number : n ≡ m = same_number Bulk value.N t u n m text st su in
+    let bits : b ≡ o = same_bits Bulk given b o is has in
     cc
+same_made given name c d takes (makes.point f e) (makes.point g h) = cc
+same_made given name c d takes (makes.chance f t o x b e r is) (makes.chance g u p y n h s has) =
+    let text : u ≡ t = cc in
+    let file : f ≡ g = cc in
+    let object : o ≡ p = cc in
+    let fraction : x ≡ y = same_x t x y r (subst (λ w. ReadsAs w (Ok y)) text s) in
+    let bits : b ≡ n = same_bits Chance given b n is has in
+    cc
+same_made given name c d takes (makes.count f t n e st) (makes.count g u m h su) =
+    let text : u ≡ t = cc in
+    let file : f ≡ g = cc in
+    let number : n ≡ m = same_number Count value.N t u n m text st su in
+    cc
+same_made given name c d takes (makes.unrank f t k n r e st ranked) (makes.unrank g u j m q h su also) =
+    let text : u ≡ t = cc in
+    let file : f ≡ g = cc in
+    let rank_text : j ≡ k = cc in
+    let number : n ≡ m = same_number Unrank value.N t u n m text st su in
+    let rank : r ≡ q = same_number Unrank value.Rank k j r q rank_text ranked also in
+    cc
+same_made given name c d takes (makes.rank f o e) (makes.rank g p h) = cc
 
 -- words stand for one command at most
 pub one_command : (words : List (List ℕ)) (c d : Command) → IsCommand words c → IsCommand words d → c ≡ d

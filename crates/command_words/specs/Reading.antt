@@ -11,24 +11,26 @@ use Rattle.command_words.specs.declared.names.CommandName.TheVariants.{Sample}
 use Rattle.command_words.specs.declared.names.OptionName.{OptionName}
 use Rattle.command_words.specs.declared.names.OptionName.TheVariants as option
 use Rattle.command_words.specs.declared.values.Values.{Values}
-use Rattle.command_words.specs.Words.{Argument, Given, given_by, words_of, places_of, values_of, text_of, fewest_places, most_places, most_values, IsPlain, HasForm}
-use Rattle.command_words.specs.Values.{IsSet, IsBad, x_among, n_among}
+use Rattle.command_words.specs.Words.{Argument, Given, given_by, words_of, places_of, values_of, times_fast, fewest_places, most_places, most_values, most_fast, HasPlainText, HasForm}
+use Rattle.command_words.specs.Values.{IsSet, IsBad, x_among, n_among, rank_among}
 use Rattle.command_words.specs.Commands.{AreLimits, AreFractionBits}
 
--- What is given with one argument more: its positional word behind the others, or its value behind those of its option.
+-- What is given with one argument more: its positional word behind the others, its value behind those of its option, or `--fast` once more.
 pub record Adds (old new : Given) (argument : Argument) : Type 0 where
   pub places : new.places ≡ old.places ++ places_of (argument ∷ [])
   pub values : (option : OptionName) → new.values option ≡ old.values option ++ values_of (argument ∷ []) option
+  pub fast : new.fast ≡ old.fast + times_fast (argument ∷ [])
 
--- A command takes an argument beside what is given: a positional word always, an option where it takes it once more.
+-- A command takes an argument beside what is given: a positional word always, an option or `--fast` where it takes it once more.
 abbrev pub TakesMore : CommandName → Given → Argument → Type 0
 TakesMore name given (Argument.Positional word) = ⊤
 TakesMore name given (Argument.Setting option value) = length (given.values option) < most_values name option
+TakesMore name given Argument.Fast = given.fast < most_fast name
 
 -- Words begin with an argument that a command takes beside what is given, and others stand behind it.
 pub record BeginsWith (name : CommandName) (given : Given) (words : List (List ℕ)) (argument : Argument) (others : List (List ℕ)) : Type 0 where
   pub spelled : words ≡ words_of (argument ∷ []) ++ others
-  pub plain : IsPlain (text_of argument)
+  pub plain : HasPlainText argument
   pub taken : TakesMore name given argument
 
 -- An argument in front of words is read: it is added to what is given, and others stand behind it.
@@ -44,8 +46,9 @@ pub record BeginsWithNone (name : CommandName) (given : Given) (words : List (Li
 -- Words are those of arguments, each of them plain, and none more often than a command takes it.
 pub record AreArguments (name : CommandName) (words : List (List ℕ)) (arguments : List Argument) : Type 0 where
   pub spelled : words ≡ words_of arguments
-  pub plain : All (λ argument. IsPlain (text_of argument)) arguments
+  pub plain : All HasPlainText arguments
   pub options : (option : OptionName) → length (values_of arguments option) ≤ most_values name option
+  pub fast : times_fast arguments ≤ most_fast name
 
 -- What is given is what the arguments give whose words these are.
 pub record GivesArguments (name : CommandName) (words : List (List ℕ)) (given : Given) : Type 0 where
@@ -81,13 +84,14 @@ IsX [] None = ⊤
 IsX (text ∷ _) (Some x) = ReadsAs text (Ok x)
 IsX _ _ = ⊥
 
--- The values of what a command is given. A seed or an n that isn't given is 0.
+-- The values of what a command is given. A seed, an n or a rank that isn't given is 0.
 pub record AreValues (name : CommandName) (given : Given) (values : Values) : Type 0 where
   pub x : IsX (x_among name given.places) values.x
-  pub seed : IsSet value.Seed 0 (given.values option.Seed) values.seed
-  pub limits : AreLimits given values.limits
-  pub fraction : AreFractionBits given values.fraction
-  pub n : IsSet value.N 0 (n_among name given.places) values.n
+  pub seed : IsSet name value.Seed 0 (given.values option.Seed) values.seed
+  pub limits : AreLimits name given values.limits
+  pub fraction : AreFractionBits name given values.fraction
+  pub n : IsSet name value.N 0 (n_among name given.places) values.n
+  pub rank : IsSet name value.Rank 0 (rank_among name given.places) values.rank
 
 -- A refusal is that a value of what a command is given is bad.
 pub record IsBadOne (name : CommandName) (given : Given) (fault : WordsFault) : Type 0 where

@@ -6,21 +6,29 @@ use Rattle.bz_model.specs.Number.{IsNumber, number_value}
 use Rattle.command_words.specs.declared.fault.ValueName.{ValueName}
 use Rattle.command_words.specs.declared.fault.ValueName.TheVariants as value
 use Rattle.command_words.specs.declared.names.CommandName.{CommandName}
-use Rattle.command_words.specs.declared.names.CommandName.TheVariants.{Oracle, Sample, Pool, Bulk}
+use Rattle.command_words.specs.declared.names.CommandName.TheVariants.{Oracle, Sample, Pool, Bulk, Chance, Count, Unrank}
 use Rattle.command_words.specs.declared.names.OptionName.TheVariants as option
 use Rattle.command_words.specs.Words.{Given}
 
--- The text of the x among a command's positional words: the second of an oracle, a sample and a pool.
+-- The text of the x among a command's positional words: the second of an oracle, a sample, a pool and a chance.
 abbrev pub x_among : CommandName → List (List ℕ) → List (List ℕ)
 x_among Oracle (file ∷ x ∷ _) = x ∷ []
 x_among Sample (file ∷ x ∷ _) = x ∷ []
 x_among Pool (file ∷ x ∷ _) = x ∷ []
+x_among Chance (file ∷ x ∷ _) = x ∷ []
 x_among _ _ = []
 
--- The text of the n among a command's positional words: the first of `bulk`.
+-- The text of the n among a command's positional words: the first of `bulk`, the second of `count` and `unrank`.
 abbrev pub n_among : CommandName → List (List ℕ) → List (List ℕ)
 n_among Bulk (n ∷ _) = n ∷ []
+n_among Count (file ∷ n ∷ _) = n ∷ []
+n_among Unrank (file ∷ n ∷ _) = n ∷ []
 n_among _ _ = []
+
+-- The text of the rank among a command's positional words: the third of `unrank`.
+abbrev pub rank_among : CommandName → List (List ℕ) → List (List ℕ)
+rank_among Unrank (file ∷ n ∷ rank ∷ _) = rank ∷ []
+rank_among _ _ = []
 
 -- The texts that stand for a value in what a command is given; none where it isn't given.
 abbrev pub texts_of : CommandName → Given → ValueName → List (List ℕ)
@@ -32,38 +40,45 @@ texts_of name given value.Count = given.values option.Count
 texts_of name given value.Turns = given.values option.Turns
 texts_of name given value.Fraction = given.values option.Fraction
 texts_of name given value.N = n_among name given.places
+texts_of name given value.Rank = rank_among name given.places
+
+-- A number may be the n of a command: from 1 to 1000 of `bulk`, up to 500 of the others.
+abbrev pub MayBeN : CommandName → ℕ → Type 0
+MayBeN Bulk n = (1 ≤ n) × (n ≤ 1000)
+MayBeN name n = n ≤ 500
 
 -- The limits of a value that is a number.
-abbrev pub IsWithinLimits : ValueName → ℕ → Type 0
-IsWithinLimits value.X n = ⊥
-IsWithinLimits value.Seed n = n < 2 ^ 64
-IsWithinLimits value.Min n = n ≤ 1000000
-IsWithinLimits value.Max n = n ≤ 1000000
-IsWithinLimits value.Count n = (1 ≤ n) × (n ≤ 100000)
-IsWithinLimits value.Turns n = (1 ≤ n) × (n ≤ 50000000)
-IsWithinLimits value.Fraction n = (n ≡ 40) ⊎ (n ≡ 48) ⊎ (n ≡ 52)
-IsWithinLimits value.N n = (1 ≤ n) × (n ≤ 1000)
+abbrev pub IsWithinLimits : CommandName → ValueName → ℕ → Type 0
+IsWithinLimits name value.X n = ⊥
+IsWithinLimits name value.Seed n = n < 2 ^ 64
+IsWithinLimits name value.Min n = n ≤ 1000000
+IsWithinLimits name value.Max n = n ≤ 1000000
+IsWithinLimits name value.Count n = (1 ≤ n) × (n ≤ 100000)
+IsWithinLimits name value.Turns n = (1 ≤ n) × (n ≤ 50000000)
+IsWithinLimits name value.Fraction n = (n ≡ 40) ⊎ (n ≡ 48) ⊎ (n ≡ 52)
+IsWithinLimits name value.N n = MayBeN name n
+IsWithinLimits name value.Rank n = n < 2 ^ 128
 
--- A text stands for a number as this value: it is the decimal number n without leading zeros, and n is within the value's limits.
-pub record StandsFor (name : ValueName) (text : List ℕ) (n : ℕ) : Type 0 where
+-- A text stands for a number as this value of a command: it is the decimal number n without leading zeros, and n is within the value's limits.
+pub record StandsFor (name : CommandName) (asked : ValueName) (text : List ℕ) (n : ℕ) : Type 0 where
   pub is_number : IsNumber text
   pub is_value : number_value text ≡ n
-  pub within : IsWithinLimits name n
+  pub within : IsWithinLimits name asked n
 
 -- A text is accepted as a value: as the x where it reads as a fraction, and as another where it stands for a number.
-abbrev pub IsAccepted : ValueName → List ℕ → Type 0
-IsAccepted value.X text = (x : Fraction) × ReadsAs text (Ok x)
-IsAccepted name text = (n : ℕ) × StandsFor name text n
+abbrev pub IsAccepted : CommandName → ValueName → List ℕ → Type 0
+IsAccepted name value.X text = (x : Fraction) × ReadsAs text (Ok x)
+IsAccepted name asked text = (n : ℕ) × StandsFor name asked text n
 
 -- A value is refused where it is given and its text isn't accepted.
-abbrev pub IsRefused : ValueName → List (List ℕ) → Type 0
-IsRefused name [] = ⊥
-IsRefused name (text ∷ _) = ¬ (IsAccepted name text)
+abbrev pub IsRefused : CommandName → ValueName → List (List ℕ) → Type 0
+IsRefused name asked [] = ⊥
+IsRefused name asked (text ∷ _) = ¬ (IsAccepted name asked text)
 
 -- A number is set where the text that is given stands for it, or where none is given and it is the default.
-abbrev pub IsSet : ValueName → (default : ℕ) → List (List ℕ) → ℕ → Type 0
-IsSet name default [] n = n ≡ default
-IsSet name default (text ∷ _) n = StandsFor name text n
+abbrev pub IsSet : CommandName → ValueName → (default : ℕ) → List (List ℕ) → ℕ → Type 0
+IsSet name asked default [] n = n ≡ default
+IsSet name asked default (text ∷ _) n = StandsFor name asked text n
 
 -- The place of a value in the order in which the values are tested.
 abbrev pub order : ValueName → ℕ
@@ -75,19 +90,20 @@ order value.Count = 4
 order value.Turns = 5
 order value.Fraction = 6
 order value.N = 7
+order value.Rank = 8
 
 -- A value is the first that is refused.
 pub record IsFirstRefused (name : CommandName) (given : Given) (refused : ValueName) : Type 0 where
-  pub here : IsRefused refused (texts_of name given refused)
-  pub none_before : (other : ValueName) → order other < order refused → ¬ (IsRefused other (texts_of name given other))
+  pub here : IsRefused name refused (texts_of name given refused)
+  pub none_before : (other : ValueName) → order other < order refused → ¬ (IsRefused name other (texts_of name given other))
 
 -- No value is refused, and the least size, 0 where none is given, is above the greatest, 1000 where none is given.
 pub record IsEmptyWindow (name : CommandName) (given : Given) : Type 0 where
-  pub none_refused : (any : ValueName) → ¬ (IsRefused any (texts_of name given any))
+  pub none_refused : (any : ValueName) → ¬ (IsRefused name any (texts_of name given any))
   pub min : ℕ
   pub max : ℕ
-  pub is_min : IsSet value.Min 0 (given.values option.Min) min
-  pub is_max : IsSet value.Max 1000 (given.values option.Max) max
+  pub is_min : IsSet name value.Min 0 (given.values option.Min) min
+  pub is_max : IsSet name value.Max 1000 (given.values option.Max) max
   pub above : max < min
 
 -- A value is bad where it is the first that is refused; the least size is bad also where the window is empty.

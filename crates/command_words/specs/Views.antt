@@ -1,5 +1,5 @@
 -- What the structs of the code show: the values that options are given, what the arguments of a command give, and the texts of a command's values.
-use Rattle.std.specs.Prelude.{ℕ, List, None, slice_index_or}
+use Rattle.std.specs.Prelude.{ℕ, List, None, slice_index_or, if◌then◌else◌}
 use Rattle.std.specs.Option.{option_copied, option_to_list}
 use Rattle.command_words.specs.declared.fault.ValueName.{ValueName}
 use Rattle.command_words.specs.declared.form.Form.{Form}
@@ -15,7 +15,7 @@ values_in settings option = option_to_list (option_copied (slice_index_or settin
 
 -- What the arguments of a command give.
 abbrev pub given_of : Kept → Given
-given_of given = record { places = given.places; values = values_in given.settings }
+given_of given = record { places = given.places; values = values_in given.settings; fast = if given.fast then 1 else 0 }
 
 -- The texts that stand for a value of a command: none or one.
 abbrev pub texts_in : Form → ValueName → List (List ℕ)

@@ -1,12 +1,12 @@
 //! Arguments read from the words behind a command's name.
 ghost use Rattle.std.specs.Prelude.{◌≡◌, ◌<◌, ◌↔◌, ◌∷◌, length, IsTrue, OnOk, IfOk, IfErr};
-ghost use Rattle.command_words.specs.Words.{Argument, IsPlain, option_word, most_values};
+ghost use Rattle.command_words.specs.Words.{Argument, IsPlain, option_word, fast_word, most_values, most_fast};
 ghost use Rattle.command_words.specs.Reading.{Adds, ReadsArgument, BeginsWithNone, GivesArguments, AreNoArguments, IfNoCommand};
 ghost use Rattle.command_words.specs.Views.{given_of};
 
 use crate::fault::WordsFault;
 use crate::given::Given;
-use crate::names::{CommandName, OptionName};
+use crate::names::{CommandName, OptionName, is_fast};
 use bz_outside::word::Word;
 use std::alloc::Global;
 
@@ -41,6 +41,10 @@ fn read_argument<'a>(
     ensures err { IfErr result (λ fault. IfNoCommand fault
         (BeginsWithNone name (given_of given.old) (word.now ∷ others.now))) }
 {
+    if is_fast(word.bytes()) {
+        read_fast(name, given)?;
+        return Ok(others);
+    }
     match OptionName::read(word.bytes()) {
         Some(option) => read_setting(name, option, given, others),
         None => {
@@ -48,6 +52,23 @@ fn read_argument<'a>(
             Ok(others)
         }
     }
+}
+
+/// Reads `--fast`.
+fn read_fast(name: CommandName, given: &mut Given<'_>) -> Result<(), WordsFault>
+    ensures taken { OnOk result ((given_of given.old).fast < most_fast name) }
+    ensures added { OnOk result (Adds (given_of given.old) (given_of given.new) Argument.Fast) }
+    ensures err { IfErr result (λ fault. IfNoCommand fault
+        (¬ ((given_of given.old).fast < most_fast name))) }
+{
+    if !name.takes_fast() {
+        return Err(WordsFault::NotACommand);
+    }
+    if given.fast() {
+        return Err(WordsFault::NotACommand);
+    }
+    given.set_fast();
+    Ok(())
 }
 
 /// Reads a positional word.

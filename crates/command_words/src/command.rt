@@ -69,6 +69,8 @@ pub enum Command {
         tape: TapeWord,
         limits: Limits,
         fraction: FractionBits,
+        /// Whether the lower values start near the class values instead of from 0.
+        fast: bool,
     },
     /// Draws from a specification at `x`, one drawing over each tape, in the order of a schedule.
     Pool {
@@ -93,5 +95,32 @@ pub enum Command {
     Bulk {
         n: u64,
         fraction: FractionBits,
+    },
+    /// Prints the specification whose objects are those of a specification with an atom marked.
+    Point {
+        file: Word,
+    },
+    /// Bounds the chance with which a specification at `x` gives an object.
+    Chance {
+        file: Word,
+        x: Fraction,
+        object: Word,
+        fraction: FractionBits,
+    },
+    /// Counts the objects of each size up to `n`.
+    Count {
+        file: Word,
+        n: u64,
+    },
+    /// Makes the object of size `n` with this number.
+    Unrank {
+        file: Word,
+        n: u64,
+        number: u128,
+    },
+    /// Tells the number of an object among those of its size.
+    Rank {
+        file: Word,
+        object: Word,
     },
 }

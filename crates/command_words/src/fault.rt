@@ -19,8 +19,10 @@ pub enum ValueName {
     Turns,
     /// How many bits stand behind the point in rounded numbers.
     Fraction,
-    /// The number of a `bulk` run.
+    /// The number of a `bulk` run, or the greatest size whose objects are counted.
     N,
+    /// The number of an object among those of its size.
+    Rank,
 }
 
 /// Why words stand for no command.
@@ -28,9 +30,9 @@ pub enum ValueName {
 pub enum WordsFault {
     /// The words haven't the form of a command. They don't begin with a command's name; or there
     /// are too few or too many positional words; or an option stands there that the command doesn't
-    /// take, or twice, or without a value; or a `sample` has a tape and a seed, or neither; or a
-    /// positional word or a value is empty or begins with `-`; or a byte is outside 20 to 7E,
-    /// hexadecimal.
+    /// take, or twice, or without a value; or `--fast` stands twice, or with a command that isn't
+    /// `sample`; or a `sample` has a tape and a seed, or neither; or a positional word or a value
+    /// is empty or begins with `-`; or a byte is outside 20 to 7E, hexadecimal.
     #[error("not a command")]
     NotACommand,
     /// The words have the form of a command, and this is its first value, in the order of

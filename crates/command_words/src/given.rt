@@ -1,5 +1,5 @@
 //! What the arguments of a command give.
-ghost use Rattle.std.specs.Prelude.{◌≡◌, [], OnOk};
+ghost use Rattle.std.specs.Prelude.{◌≡◌, [], OnOk, if◌then◌else◌};
 ghost use Rattle.std.specs.Option.{option_copied, option_to_list};
 ghost use Rattle.command_words.specs.declared.names.OptionName.{OptionName};
 ghost use Rattle.command_words.specs.Words.{Argument};
@@ -12,11 +12,13 @@ use crate::word_list::WordList;
 use bz_outside::word::Word;
 use std::alloc::{AllocError, Global};
 
-/// What the arguments of a command give: its positional words, and the values of its options.
+/// What the arguments of a command give: its positional words, the values of its options, and
+/// whether `--fast` stands there.
 #[derive(Drop)]
 pub struct Given<'a> {
     places: WordList,
     settings: Settings<'a>,
+    fast: bool,
 }
 
 impl<'a> Given<'a> {
@@ -24,10 +26,12 @@ impl<'a> Given<'a> {
     pub fn new(alloc: Global) -> Given<'a>
         ensures places { (given_of result).places ≡ [] }
         ensures values { (option : OptionName) → (given_of result).values option ≡ [] }
+        ensures fast { (given_of result).fast ≡ 0 }
     {
         Given {
             places: WordList::new(alloc),
             settings: Settings::new(),
+            fast: false,
         }
     }
 
@@ -45,6 +49,7 @@ impl<'a> Given<'a> {
         let Given {
             places,
             settings: _,
+            fast: _,
         } = self;
         places
     }
@@ -72,5 +77,20 @@ impl<'a> Given<'a> {
             (Argument.Setting option value.now) }
     {
         self.settings.set(option, value);
+    }
+
+    /// Whether `--fast` stands there. Takes no memory.
+    pub fn fast(&self) -> bool
+        ensures { (given_of self.now).fast ≡ (if result then 1 else 0) }
+    {
+        self.fast
+    }
+
+    /// Gives `--fast`, where it doesn't stand there.
+    pub fn set_fast(&mut self)
+        requires unset { (given_of self.old).fast ≡ 0 }
+        ensures set { Adds (given_of self.old) (given_of self.new) Argument.Fast }
+    {
+        self.fast = true;
     }
 }

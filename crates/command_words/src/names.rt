@@ -1,8 +1,8 @@
 //! Which command words name, and which options it takes.
-ghost use Rattle.std.specs.Prelude.{◌≡◌, ◌≢◌, IfSome, IsNone, if◌then◌else◌};
+ghost use Rattle.std.specs.Prelude.{◌≡◌, ◌≢◌, ◌↔◌, IfSome, IsNone, IsTrue, if◌then◌else◌};
 ghost use Rattle.command_words.specs.declared.names.CommandName.{CommandName};
 ghost use Rattle.command_words.specs.declared.names.OptionName.{OptionName};
-ghost use Rattle.command_words.specs.Words.{command_word, option_word, option_number, fewest_places, most_places, most_values};
+ghost use Rattle.command_words.specs.Words.{command_word, option_word, fast_word, option_number, fewest_places, most_places, most_values, most_fast};
 
 /// A command's name.
 #[derive(Clone, Copy, Debug, PartialEq, Eq)]
@@ -14,6 +14,11 @@ pub enum CommandName {
     Verify,
     Migrate,
     Bulk,
+    Point,
+    Chance,
+    Count,
+    Unrank,
+    Rank,
 }
 
 impl CommandName {
@@ -30,6 +35,11 @@ impl CommandName {
             b"verify" => Some(CommandName::Verify),
             b"migrate" => Some(CommandName::Migrate),
             b"bulk" => Some(CommandName::Bulk),
+            b"point" => Some(CommandName::Point),
+            b"chance" => Some(CommandName::Chance),
+            b"count" => Some(CommandName::Count),
+            b"unrank" => Some(CommandName::Unrank),
+            b"rank" => Some(CommandName::Rank),
             _ => None,
         }
     }
@@ -39,11 +49,14 @@ impl CommandName {
         ensures { result ≡ fewest_places self }
     {
         match self {
-            CommandName::Spec | CommandName::Bulk => 1,
+            CommandName::Spec | CommandName::Bulk | CommandName::Point => 1,
             CommandName::Oracle
             | CommandName::Sample
             | CommandName::Verify
-            | CommandName::Migrate => 2,
+            | CommandName::Migrate
+            | CommandName::Count
+            | CommandName::Rank => 2,
+            CommandName::Chance | CommandName::Unrank => 3,
             CommandName::Pool => 4,
         }
     }
@@ -65,10 +78,32 @@ impl CommandName {
         match self {
             CommandName::Sample => true,
             CommandName::Pool => !matches!(option, OptionName::Tape | OptionName::Seed),
-            CommandName::Oracle | CommandName::Bulk => matches!(option, OptionName::Fraction),
-            CommandName::Spec | CommandName::Verify | CommandName::Migrate => false,
+            CommandName::Oracle | CommandName::Bulk | CommandName::Chance => {
+                matches!(option, OptionName::Fraction)
+            }
+            CommandName::Spec
+            | CommandName::Verify
+            | CommandName::Migrate
+            | CommandName::Point
+            | CommandName::Count
+            | CommandName::Unrank
+            | CommandName::Rank => false,
         }
     }
+
+    /// Whether the command takes the word `--fast`.
+    pub fn takes_fast(self) -> bool
+        ensures { most_fast self ≡ (if result then 1 else 0) }
+    {
+        matches!(self, CommandName::Sample)
+    }
+}
+
+/// Whether a word is `--fast`. Takes no memory.
+pub fn is_fast(word: &[u8]) -> bool
+    ensures { IsTrue result ↔ (word.now ≡ fast_word) }
+{
+    matches!(word, b"--fast")
 }
 
 /// An option's name.

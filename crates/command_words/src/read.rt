@@ -1,7 +1,7 @@
 //! From words to a command.
 ghost use Rattle.std.specs.Prelude.{◌≡◌, ◌+◌, length, IfOk, IfErr};
 ghost use Rattle.command_words.specs.declared.fault.ValueName.TheVariants as value;
-ghost use Rattle.command_words.specs.declared.names.CommandName.TheVariants.{Spec, Oracle, Sample, Pool, Verify, Migrate};
+ghost use Rattle.command_words.specs.declared.names.CommandName.TheVariants.{Spec, Oracle, Sample, Pool, Verify, Migrate, Point, Chance, Count, Unrank, Rank};
 ghost use Rattle.command_words.specs.declared.names.OptionName.TheVariants as option;
 ghost use Rattle.command_words.specs.Words.{Takes};
 ghost use Rattle.command_words.specs.Values.{IsSet};
@@ -50,6 +50,11 @@ fn command_of(alloc: Global, form: Form<'_>, values: Values) -> Result<Command, 
             n: values.n,
             fraction: values.fraction,
         }),
+        CommandName::Point => Ok(point_of(given)),
+        CommandName::Chance => Ok(chance_of(given, values)),
+        CommandName::Count => Ok(count_of(given, values)),
+        CommandName::Unrank => Ok(unrank_of(given, values)),
+        CommandName::Rank => Ok(rank_of(given)),
     }
 }
 
@@ -82,6 +87,7 @@ fn sample_of(alloc: Global, given: Given<'_>, values: Values) -> Result<Command,
     ensures { IfOk result (Makes (given_of given.entry) Sample) }
 {
     let tape = tape_of(alloc, &given, values.seed)?;
+    let fast = given.fast();
     let mut places = given.into_places();
     Ok(Command::Sample {
         file: places.take_first(),
@@ -89,6 +95,7 @@ fn sample_of(alloc: Global, given: Given<'_>, values: Values) -> Result<Command,
         tape,
         limits: values.limits,
         fraction: values.fraction,
+        fast,
     })
 }
 
@@ -96,7 +103,7 @@ fn sample_of(alloc: Global, given: Given<'_>, values: Values) -> Result<Command,
 fn tape_of(alloc: Global, given: &Given<'_>, seed: u64) -> Result<TapeWord, AllocError>
     requires either { length ((given_of given.now).values option.Tape)
         + length ((given_of given.now).values option.Seed) ≡ 1 }
-    requires set { IsSet value.Seed 0 ((given_of given.now).values option.Seed) seed }
+    requires set { IsSet Sample value.Seed 0 ((given_of given.now).values option.Seed) seed }
     ensures { IfOk result (IsTape (given_of given.now)) }
 {
     match given.value(OptionName::Tape) {
@@ -143,5 +150,68 @@ fn migrate_of(given: Given<'_>) -> Command
     Command::Migrate {
         file: places.take_first(),
         cert: places.take_first(),
+    }
+}
+
+fn point_of(given: Given<'_>) -> Command
+    requires taken { Takes Point (given_of given) }
+    ensures { Makes (given_of given.entry) Point result }
+{
+    let mut places = given.into_places();
+    Command::Point {
+        file: places.take_first(),
+    }
+}
+
+fn chance_of(given: Given<'_>, values: Values) -> Command
+    requires taken { Takes Chance (given_of given) }
+    requires values { AreValues Chance (given_of given) values }
+    ensures { Makes (given_of given.entry) Chance result }
+{
+    let mut places = given.into_places();
+    let file = places.take_first();
+    let _x = places.take_first();
+    let object = places.take_first();
+    Command::Chance {
+        file,
+        x: values.x.unwrap(),
+        object,
+        fraction: values.fraction,
+    }
+}
+
+fn count_of(given: Given<'_>, values: Values) -> Command
+    requires taken { Takes Count (given_of given) }
+    requires values { AreValues Count (given_of given) values }
+    ensures { Makes (given_of given.entry) Count result }
+{
+    let mut places = given.into_places();
+    Command::Count {
+        file: places.take_first(),
+        n: values.n,
+    }
+}
+
+fn unrank_of(given: Given<'_>, values: Values) -> Command
+    requires taken { Takes Unrank (given_of given) }
+    requires values { AreValues Unrank (given_of given) values }
+    ensures { Makes (given_of given.entry) Unrank result }
+{
+    let mut places = given.into_places();
+    Command::Unrank {
+        file: places.take_first(),
+        n: values.n,
+        number: values.rank,
+    }
+}
+
+fn rank_of(given: Given<'_>) -> Command
+    requires taken { Takes Rank (given_of given) }
+    ensures { Makes (given_of given.entry) Rank result }
+{
+    let mut places = given.into_places();
+    Command::Rank {
+        file: places.take_first(),
+        object: places.take_first(),
     }
 }

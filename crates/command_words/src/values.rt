@@ -11,12 +11,14 @@ use crate::command::FractionBits;
 use crate::fault::{ValueName, WordsFault};
 use crate::form::Form;
 use crate::names::{CommandName, OptionName};
+use crate::rank::read_rank;
 use bz_model::fraction::Fraction;
 use bz_model::number::read_number;
 use size_window::limits::Limits;
 
 /// The values that a command is given, or their defaults. The x is None where the command has none;
-/// a seed and an n that aren't given are 0.
+/// a seed,
+/// an n and a rank that aren't given are 0.
 #[derive(Clone, Copy, Debug, PartialEq, Eq)]
 pub struct Values {
     pub x: Option<Fraction>,
@@ -24,6 +26,7 @@ pub struct Values {
     pub limits: Limits,
     pub fraction: FractionBits,
     pub n: u64,
+    pub rank: u128,
 }
 
 impl Form<'_> {
@@ -41,6 +44,7 @@ impl Form<'_> {
         let turns = self.number(ValueName::Turns, 1_000_000)?;
         let fraction = self.number(ValueName::Fraction, 48)?;
         let n = self.number(ValueName::N, 0)?;
+        let rank = self.rank()?;
         if max < min {
             return Err(WordsFault::BadValue {
                 name: ValueName::Min,
@@ -57,6 +61,7 @@ impl Form<'_> {
             },
             fraction: FractionBits::of(fraction),
             n,
+            rank,
         })
     }
 
@@ -64,7 +69,8 @@ impl Form<'_> {
     fn x(&self) -> Result<Option<Fraction>, WordsFault>
         ensures ok { IfOk result (IsX (texts_in self.now value.X)) }
         ensures cause { IfErr result (λ fault. fault ≡ BadValue value.X) }
-        ensures refused { IfErr result (λ fault. IsRefused value.X (texts_in self.now value.X)) }
+        ensures refused { IfErr result (λ fault.
+            IsRefused self.now.name value.X (texts_in self.now value.X)) }
     {
         let Some(text) = self.text(ValueName::X) else {
             return Ok(None);
@@ -75,19 +81,39 @@ impl Form<'_> {
         }
     }
 
-    /// The number of the command's value, or its default where it isn't given.
+    /// The number of the command's value, which is no rank, or its default where it isn't given.
     fn number(&self, name: ValueName, default: u64) -> Result<u64, WordsFault>
         requires number { name ≢ value.X }
-        ensures ok { IfOk result (IsSet name default (texts_in self.now name)) }
+        requires no_rank { name ≢ value.Rank }
+        ensures ok { IfOk result (IsSet self.now.name name default (texts_in self.now name)) }
         ensures cause { IfErr result (λ fault. fault ≡ BadValue name) }
-        ensures refused { IfErr result (λ fault. IsRefused name (texts_in self.now name)) }
+        ensures refused { IfErr result (λ fault.
+            IsRefused self.now.name name (texts_in self.now name)) }
     {
         let Some(text) = self.text(name) else {
             return Ok(default);
         };
-        match number_of(name, text) {
+        match number_of(self.name, name, text) {
             Some(number) => Ok(number),
             None => Err(WordsFault::BadValue { name }),
+        }
+    }
+
+    /// The rank of the command, or 0 where it has none.
+    fn rank(&self) -> Result<u128, WordsFault>
+        ensures ok { IfOk result (IsSet self.now.name value.Rank 0 (texts_in self.now value.Rank)) }
+        ensures cause { IfErr result (λ fault. fault ≡ BadValue value.Rank) }
+        ensures refused { IfErr result (λ fault.
+            IsRefused self.now.name value.Rank (texts_in self.now value.Rank)) }
+    {
+        let Some(text) = self.text(ValueName::Rank) else {
+            return Ok(0);
+        };
+        match read_rank(text) {
+            Some(rank) => Ok(rank),
+            None => Err(WordsFault::BadValue {
+                name: ValueName::Rank,
+            }),
         }
     }
 
@@ -104,6 +130,7 @@ impl Form<'_> {
             ValueName::Turns => self.given.value(OptionName::Turns),
             ValueName::Fraction => self.given.value(OptionName::Fraction),
             ValueName::N => self.n_text(),
+            ValueName::Rank => self.rank_text(),
         }
     }
 
@@ -112,17 +139,17 @@ impl Form<'_> {
         ensures { option_to_list (option_copied result) ≡ texts_in self.now value.X }
     {
         match self.name {
-            CommandName::Oracle | CommandName::Sample | CommandName::Pool => {
+            CommandName::Oracle | CommandName::Sample | CommandName::Pool | CommandName::Chance =>
                 match self.given.places() {
                     [_, x, ..] => Some(x.bytes()),
                     _ => None,
-                }
-            }
+                },
             _ => None,
         }
     }
 
-    /// The text of the n: the first positional word, where the command has an n.
+    /// The text of the n, where the command has one: the first positional word of `bulk`, the
+    /// second of `count` and `unrank`.
     fn n_text(&self) -> Option<&[u8]>
         ensures { option_to_list (option_copied result) ≡ texts_in self.now value.N }
     {
@@ -131,35 +158,56 @@ impl Form<'_> {
                 [n, ..] => Some(n.bytes()),
                 _ => None,
             },
+            CommandName::Count | CommandName::Unrank => match self.given.places() {
+                [_, n, ..] => Some(n.bytes()),
+                _ => None,
+            },
+            _ => None,
+        }
+    }
+
+    /// The text of the rank: the third positional word, where the command has a rank.
+    fn rank_text(&self) -> Option<&[u8]>
+        ensures { option_to_list (option_copied result) ≡ texts_in self.now value.Rank }
+    {
+        match self.name {
+            CommandName::Unrank => match self.given.places() {
+                [_, _, rank, ..] => Some(rank.bytes()),
+                _ => None,
+            },
             _ => None,
         }
     }
 }
 
-/// The number that a text stands for as a value that is a number.
-fn number_of(name: ValueName, text: &[u8]) -> Option<u64>
-    ensures number { IfSome result (StandsFor name text.now) }
-    ensures none { IsNone result → (n : ℕ) → ¬ (StandsFor name text.now n) }
+/// The number that a text stands for as a value of a command that is a number and no rank.
+fn number_of(command: CommandName, name: ValueName, text: &[u8]) -> Option<u64>
+    requires no_rank { name ≢ value.Rank }
+    ensures number { IfSome result (StandsFor command name text.now) }
+    ensures none { IsNone result → (n : ℕ) → ¬ (StandsFor command name text.now n) }
 {
     let number = read_number(text, u64::MAX)?;
-    if is_within_limits(name, number) {
+    if is_within_limits(command, name, number) {
         Some(number)
     } else {
         None
     }
 }
 
-/// Whether a number is within the limits of a value.
-fn is_within_limits(name: ValueName, number: u64) -> bool
-    ensures { IsTrue result ↔ IsWithinLimits name number }
+/// Whether a number is within the limits of a command's value.
+fn is_within_limits(command: CommandName, name: ValueName, number: u64) -> bool
+    ensures { IsTrue result ↔ IsWithinLimits command name number }
 {
     match name {
         ValueName::X => false,
-        ValueName::Seed => true,
+        ValueName::Seed | ValueName::Rank => true,
         ValueName::Min | ValueName::Max => number <= 1_000_000,
         ValueName::Count => 1 <= number && number <= 100_000,
         ValueName::Turns => 1 <= number && number <= 50_000_000,
         ValueName::Fraction => number == 40 || number == 48 || number == 52,
-        ValueName::N => 1 <= number && number <= 1000,
+        ValueName::N => match command {
+            CommandName::Bulk => 1 <= number && number <= 1000,
+            _ => number <= 500,
+        },
     }
 }

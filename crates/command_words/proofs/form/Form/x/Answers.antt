@@ -8,5 +8,5 @@ pub returns-in-Err-clause-refused : goal.returns-in-Err-clause-refused
 returns-in-Err-clause-refused c =
     let e = c.in-Some.ensures in
     let h = c.in-Err.ensures in
-    let P : List (List ℕ) → Type 0 = IsRefused X in
+    let P : List (List ℕ) → Type 0 = IsRefused c.args.self.now.name X in
     subst P e (λ a. no_fault c.in-Some.text.now c.in-Err.field-0 h a.0 a.1)

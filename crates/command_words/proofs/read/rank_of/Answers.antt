@@ -1,0 +1,7 @@
+use Rattle.std.proofs.Common.{sym, ◌∙◌}
+use Rattle.command_words.specs.Views.{given_of}
+use Rattle.command_words.proofs.Made.{made-rank}
+use Rattle.command_words.proofs.read.rank_of.Goals as goal
+
+pub returns : goal.returns
+returns c = made-rank (given_of c.args.given) c.take_first.result c.take_first-2.result c.take_first.new.self c.take_first-2.new.self c.requires.taken (sym c.into_places-places.ensures ∙ c.take_first.ensures.first) c.take_first-2.ensures.first
