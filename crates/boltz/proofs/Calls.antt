@@ -1,6 +1,6 @@
 -- Calls: from commands to answers, and that an undisturbed call has one answer.
 use Rattle.std.proofs.Common.{◌≡◌, ◌≢◌, ℕ, ◌+◌, ◌≤◌, ◌⊎◌, inl, inr, List, [], ◌∷◌, refl, sym, ap, subst, ◌∙◌, arith}
-use Rattle.std.specs.Prelude.{Bool, Option, Some, None, option_map}
+use Rattle.std.specs.Prelude.{false, Bool, Option, Some, None, option_map}
 use Rattle.bz_model.specs.Spec.{Spec}
 use Rattle.bz_outside.specs.Outside.{Rose, Appends}
 use Rattle.bit_tape.specs.Bits.{file_bit, seed_bit}
@@ -52,7 +52,7 @@ calm-tape f (tape.Seed seed) calm never = never
 one-carried : (f : Files) (asked : Command) → AreCalm f (files_of asked) → IsOne (Carries f asked)
 one-carried f (command.Spec file) calm = one-specified f file Printed calm.0 (λ s. one-said Status.Done (spec_text s) 0)
 one-carried f (command.Oracle file x F) calm = one-specified f file (λ s. Based (setting s x.num x.den (fraction_bits F)) (Bounded (setting s x.num x.den (fraction_bits F)))) calm.0 (λ s. one-based (setting s x.num x.den (fraction_bits F)) (Bounded (setting s x.num x.den (fraction_bits F))) (λ base. one-said Status.Done (bounded_text (setting s x.num x.den (fraction_bits F)) base) (cost_at 6)))
-one-carried f (command.Sample file x word limits F) calm =
+one-carried f (command.Sample file x word limits F false) calm =
     let bits = known-bits f word calm.1 in
     let t = λ (s : Spec). setting s x.num x.den (fraction_bits F) in
     let met = tape_in f (source_of word) in

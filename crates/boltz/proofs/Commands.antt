@@ -1,5 +1,5 @@
 -- What words stand for, why they stand for none, and which limits a drawing has.
-use Rattle.std.proofs.Common.{◌≡◌, ◌≢◌, ℕ, ◌≤◌, ◌⊎◌, List, [], ◌∷◌, refl, ap, arith, inl, inr}
+use Rattle.std.proofs.Common.{Bool, ◌≡◌, ◌≢◌, ℕ, ◌≤◌, ◌⊎◌, List, [], ◌∷◌, refl, ap, arith, inl, inr}
 use Rattle.size_window.specs.Drawing.{AreLimits as AreWithin, limits_of}
 use Rattle.size_window.specs.declared.limits.Limits.{Limits}
 use Rattle.command_words.specs.Values.{IsSet}
@@ -14,6 +14,7 @@ use Rattle.command_words.specs.declared.fault.ValueName.TheVariants as value
 use Rattle.command_words.specs.declared.fault.WordsFault.{WordsFault}
 use Rattle.command_words.specs.declared.fault.WordsFault.TheVariants.{NotACommand, BadValue, OutOfMemory}
 use Rattle.command_words.specs.declared.names.CommandName.{CommandName}
+use Rattle.command_words.specs.declared.names.CommandName.TheVariants.{Sample}
 use Rattle.command_words.specs.declared.names.OptionName.TheVariants as option
 use Rattle.command_words.proofs.Excluded.{no_bad_value, one_bad_value}
 use Rattle.boltz.specs.Commands.{IsStoodFor}
@@ -37,35 +38,40 @@ one-fault words (BadValue v) (BadValue u) m n h i = ap BadValue (one_bad_value w
 
 -- The limits of a drawing are within those that it takes.
 abbrev HasLimits : Command → Type 0
-HasLimits (command.Sample file x word limits F) = AreWithin (limits_of limits)
+HasLimits (command.Sample file x word limits F fast) = AreWithin (limits_of limits)
 HasLimits other = Unit {0}
 
-set-max : (texts : List (List ℕ)) (n : ℕ) → IsSet value.Max 1000 texts n → n ≤ 1000000
-set-max [] n set = omega (arith, set)
-set-max (text ∷ others) n set = set.within
+set-max : (name : CommandName) (texts : List (List ℕ)) (n : ℕ) → IsSet name value.Max 1000 texts n → n ≤ 1000000
+set-max name [] n set = omega (arith, set)
+set-max name (text ∷ others) n set = set.within
 
-set-count : (texts : List (List ℕ)) (n : ℕ) → IsSet value.Count 1 texts n → (1 ≤ n) × (n ≤ 100000)
-set-count [] n set = (omega (arith, set), omega (arith, set))
-set-count (text ∷ others) n set = set.within
+set-count : (name : CommandName) (texts : List (List ℕ)) (n : ℕ) → IsSet name value.Count 1 texts n → (1 ≤ n) × (n ≤ 100000)
+set-count name [] n set = (omega (arith, set), omega (arith, set))
+set-count name (text ∷ others) n set = set.within
 
-set-turns : (texts : List (List ℕ)) (n : ℕ) → IsSet value.Turns 1000000 texts n → (1 ≤ n) × (n ≤ 50000000)
-set-turns [] n set = (omega (arith, set), omega (arith, set))
-set-turns (text ∷ others) n set = set.within
+set-turns : (name : CommandName) (texts : List (List ℕ)) (n : ℕ) → IsSet name value.Turns 1000000 texts n → (1 ≤ n) × (n ≤ 50000000)
+set-turns name [] n set = (omega (arith, set), omega (arith, set))
+set-turns name (text ∷ others) n set = set.within
 
-are-within : (given : Given) (limits : Limits) → AreLimits given limits → AreWithin (limits_of limits)
-are-within given limits are =
-    let count = set-count (given.values option.Count) limits.count are.count in
-    let turns = set-turns (given.values option.Turns) limits.turns are.turns in
-    record { window = are.window; max = set-max (given.values option.Max) limits.max are.max; some = count.0; count = count.1; some_turns = turns.0; turns = turns.1 }
+are-within : (name : CommandName) (given : Given) (limits : Limits) → AreLimits name given limits → AreWithin (limits_of limits)
+are-within name given limits are =
+    let count = set-count name (given.values option.Count) limits.count are.count in
+    let turns = set-turns name (given.values option.Turns) limits.turns are.turns in
+    record { window = are.window; max = set-max name (given.values option.Max) limits.max are.max; some = count.0; count = count.1; some_turns = turns.0; turns = turns.1 }
 
 has-limits : (given : Given) (name : CommandName) (c : Command) → Makes given name c → HasLimits c
-has-limits given name c (makes.sample f t x w l b e r w_is l_is is) = are-within given l l_is
+has-limits given name c (makes.sample f t x w l b q e r w_is l_is is fast) = are-within Sample given l l_is
 has-limits given name c (makes.spec f e) = tt
 has-limits given name c (makes.oracle f t x b e r is) = tt
 has-limits given name c (makes.pool f t p ts x l b e r l_is is) = tt
 has-limits given name c (makes.verify f k e) = tt
 has-limits given name c (makes.migrate f k e) = tt
 has-limits given name c (makes.bulk t n b e st is) = tt
+has-limits given name c (makes.point f e) = tt
+has-limits given name c (makes.chance f t o x b e r is) = tt
+has-limits given name c (makes.count f t n e st) = tt
+has-limits given name c (makes.unrank f t k n number e st ranked) = tt
+has-limits given name c (makes.rank f o e) = tt
 
-pub sample_limits : (file : List ℕ) (x : Fraction) (word : TapeWord) (limits : Limits) (F : FractionBits) → IsStoodFor (command.Sample file x word limits F) → AreWithin (limits_of limits)
-sample_limits file x word limits F h = has-limits _ _ (command.Sample file x word limits F) h.is.made
+pub sample_limits : (file : List ℕ) (x : Fraction) (word : TapeWord) (limits : Limits) (F : FractionBits) (fast : Bool) → IsStoodFor (command.Sample file x word limits F fast) → AreWithin (limits_of limits)
+sample_limits file x word limits F fast h = has-limits _ _ (command.Sample file x word limits F fast) h.is.made

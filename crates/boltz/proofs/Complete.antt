@@ -1,6 +1,6 @@
 -- What is certain to be printed, refused, bounded or drawn.
 use Rattle.std.proofs.Common.{arith, ◌≢◌, ◌⊎◌, inl, inr, ◌≡◌, ℕ, zero, suc, ◌≤◌, List, [], ◌∷◌, ◌++◌, refl, sym, subst, ap, ◌∙◌}
-use Rattle.std.specs.Prelude.{Bool, length, take, Option, Some, None}
+use Rattle.std.specs.Prelude.{false, Bool, length, take, Option, Some, None}
 use Rattle.bz_model.specs.Fraction.{ratio}
 use Rattle.bz_model.specs.Spec.{Spec}
 use Rattle.bz_model.specs.WellFounded.{IsWellFounded}
@@ -80,7 +80,7 @@ unfit-carried w p (command.Spec file) is status text ticks memory h = unfit-only
 unfit-carried w p (command.Oracle file x F) is status text ticks memory h =
     let next = λ (s : Spec). Based (setting s x.num x.den (fraction_bits F)) (Bounded (setting s x.num x.den (fraction_bits F))) in
     unfit-only w p next status text ticks memory (subst (λ f. Specified w.files f next status text ticks) is h)
-unfit-carried w p (command.Sample file x word limits F) is status text ticks memory h =
+unfit-carried w p (command.Sample file x word limits F false) is status text ticks memory h =
     let next = λ (s : Spec). Based (setting s x.num x.den (fraction_bits F)) (DrawnFrom (setting s x.num x.den (fraction_bits F)) (limits_of limits) (tape_in w.files (source_of word))) in
     unfit-only w p next status text ticks memory (subst (λ f. Specified w.files f next status text ticks) is h)
 unfit-carried w p later is status text ticks memory h = absurd is
@@ -102,7 +102,7 @@ baseless w s x F status text ticks (complete.to_bound file fit none) memory h =
     let t = λ (s : Spec). setting s x.num x.den (fraction_bits F) in
     baseless-only (t s) (Bounded (t s)) none status text ticks memory (fit-only w asked file s fit (λ s. Based (t s) (Bounded (t s))) status text ticks memory (outcome-of w asked fit.given.named status text ticks memory h))
 baseless w s x F status text ticks (complete.to_draw file word limits fit none) memory h =
-    let asked = command.Sample file x word limits F in
+    let asked = command.Sample file x word limits F false in
     let t = λ (s : Spec). setting s x.num x.den (fraction_bits F) in
     let met = tape_in w.files (source_of word) in
     baseless-only (t s) (DrawnFrom (t s) (limits_of limits) met) none status text ticks memory (fit-only w asked file s fit (λ s. Based (t s) (DrawnFrom (t s) (limits_of limits) met)) status text ticks memory (outcome-of w asked fit.given.named status text ticks memory h))
@@ -123,7 +123,7 @@ drawn-only cost header a base limits t bits turns ending are_known calm ends sta
 
 pub draws : (w : World) (s : Spec) (x : Fraction) (F : FractionBits) (turns : ℕ) (limits : Limits) (base : List ℕ) (bits : ℕ → Option Bool) (ending : Ending) (status : Status) (text : List ℕ) (ticks : ℕ) → IsDrawable w s x F limits base bits turns ending → status ≢ Status.OutOfMemory → Answers w status text ticks → (status ≡ ending_status ending) × ((lines : List ℕ) × Lists s (undisturbed (setting s x.num x.den (fraction_bits F)) base (limits_of limits) bits turns).entries lines × (text ≡ drawn_header (setting s x.num x.den (fraction_bits F)) base (limits_of limits) ++ (lines ++ closing_lines (level_bounds (setting s x.num x.den (fraction_bits F)) base) (undisturbed (setting s x.num x.den (fraction_bits F)) base (limits_of limits) bits turns) ending)))
 draws w s x F turns limits base bits ending status text ticks p memory h =
-    let asked = command.Sample p.file x p.word limits F in
+    let asked = command.Sample p.file x p.word limits F false in
     let t = λ (s : Spec). setting s x.num x.den (fraction_bits F) in
     let met = tape_in w.files (source_of p.word) in
     let own = fit-only w asked p.file s p.fit (λ s. Based (t s) (DrawnFrom (t s) (limits_of limits) met)) status text ticks memory (outcome-of w asked p.fit.given.named status text ticks memory h) in
@@ -171,7 +171,7 @@ carried-no-words f (command.Spec file) built status text ticks h is = specified-
 carried-no-words f (command.Oracle file x F) built status text ticks h is =
     let t = λ (s : Spec). setting s x.num x.den (fraction_bits F) in
     specified-no-words f file (λ s. Based (t s) (Bounded (t s))) (λ s. based-no-words (t s) (Bounded (t s)) (λ base status text ticks p e. said-no-words Status.Done (bounded_text (t s) base) (cost_at 6) status text ticks (λ e. absurd (cc)) p e)) status text ticks h is
-carried-no-words f (command.Sample file x word limits F) built status text ticks h is =
+carried-no-words f (command.Sample file x word limits F false) built status text ticks h is =
     let t = λ (s : Spec). setting s x.num x.den (fraction_bits F) in
     let met = tape_in f (source_of word) in
     specified-no-words f file (λ s. Based (t s) (DrawnFrom (t s) (limits_of limits) met)) (λ s. based-no-words (t s) (DrawnFrom (t s) (limits_of limits) met) (drawn-no-words (t s) (limits_of limits) met)) status text ticks h is
@@ -180,7 +180,7 @@ carried-no-words f later built status text ticks h is = absurd (built (λ no. no
 only-refused : (w : World) (asked : Command) → IsCommand w.words asked → (status : Status) (text : List ℕ) (ticks : ℕ) → Carries w.files asked status text ticks → status ≡ Status.WordsRefused → AreRefused w.words
 only-refused w (command.Spec file) named status text ticks h is = absurd (carried-no-words w.files (command.Spec file) (λ no. no tt) status text ticks h is)
 only-refused w (command.Oracle file x F) named status text ticks h is = absurd (carried-no-words w.files (command.Oracle file x F) (λ no. no tt) status text ticks h is)
-only-refused w (command.Sample file x word limits F) named status text ticks h is = absurd (carried-no-words w.files (command.Sample file x word limits F) (λ no. no tt) status text ticks h is)
+only-refused w (command.Sample file x word limits F false) named status text ticks h is = absurd (carried-no-words w.files (command.Sample file x word limits F false) (λ no. no tt) status text ticks h is)
 only-refused w later named status text ticks h is = commands.not_yet later named (λ built. built)
 
 pub words_only : (w : World) (status : Status) (text : List ℕ) (ticks : ℕ) → Answers w status text ticks → status ≡ Status.WordsRefused → AreRefused w.words
@@ -197,7 +197,7 @@ no_command w fault status text ticks refuses m memory (answers.carried asked nam
 later-only : (f : Files) (asked : Command) → ¬ (IsBuilt asked) → (status : Status) (text : List ℕ) (ticks : ℕ) → status ≢ Status.OutOfMemory → Carries f asked status text ticks → (status ≡ Status.WordsRefused) × (text ≡ not_yet_line)
 later-only f (command.Spec file) unbuilt status text ticks memory h = absurd (unbuilt tt)
 later-only f (command.Oracle file x F) unbuilt status text ticks memory h = absurd (unbuilt tt)
-later-only f (command.Sample file x word limits F) unbuilt status text ticks memory h = absurd (unbuilt tt)
+later-only f (command.Sample file x word limits F false) unbuilt status text ticks memory h = absurd (unbuilt tt)
 later-only f later unbuilt status text ticks memory h = may-say-only Status.WordsRefused not_yet_line 0 status text ticks memory h
 
 pub not_yet : (w : World) (asked : Command) (status : Status) (text : List ℕ) (ticks : ℕ) → IsCommand w.words asked → ¬ (IsBuilt asked) → status ≢ Status.OutOfMemory → Answers w status text ticks → (status ≡ Status.WordsRefused) × (text ≡ not_yet_line)

@@ -1,5 +1,5 @@
 -- When the answer is certain: what is certain to be printed, to be refused, to be bounded, and to be drawn.
-use Rattle.std.specs.Prelude.{◌≡◌, ℕ, Bool, List, take, Option, Some, None}
+use Rattle.std.specs.Prelude.{false, ◌≡◌, ℕ, Bool, List, take, Option, Some, None}
 use Rattle.bz_model.specs.Spec.{Spec}
 use Rattle.bz_model.specs.WellFounded.{IsWellFounded}
 use Rattle.bz_model.specs.declared.fraction.Fraction.{Fraction}
@@ -58,7 +58,7 @@ pub record IsBoundable (w : World) (s : Spec) (x : Fraction) (F : FractionBits) 
 -- The words ask to bound the classes of a specification at an x, in units of 2^-F, without a base, or to draw from it there.
 pub data IsBaseless (w : World) (s : Spec) (x : Fraction) (F : FractionBits) : Type 0 where
   to_bound : (file : List ℕ) → IsFit w (command.Oracle file x F) file s → base_of (setting s x.num x.den (fraction_bits F)) ≡ None → IsBaseless w s x F
-  to_draw : (file : List ℕ) (word : TapeWord) (limits : Limits) → IsFit w (command.Sample file x word limits F) file s → base_of (setting s x.num x.den (fraction_bits F)) ≡ None → IsBaseless w s x F
+  to_draw : (file : List ℕ) (word : TapeWord) (limits : Limits) → IsFit w (command.Sample file x word limits F false) file s → base_of (setting s x.num x.den (fraction_bits F)) ≡ None → IsBaseless w s x F
 
 -- The course of so many turns over the levels of a base and these bits, where no read fails.
 abbrev pub undisturbed : Setting → (base : List ℕ) → Window → (bits : ℕ → Option Bool) → (turns : ℕ) → Course
@@ -68,7 +68,7 @@ undisturbed t base limits bits turns = after (sampling t.spec t.bits (level_boun
 pub record IsDrawable (w : World) (s : Spec) (x : Fraction) (F : FractionBits) (limits : Limits) (base : List ℕ) (bits : ℕ → Option Bool) (turns : ℕ) (ending : Ending) : Type 0 where
   pub file : List ℕ
   pub word : TapeWord
-  pub fit : IsFit w (command.Sample file x word limits F) file s
+  pub fit : IsFit w (command.Sample file x word limits F false) file s
   pub has_base : base_of (setting s x.num x.den (fraction_bits F)) ≡ Some base
   pub are_told : bits_of (source_of word) w.files.content ≡ Some bits
   pub no_fault : ¬ (HasFailed (tape_in w.files (source_of word)))

@@ -76,11 +76,18 @@ fn carried_out<S: Shelf, K: Sink, L: Ledger>(
             tape,
             limits,
             fraction,
+            fast: false,
         } => sample(alloc, file, *x, tape, *limits, *fraction, shelf, out, steps),
+        Command::Sample { .. } => not_yet(alloc, out),
         Command::Pool { .. } => not_yet(alloc, out),
         Command::Verify { .. } => not_yet(alloc, out),
         Command::Migrate { .. } => not_yet(alloc, out),
         Command::Bulk { .. } => not_yet(alloc, out),
+        Command::Point { .. } => not_yet(alloc, out),
+        Command::Chance { .. } => not_yet(alloc, out),
+        Command::Count { .. } => not_yet(alloc, out),
+        Command::Unrank { .. } => not_yet(alloc, out),
+        Command::Rank { .. } => not_yet(alloc, out),
     }
 }
 

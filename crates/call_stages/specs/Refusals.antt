@@ -21,6 +21,7 @@ value_name value.Count = codes "count"
 value_name value.Turns = codes "turns"
 value_name value.Fraction = codes "fraction"
 value_name value.N = codes "n"
+value_name value.Rank = codes "rank"
 
 -- Why words stand for no command; nothing is told of want of memory.
 abbrev pub words_line : WordsFault → List ℕ

@@ -3,14 +3,11 @@
 /// Calls a function at the number of fraction bits.
 #[macro_export]
 macro_rules! at_fraction {
-    ($bits:expr, $call:ident [$($types:ty),*] $args:tt) => {
+    ($bits:expr, $call:ident [$($types:ty),*] ($($args:tt)*)) => {
         match $bits {
-            FractionBits::F40 => $crate::at_fraction!(@call $call [40 $(, $types)*] $args),
-            FractionBits::F48 => $crate::at_fraction!(@call $call [48 $(, $types)*] $args),
-            FractionBits::F52 => $crate::at_fraction!(@call $call [52 $(, $types)*] $args),
+            FractionBits::F40 => $call::<40 $(, $types)*>($($args)*),
+            FractionBits::F48 => $call::<48 $(, $types)*>($($args)*),
+            FractionBits::F52 => $call::<52 $(, $types)*>($($args)*),
         }
-    };
-    (@call $call:ident [$($types:tt)*] ($($args:tt)*)) => {
-        $call::<$($types)*>($($args)*)
     };
 }

@@ -135,6 +135,7 @@ fn name_of_value(value: ValueName) -> &'static str
         ValueName::Turns => "turns",
         ValueName::Fraction => "fraction",
         ValueName::N => "n",
+        ValueName::Rank => "rank",
     }
 }
 
