@@ -76,9 +76,14 @@ fn carried_out<S: Shelf, K: Sink, L: Ledger>(
             tape,
             limits,
             fraction,
-            fast: false,
-        } => sample(alloc, file, *x, tape, *limits, *fraction, shelf, out, steps),
-        Command::Sample { .. } => not_yet(alloc, out),
+            fast,
+        } => {
+            if *fast {
+                not_yet(alloc, out)
+            } else {
+                sample(alloc, file, *x, tape, *limits, *fraction, shelf, out, steps)
+            }
+        }
         Command::Pool { .. } => not_yet(alloc, out),
         Command::Verify { .. } => not_yet(alloc, out),
         Command::Migrate { .. } => not_yet(alloc, out),

@@ -1,5 +1,6 @@
-use Rattle.std.proofs.Common.{subst, sym}
+use Rattle.std.proofs.Common.{subst, sym, ap, ◌∙◌}
 use Rattle.command_words.specs.declared.command.Command.{Command}
+use Rattle.command_words.specs.declared.command.Command.TheVariants as command
 use Rattle.boltz.specs.Answers.{Carries}
 use Rattle.boltz.specs.Commands.{IsStoodFor}
 use Rattle.call_stages.specs.Ends.{EndsBy, output}
@@ -9,7 +10,7 @@ use Rattle.boltz.proofs.run.carried_out.Goals as goal
 
 -- the limits of a sample are within those of a drawing
 pub sample-requires : goal.sample-requires
-sample-requires g c = sample_limits c.in-Sample.file c.in-Sample.x c.in-Sample.tape c.in-Sample.limits c.in-Sample.fraction (subst IsStoodFor c.in-Sample.is c.requires.stood_for)
+sample-requires g c = sample_limits c.in-Sample.file c.in-Sample.x c.in-Sample.tape c.in-Sample.limits c.in-Sample.fraction c.in-Sample.fast (subst IsStoodFor c.in-Sample.is c.requires.stood_for)
 
 -- a specification is printed
 pub returns-in-Spec-clause-ends : goal.returns-in-Spec-clause-ends
@@ -18,7 +19,7 @@ returns-in-Spec-clause-ends g c = subst (λ (k : Command). EndsBy (Carries (file
 -- the command isn't built yet
 pub returns-in-Pool-clause-ends : goal.returns-in-Pool-clause-ends
 returns-in-Pool-clause-ends g c =
-    let at = c.not_yet in
+    let at = c.not_yet-in-Pool in
     subst (λ (k : Command). EndsBy (Carries (files (g.S.Shelf.content c.args.shelf.now) (g.S.Shelf.faults c.args.shelf.now) (g.S.Shelf.faults c.args.shelf.now)) k) (output (g.K.Sink.written c.args.out.now) (g.K.Sink.written at.new.out) (g.K.Sink.faults c.args.out.now) (g.K.Sink.faults at.new.out) c.args.steps.now c.args.steps.now) at.result) (sym c.in-Pool.is) (at.ensures.ends c.args.steps.now)
 
 -- the command isn't built yet
@@ -38,3 +39,40 @@ pub returns-in-Bulk-clause-ends : goal.returns-in-Bulk-clause-ends
 returns-in-Bulk-clause-ends g c =
     let at = c.not_yet-in-Bulk in
     subst (λ (k : Command). EndsBy (Carries (files (g.S.Shelf.content c.args.shelf.now) (g.S.Shelf.faults c.args.shelf.now) (g.S.Shelf.faults c.args.shelf.now)) k) (output (g.K.Sink.written c.args.out.now) (g.K.Sink.written at.new.out) (g.K.Sink.faults c.args.out.now) (g.K.Sink.faults at.new.out) c.args.steps.now c.args.steps.now) at.result) (sym c.in-Bulk.is) (at.ensures.ends c.args.steps.now)
+
+-- the command isn't built yet
+pub returns-in-Point-clause-ends : goal.returns-in-Point-clause-ends
+returns-in-Point-clause-ends g c =
+    let at = c.not_yet-in-Point in
+    subst (λ (k : Command). EndsBy (Carries (files (g.S.Shelf.content c.args.shelf.now) (g.S.Shelf.faults c.args.shelf.now) (g.S.Shelf.faults c.args.shelf.now)) k) (output (g.K.Sink.written c.args.out.now) (g.K.Sink.written at.new.out) (g.K.Sink.faults c.args.out.now) (g.K.Sink.faults at.new.out) c.args.steps.now c.args.steps.now) at.result) (sym c.in-Point.is) (at.ensures.ends c.args.steps.now)
+
+-- the command isn't built yet
+pub returns-in-Chance-clause-ends : goal.returns-in-Chance-clause-ends
+returns-in-Chance-clause-ends g c =
+    let at = c.not_yet-in-Chance in
+    subst (λ (k : Command). EndsBy (Carries (files (g.S.Shelf.content c.args.shelf.now) (g.S.Shelf.faults c.args.shelf.now) (g.S.Shelf.faults c.args.shelf.now)) k) (output (g.K.Sink.written c.args.out.now) (g.K.Sink.written at.new.out) (g.K.Sink.faults c.args.out.now) (g.K.Sink.faults at.new.out) c.args.steps.now c.args.steps.now) at.result) (sym c.in-Chance.is) (at.ensures.ends c.args.steps.now)
+
+-- the command isn't built yet
+pub returns-in-Count-clause-ends : goal.returns-in-Count-clause-ends
+returns-in-Count-clause-ends g c =
+    let at = c.not_yet-in-Count in
+    subst (λ (k : Command). EndsBy (Carries (files (g.S.Shelf.content c.args.shelf.now) (g.S.Shelf.faults c.args.shelf.now) (g.S.Shelf.faults c.args.shelf.now)) k) (output (g.K.Sink.written c.args.out.now) (g.K.Sink.written at.new.out) (g.K.Sink.faults c.args.out.now) (g.K.Sink.faults at.new.out) c.args.steps.now c.args.steps.now) at.result) (sym c.in-Count.is) (at.ensures.ends c.args.steps.now)
+
+-- the command isn't built yet
+pub returns-in-Unrank-clause-ends : goal.returns-in-Unrank-clause-ends
+returns-in-Unrank-clause-ends g c =
+    let at = c.not_yet-in-Unrank in
+    subst (λ (k : Command). EndsBy (Carries (files (g.S.Shelf.content c.args.shelf.now) (g.S.Shelf.faults c.args.shelf.now) (g.S.Shelf.faults c.args.shelf.now)) k) (output (g.K.Sink.written c.args.out.now) (g.K.Sink.written at.new.out) (g.K.Sink.faults c.args.out.now) (g.K.Sink.faults at.new.out) c.args.steps.now c.args.steps.now) at.result) (sym c.in-Unrank.is) (at.ensures.ends c.args.steps.now)
+
+-- the command isn't built yet
+pub returns-in-Rank-clause-ends : goal.returns-in-Rank-clause-ends
+returns-in-Rank-clause-ends g c =
+    let at = c.not_yet-in-Rank in
+    subst (λ (k : Command). EndsBy (Carries (files (g.S.Shelf.content c.args.shelf.now) (g.S.Shelf.faults c.args.shelf.now) (g.S.Shelf.faults c.args.shelf.now)) k) (output (g.K.Sink.written c.args.out.now) (g.K.Sink.written at.new.out) (g.K.Sink.faults c.args.out.now) (g.K.Sink.faults at.new.out) c.args.steps.now c.args.steps.now) at.result) (sym c.in-Rank.is) (at.ensures.ends c.args.steps.now)
+
+-- a fast sample isn't built yet
+pub returns-then-fast-clause-ends : goal.returns-then-fast-clause-ends
+returns-then-fast-clause-ends g c =
+    let at = c.not_yet in
+    subst (λ (k : Command). EndsBy (Carries (files (g.S.Shelf.content c.args.shelf.now) (g.S.Shelf.faults c.args.shelf.now) (g.S.Shelf.faults c.args.shelf.now)) k) (output (g.K.Sink.written c.args.out.now) (g.K.Sink.written at.new.out) (g.K.Sink.faults c.args.out.now) (g.K.Sink.faults at.new.out) c.args.steps.now c.args.steps.now) at.result)
+    (sym (c.in-Sample.is ∙ ap (λ b. command.Sample c.in-Sample.file c.in-Sample.x c.in-Sample.tape c.in-Sample.limits c.in-Sample.fraction b) c.if-fast.true)) (at.ensures.ends c.args.steps.now)
