@@ -1,7 +1,8 @@
 -- Lines of classes and of levels, one after another, and the class vectors that they tell.
 use Rattle.std.proofs.Common.{◌≡◌, ℕ, suc, ◌+◌, max, List, [], ◌++◌, length, refl, sym, ap, ◌∙◌, arith, add-one, append_assoc, append-nil}
 use Rattle.bz_model.specs.Spec.{Spec}
-use Rattle.oracle_memo.specs.Levels.{level_down, level_up}
+use Rattle.kleene_lower.specs.Lower.{zeros}
+use Rattle.oracle_memo.specs.Levels.{level_down, level_down_from, level_up}
 use Rattle.oracle_memo.specs.Memos.{Memory}
 use Rattle.rounded_map.specs.RoundedMap.{Setting, setting}
 use Rattle.boltz.specs.OracleCommand.{class_level, level_lines, level_after}
@@ -18,9 +19,9 @@ levels_more t base lower upper before start text next text_is lower_is upper_is 
     next_is
 
 -- the class vectors of a memo that is raised to a level
-pub lower_told : (m now : Memory) (s : Spec) (F level : ℕ) (lower : List ℕ) → now ≡ record m { raised = level } → m.spec ≡ s → lower ≡ level_down (setting now.spec now.num now.den F) now.raised → lower ≡ level_down (setting s m.num m.den F) level
-lower_told m now s F level lower raised same is =
-    is ∙ ap (λ (k : Memory). level_down (setting k.spec k.num k.den F) k.raised) raised ∙ ap (λ (r : Spec). level_down (setting r m.num m.den F) level) same
+pub lower_told : (m now : Memory) (s : Spec) (F level : ℕ) (lower : List ℕ) → now ≡ record m { raised = level } → m.spec ≡ s → m.start ≡ zeros (setting s m.num m.den F) → lower ≡ level_down_from (setting now.spec now.num now.den F) now.start now.raised → lower ≡ level_down (setting s m.num m.den F) level
+lower_told m now s F level lower raised same zero is =
+    is ∙ ap (λ (k : Memory). level_down_from (setting k.spec k.num k.den F) k.start k.raised) raised ∙ ap (λ (r : Spec). level_down_from (setting r m.num m.den F) m.start level) same ∙ ap (λ (v : List ℕ). level_down_from (setting s m.num m.den F) v level) zero
 
 pub upper_told : (m now : Memory) (s : Spec) (F level : ℕ) (upper : List ℕ) → now ≡ record m { raised = level } → m.spec ≡ s → upper ≡ level_up (setting now.spec now.num now.den F) now.base now.raised → upper ≡ level_up (setting s m.num m.den F) m.base level
 upper_told m now s F level upper raised same is =
@@ -41,7 +42,7 @@ joined_four head base levels last first second third all h b l e =
     e ∙ ap (λ t. t ++ last) (l ∙ ap (λ s. s ++ levels) (b ∙ ap (λ f. f ++ base) h)) ∙ append_assoc (head ++ base) levels last ∙ append_assoc head base (levels ++ last)
 
 -- the levels over a memo that was made of a base
-pub levels_of : (t : Setting) (base : List ℕ) (s : Spec) (m : Memory) → s ≡ t.spec → m ≡ record { spec = t.spec; num = t.num; den = t.den; base = base; raised = 0 } → lines_below (level_after (setting s m.num m.den t.bits) m.base) 6 ≡ lines_below (level_after t base) 6
+pub levels_of : (t : Setting) (base : List ℕ) (s : Spec) (m : Memory) → s ≡ t.spec → m ≡ record { spec = t.spec; num = t.num; den = t.den; start = zeros t; base = base; raised = 0 } → lines_below (level_after (setting s m.num m.den t.bits) m.base) 6 ≡ lines_below (level_after t base) 6
 levels_of t base s m same made =
     ap (λ (r : Spec). lines_below (level_after (setting r m.num m.den t.bits) m.base) 6) same ∙ ap (λ (k : Memory). lines_below (level_after (setting t.spec k.num k.den t.bits) k.base) 6) made
 

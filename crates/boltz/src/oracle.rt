@@ -2,6 +2,7 @@
 ghost use Rattle.std.specs.Prelude.{◌≡◌, ◌+◌, ℕ, List, ◌++◌, ◌<◌, ◌≤◌, ◌⊎◌, length, IfOk, OnOk};
 ghost use Rattle.rounded_map.specs.RoundedMap.{setting, IsPostFixed};
 ghost use Rattle.newton_upper.specs.BaseRule.{base_of};
+ghost use Rattle.kleene_lower.specs.Lower.{zeros};
 ghost use Rattle.oracle_memo.specs.Memos.{Memory};
 ghost use Rattle.oracle_memo.specs.Levels.{cost_at};
 ghost use Rattle.command_words.specs.Fractions.{fraction_bits};
@@ -128,7 +129,8 @@ fn base_and_levels<const F: u32, L: Ledger>(
     Ok(text)
 }
 
-/// Appends the lines of the levels 1 to 6, and raises each. None is raised yet.
+/// Appends the lines of the levels 1 to 6, and raises each. None is raised yet, and the lower sweeps
+/// start from zero.
 #[tactic(auto, using(crate::proofs::OracleCommand::costs_no_more))]
 fn append_levels<const F: u32, L: Ledger>(
     alloc: Global,
@@ -140,6 +142,7 @@ fn append_levels<const F: u32, L: Ledger>(
     requires fraction_bits { (24 ≤ F) × (F ≤ 56) }
     requires same { memo.old.spec ≡ system.now }
     requires none_raised { memo.old.raised ≡ 0 }
+    requires from_zero { memo.old.start ≡ zeros (setting system.now memo.old.num memo.old.den F) }
     requires post_fixed { IsPostFixed (setting system.now memo.old.num memo.old.den F) memo.old.base }
     ensures text { OnOk result (text.new.items ≡ text.old.items ++ lines_below (level_after (setting system.now memo.old.num memo.old.den F) memo.old.base) 6) }
     ensures ticks { steps.new ≤ steps.old + cost_at 6 }

@@ -1,4 +1,5 @@
--- Vectors of class values after some number of lower sweeps from zero.
+-- Vectors of class values after some number of lower sweeps from a start, which is zero or another
+-- vector.
 use Rattle.std.specs.Prelude.{◌≡◌, ℕ, List, length, replicate}
 use Rattle.rounded_map.specs.RoundedMap.{Setting, repeated, sweep_down}
 
@@ -8,11 +9,21 @@ pub record Sweeps : Type 0 where
   pub room : ℕ
   pub done : ℕ
 
+-- The vector after n lower sweeps from a start.
+abbrev pub swept_from : Setting → (start : List ℕ) → ℕ → List ℕ
+swept_from t start n = repeated (sweep_down t) n start
+
+-- Zero for each class.
+abbrev pub zeros : Setting → List ℕ
+zeros t = replicate (length t.spec.bodies) 0
+
 -- The vector after n lower sweeps from zero.
 abbrev pub swept_from_zero : Setting → ℕ → List ℕ
-swept_from_zero t n = repeated (sweep_down t) n (replicate (length t.spec.bodies) 0)
+swept_from_zero t n = swept_from t (zeros t) n
 
--- The entries are those after the sweeps done, and there is room for the values of all nodes.
-pub record AreSweepsOf (t : Setting) (s : Sweeps) : Type 0 where
-  pub entries : s.entries ≡ swept_from_zero t s.done
+-- The start has an entry for each class, the entries are those after the sweeps done from it, and
+-- there is room for the values of all nodes.
+pub record AreSweepsFrom (t : Setting) (start : List ℕ) (s : Sweeps) : Type 0 where
+  pub one_per_class : length start ≡ length t.spec.bodies
+  pub entries : s.entries ≡ swept_from t start s.done
   pub room : s.room ≡ length t.spec.nodes

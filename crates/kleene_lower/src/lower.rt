@@ -1,11 +1,11 @@
-//! A class vector that is swept from zero, further and further.
-ghost use Rattle.std.specs.Prelude.{◌≡◌, ℕ, ◌+◌, ◌≤◌, ◌<◌, length, IfOk};
+//! A class vector that is swept from a start, further and further.
+ghost use Rattle.std.specs.Prelude.{◌≡◌, ℕ, ◌+◌, ◌≤◌, ◌<◌, List, length, IfOk};
 ghost use Rattle.bz_model.specs.Fraction.{ratio};
 ghost use Rattle.bz_model.specs.Spec.{Spec};
 ghost use Rattle.class_system.specs.Sound.{IsSound};
 ghost use Rattle.rounded_map.specs.RoundedMap.{Setting, setting, repeated, sweep_down};
 ghost use Rattle.rounded_map.specs.Bounding.{AreBelow};
-ghost use Rattle.kleene_lower.specs.Lower.{AreSweepsOf, swept_from_zero};
+ghost use Rattle.kleene_lower.specs.Lower.{AreSweepsFrom, swept_from, zeros};
 
 use bz_model::fraction::Fraction;
 use bz_model::steps::Steps;
@@ -15,7 +15,7 @@ use std::alloc::{AllocError, Global};
 use std::marker::Model;
 use std::sync::ledger::Ledger;
 
-/// The class values after some number of lower sweeps from zero, in units of `2^-F`.
+/// The class values after some number of lower sweeps from a start, in units of `2^-F`.
 #[derive(Drop)]
 pub struct Lower<const F: u32> {
     classes: Vec<u64>,
@@ -35,13 +35,36 @@ impl<const F: u32> Model for Lower<F> {
 impl<const F: u32> Lower<F> {
     /// Zero for each class, and room for the node values. No sweep is done.
     pub fn new(alloc: Global, system: &System) -> Result<Lower<F>, AllocError>
-        ensures zero { IfOk result (λ lower. (num den : ℕ) → AreSweepsOf (setting system.now num den F) lower) }
+        ensures zero { IfOk result (λ lower. (num den : ℕ)
+            → AreSweepsFrom (setting system.now num den F) (zeros (setting system.now num den F))
+            lower) }
         ensures none_done { IfOk result (λ lower. lower.done ≡ 0) }
+        ensures one_per_class { IfOk result
+            (λ lower. length lower.entries ≡ length system.now.bodies) }
+        ensures one_per_node { IfOk result (λ lower. lower.room ≡ length system.now.nodes) }
     {
         let classes = vec![in alloc; 0; system.bodies().len()]?;
+        Lower::from_start(alloc, system, classes)
+    }
+
+    /// The start, which has one entry for each class, and room for the node values. No sweep is
+    /// done.
+    pub fn from_start(
+        alloc: Global,
+        system: &System,
+        start: Vec<u64>,
+    ) -> Result<Lower<F>, AllocError>
+        requires one_per_class { length start.items ≡ length system.now.bodies }
+        ensures from { IfOk result (λ lower. (num den : ℕ)
+            → AreSweepsFrom (setting system.now num den F) start.items lower) }
+        ensures none_done { IfOk result (λ lower. lower.done ≡ 0) }
+        ensures one_per_class { IfOk result
+            (λ lower. length lower.entries ≡ length system.now.bodies) }
+        ensures one_per_node { IfOk result (λ lower. lower.room ≡ length system.now.nodes) }
+    {
         let nodes = vec![in alloc; 0; system.nodes().len()]?;
         Ok(Lower {
-            classes,
+            classes: start,
             nodes,
             sweeps: 0,
         })
@@ -49,8 +72,8 @@ impl<const F: u32> Lower<F> {
 
     /// Sweeps on until so many sweeps are done.
     ///
-    /// The system and x are those of the calls before, and no fewer sweeps are asked for than are
-    /// done. One tick for each new sweep. Takes no memory.
+    /// No fewer sweeps are asked for than are done. Where the system and x are those of the calls
+    /// before, these are sweeps from the start on. One tick for each new sweep. Takes no memory.
     pub fn advance_to<L: Ledger>(
         &mut self,
         system: &System,
@@ -59,11 +82,15 @@ impl<const F: u32> Lower<F> {
         steps: &mut Steps<L>,
     )
         requires fraction_bits { (24 ≤ F) × (F ≤ 56) }
-        requires same { AreSweepsOf (setting system.now x.num x.den F) self.old }
+        requires one_per_class { length self.old.entries ≡ length system.now.bodies }
+        requires one_per_node { self.old.room ≡ length system.now.nodes }
         requires no_fewer { self.old.done ≤ sweeps }
-        ensures same { AreSweepsOf (setting system.now x.num x.den F) self.new }
+        ensures same { (start : List ℕ)
+            → AreSweepsFrom (setting system.now x.num x.den F) start self.old
+            → AreSweepsFrom (setting system.now x.num x.den F) start self.new }
         ensures done { self.new.done ≡ sweeps }
-        ensures reached { AreBelow system.now (ratio x.num x.den) F self.new.entries }
+        ensures length { length self.new.entries ≡ length self.old.entries }
+        ensures room { self.new.room ≡ self.old.room }
         ensures ticks { steps.new + self.old.done ≡ steps.old + sweeps }
     {
         let further = sweeps - self.sweeps;
@@ -80,11 +107,16 @@ impl<const F: u32> Lower<F> {
 
     /// The class values. Takes no memory.
     ///
-    /// Each is reached: some list of distinct objects of the class totals at least so much.
+    /// Where the start is reached, each is: some list of distinct objects of the class totals at
+    /// least so much.
     pub fn values(&self) -> &[u64]
         ensures entries { result.now ≡ self.now.entries }
-        ensures swept { (t : Setting) → AreSweepsOf t self.now → result.now ≡ swept_from_zero t self.now.done }
-        ensures reached { (s : Spec) (num den : ℕ) → IsSound s → 1 ≤ den → AreSweepsOf (setting s num den F) self.now → AreBelow s (ratio num den) F result.now }
+        ensures swept { (t : Setting) (start : List ℕ) → AreSweepsFrom t start self.now
+            → result.now ≡ swept_from t start self.now.done }
+        ensures reached { (s : Spec) (num den : ℕ) (start : List ℕ) → IsSound s → 1 ≤ den
+            → AreBelow s (ratio num den) F start
+            → AreSweepsFrom (setting s num den F) start self.now
+            → AreBelow s (ratio num den) F result.now }
     {
         self.classes.as_slice()
     }
@@ -103,7 +135,8 @@ fn sweep_on<const F: u32, L: Ledger>(
     requires one_per_class { length classes.old ≡ length system.now.bodies }
     requires one_per_node { length nodes.old ≡ length system.now.nodes }
     ensures sound { IsSound system.now }
-    ensures swept { classes.new ≡ repeated (sweep_down (setting system.now x.num x.den F)) sweeps classes.old }
+    ensures swept { classes.new
+        ≡ repeated (sweep_down (setting system.now x.num x.den F)) sweeps classes.old }
     ensures ticks { steps.new ≡ steps.old + sweeps }
 {
     system.known();

@@ -15,9 +15,10 @@ pub mod search;
 mod sums;
 pub mod trials;
 pub mod values;
-mod vectors;
+pub mod vectors;
 
 pub use base::{Base, BaseFault};
 pub use search::{UpperFault, propose};
 pub use trials::{Trial, Trials};
 pub use values::Values;
+pub use vectors::dual_vector;

@@ -60,7 +60,7 @@ pub(crate) fn upper_values<const F: u32, L: Ledger>(
 ///
 /// None exactly where a node has no upper value or a sweep has no result. At most one tick more than
 /// there are sweeps.
-pub(crate) fn dual_vector<const F: u32, L: Ledger>(
+pub fn dual_vector<const F: u32, L: Ledger>(
     alloc: Global,
     system: &System,
     x: Fraction,

@@ -13,10 +13,13 @@ use Rattle.class_system.specs.NodeResults.{ranged_nodes}
 use Rattle.class_system.proofs.Results.{length-node_results, length-zip}
 use Rattle.fixed_enclosure.specs.Rounded.{greatest}
 use Rattle.rounded_map.specs.RoundedMap.{Setting, setting, value_at, repeated, values_down, value_up, values_up, sweep_up, IsPostFixed, IsFirstMissing}
+use Rattle.rounded_map.specs.Bounding.{AreBelow}
 use Rattle.rounded_map.proofs.Bounding.{values-above, values-below, post_fixed-above, sweeps-reached}
 use Rattle.rounded_map.proofs.EachValued.{each-value}
 use Rattle.rounded_map.proofs.MapMonotone.{sweeps_up-post_fixed}
-use Rattle.oracle_memo.specs.Levels.{sweeps_at, level_down, level_up, lesser_value, bound_down, bound_up, level_bounds, LieWithin}
+use Rattle.kleene_lower.specs.Lower.{zeros}
+use Rattle.kleene_lower.proofs.Advance.{length-zeros, swept-below}
+use Rattle.oracle_memo.specs.Levels.{sweeps_at, level_down_from, level_up, lesser_value, bound_down_from, bound_up, level_bounds_from, level_bounds, LieWithin}
 
 -- A value that is there, and bounds what the objects of a node total.
 pub record IsBound (s : Spec) (x : Fraction) (F e : ℕ) (o : Option ℕ) : Type 0 where
@@ -28,17 +31,18 @@ module _ (s : Spec) (x : Fraction) (F : ℕ) (sound : IsSound s) where
   abbrev at : Setting
   at = setting s x.num x.den F
 
-  -- The lower bounds are reached.
-  pub lower-reached : (level e : ℕ) → e < length s.nodes → Below x (units F (bound_down at level e)) (Belongs s e)
-  unfolding bound_down level_down
-  lower-reached zero e within = below-zero x F (Belongs s e)
-  lower-reached (suc level) e within =
-      below-max x F (bound_down at level e) (slice_index (values_down at (level_down at (suc level))) e) (Belongs s e) (lower-reached level e within)
-      ((values-below s x F sound (level_down at (suc level)) (sweeps-reached s x F sound (sweeps_at (suc level)))).at e within)
+  module _ (start : List ℕ) (lengths : length start ≡ length s.bodies) (below : AreBelow s x F start) where
+    -- The lower bounds are reached.
+    pub lower-reached : (level e : ℕ) → e < length s.nodes → Below x (units F (bound_down_from at start level e)) (Belongs s e)
+    unfolding bound_down_from level_down_from
+    lower-reached zero e within = below-zero x F (Belongs s e)
+    lower-reached (suc level) e within =
+        below-max x F (bound_down_from at start level e) (slice_index (values_down at (level_down_from at start (suc level))) e) (Belongs s e) (lower-reached level e within)
+        ((values-below s x F sound (level_down_from at start (suc level)) (swept-below s x F start sound lengths below (sweeps_at (suc level)))).at e within)
 
-  pub lower-rises : (level e : ℕ) → bound_down at level e ≤ bound_down at (suc level) e
-  unfolding bound_down
-  lower-rises level e = omega arith
+    pub lower-rises : (level e : ℕ) → bound_down_from at start level e ≤ bound_down_from at start (suc level) e
+    unfolding bound_down_from
+    lower-rises level e = omega arith
 
   module _ (bits : 0 < F) (base : List ℕ) (fixed : IsPostFixed at base) where
     -- At each level's vector each node has an upper value, and it bounds.
@@ -67,14 +71,17 @@ module _ (s : Spec) (x : Fraction) (F : ℕ) (sound : IsSound s) where
           above = above-min x F a.value b.value (Belongs s e) a.above b.above;
         }
 
-    pub enclosed : (level e : ℕ) → 1 ≤ level → e < length s.nodes → Encloses s x F e (level_bounds at base level e)
-    enclosed zero e some within = absurd (omega arith)
-    enclosed (suc level) e some within =
+    pub enclosed-from : (start : List ℕ) → length start ≡ length s.bodies → AreBelow s x F start → (level e : ℕ) → 1 ≤ level → e < length s.nodes → Encloses s x F e (level_bounds_from at start base level e)
+    enclosed-from start lengths below zero e some within = absurd (omega arith)
+    enclosed-from start lengths below (suc level) e some within =
         let a = upper-bounds level e within in
         record {
-          reached = lower-reached (suc level) e within;
+          reached = lower-reached start lengths below (suc level) e within;
           above = subst (λ v. Above x (units F v) (Belongs s e)) (sym (ap (λ o. unwrap_or o greatest) a.is_there)) a.above;
         }
+
+    pub enclosed : (level e : ℕ) → 1 ≤ level → e < length s.nodes → Encloses s x F e (level_bounds at base level e)
+    enclosed level e some within = enclosed-from (zeros at) (length-zeros at) (sweeps-reached s x F sound 0) level e some within
 
     drawn : (level e v w : ℕ) → bound_up at base (suc level) e ≡ Some v → value_at (values_up at (level_up at base (suc (suc level)))) e ≡ Some w → bound_up at base (suc (suc level)) e ≡ Some (min v w)
     unfolding bound_up
@@ -89,18 +96,21 @@ module _ (s : Spec) (x : Fraction) (F : ℕ) (sound : IsSound s) where
         let after : unwrap_or (bound_up at base (suc (suc level)) e) greatest ≡ min a.value c.value = ap (λ o. unwrap_or o greatest) (drawn level e a.value c.value a.is_there c.is_there) in
         omega arith
 
+    pub narrower-from : (start : List ℕ) → length start ≡ length s.bodies → AreBelow s x F start → (level e : ℕ) → 1 ≤ level → e < length s.nodes → LieWithin (level_bounds_from at start base (suc level) e) (level_bounds_from at start base level e)
+    narrower-from start lengths below zero e some within = absurd (omega arith)
+    narrower-from start lengths below (suc level) e some within = record { lo = lower-rises start lengths below (suc level) e; hi = upper-falls level e within }
+
     pub narrower : (level e : ℕ) → 1 ≤ level → e < length s.nodes → LieWithin (level_bounds at base (suc level) e) (level_bounds at base level e)
-    narrower zero e some within = absurd (omega arith)
-    narrower (suc level) e some within = record { lo = lower-rises (suc level) e; hi = upper-falls level e within }
+    narrower level e some within = narrower-from (zeros at) (length-zeros at) (sweeps-reached s x F sound 0) level e some within
 
 -- The same at the parts of a fraction, of which the denominator is at least 1.
 at_least_one : (d : ℕ) → 1 ≤ d → max d 1 ≡ d
 at_least_one d h = omega arith
 
-pub enclosed-at : (s : Spec) (num den F : ℕ) (base : List ℕ) → IsSound s → 1 ≤ den → 0 < F → IsPostFixed (setting s num den F) base → (level e : ℕ) → 1 ≤ level → e < length s.nodes → Encloses s (ratio num den) F e (level_bounds (setting s num den F) base level e)
-enclosed-at s num den F base sound positive bits fixed level e some within =
-    subst (λ d. Encloses s (ratio num den) F e (level_bounds (setting s num d F) base level e)) (at_least_one den positive)
-    (enclosed s (ratio num den) F sound bits base (subst (λ d. IsPostFixed (setting s num d F) base) (sym (at_least_one den positive)) fixed) level e some within)
+pub enclosed-at : (s : Spec) (num den F : ℕ) (start base : List ℕ) → IsSound s → 1 ≤ den → 0 < F → length start ≡ length s.bodies → AreBelow s (ratio num den) F start → IsPostFixed (setting s num den F) base → (level e : ℕ) → 1 ≤ level → e < length s.nodes → Encloses s (ratio num den) F e (level_bounds_from (setting s num den F) start base level e)
+enclosed-at s num den F start base sound positive bits lengths below fixed level e some within =
+    subst (λ d. Encloses s (ratio num den) F e (level_bounds_from (setting s num d F) start base level e)) (at_least_one den positive)
+    (enclosed-from s (ratio num den) F sound bits base (subst (λ d. IsPostFixed (setting s num d F) base) (sym (at_least_one den positive)) fixed) start lengths below level e some within)
 
 -- At a post-fixed vector no node lacks an upper value.
 missing-past : (n : ℕ) (o : Option ℕ) → o ≡ None → (v : ℕ) → o ≡ Some v → ⊥

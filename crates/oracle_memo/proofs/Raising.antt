@@ -9,10 +9,11 @@ use Rattle.bz_model.specs.Spec.{Spec}
 use Rattle.bz_model.specs.Oracle.{AreCosts, cost_between}
 use Rattle.fixed_enclosure.specs.UpperValues.{IsNoGreater}
 use Rattle.rounded_map.specs.RoundedMap.{Setting, setting, value_at, lesser, repeated, values_down, values_up, bodies_up, sweep_up, IsPostFixed}
-use Rattle.rounded_map.proofs.Bounding.{length-at_each, length-lower_sweeps}
+use Rattle.rounded_map.proofs.Bounding.{length-at_each}
 use Rattle.rounded_map.proofs.MapMonotone.{sweeps_up-post_fixed}
-use Rattle.kleene_lower.specs.Lower.{Sweeps, AreSweepsOf, swept_from_zero}
-use Rattle.oracle_memo.specs.Levels.{sweeps_at, level_down, level_up, cost_at, costs}
+use Rattle.kleene_lower.specs.Lower.{Sweeps, AreSweepsFrom, swept_from}
+use Rattle.kleene_lower.proofs.Advance.{length-swept}
+use Rattle.oracle_memo.specs.Levels.{sweeps_at, level_down_from, level_up, cost_at, costs}
 
 -- Steps that go on from steps.
 repeated-on : {V : Type 0} (f : V → V) (k n m : ℕ) (v : V) → m ≡ n + k → repeated f k (repeated f n v) ≡ repeated f m v
@@ -36,9 +37,9 @@ pub length-level_up : (t : Setting) (base : List ℕ) (level : ℕ) → IsPostFi
 unfolding level_up
 length-level_up t base level fixed = length-upper_sweeps t base (sweeps_at level) (length-base t base fixed)
 
-pub length-level_down : (t : Setting) (level : ℕ) → length (level_down t level) ≡ length t.spec.bodies
-unfolding level_down
-length-level_down t level = length-lower_sweeps t (sweeps_at level)
+pub length-level_down : (t : Setting) (start : List ℕ) (level : ℕ) → length start ≡ length t.spec.bodies → length (level_down_from t start level) ≡ length t.spec.bodies
+unfolding level_down_from
+length-level_down t start level same = length-swept t start (sweeps_at level) same
 
 -- The vectors of level 0, and of each level from those of the level before.
 pub level_up-start : (t : Setting) (base : List ℕ) → base ≡ level_up t base 0
@@ -53,9 +54,9 @@ pub level_up-fixed : (t : Setting) (base : List ℕ) (level : ℕ) → 0 < t.bit
 unfolding level_up
 level_up-fixed t base level bits fixed = sweeps_up-post_fixed t (sweeps_at level) base bits fixed
 
-pub level_down-is : (t : Setting) (lower : Sweeps) (level : ℕ) → AreSweepsOf t lower → lower.done ≡ sweeps_at level → lower.entries ≡ level_down t level
-unfolding level_down
-level_down-is t lower level are done = are.entries ∙ ap (swept_from_zero t) done
+pub level_down-is : (t : Setting) (start : List ℕ) (lower : Sweeps) (level : ℕ) → AreSweepsFrom t start lower → lower.done ≡ sweeps_at level → lower.entries ≡ level_down_from t start level
+unfolding level_down_from
+level_down-is t start lower level are done = are.entries ∙ ap (swept_from t start) done
 
 -- Sweeps and costs rise with the levels.
 sweeps-rise-suc : (level : ℕ) → sweeps_at level ≤ sweeps_at (suc level)
@@ -121,13 +122,16 @@ module _ (s founded : Spec) (num den F : ℕ) (same : s ≡ founded) where
       subst (λ v. IsPostFixed (setting s num den F) v) (sym is)
       (subst (λ r. IsPostFixed (setting r num den F) (level_up (setting founded num den F) base more)) (sym same) (level_up-fixed (setting founded num den F) base more bits fixed))
 
-  pub lower-next : (lower : Sweeps) (more sweeps : ℕ) → AreSweepsOf (setting s num den F) lower → lower.done ≡ sweeps → sweeps ≡ sweeps_at more → AreSweepsOf (setting founded num den F) lower
-  lower-next lower more sweeps are done sweeps_are = subst (λ r. AreSweepsOf (setting r num den F) lower) same are
+  pub lower-before : (start : List ℕ) (lower : Sweeps) → AreSweepsFrom (setting founded num den F) start lower → AreSweepsFrom (setting s num den F) start lower
+  lower-before start lower are = subst (λ r. AreSweepsFrom (setting r num den F) start lower) (sym same) are
 
-  pub lows-next : (lower : Sweeps) (entries values lows : List ℕ) (more : ℕ) → AreSweepsOf (setting s num den F) lower → lower.done ≡ sweeps_at more → entries ≡ lower.entries → values ≡ values_down (setting s num den F) entries → lows ≡ values → lows ≡ values_down (setting founded num den F) (level_down (setting founded num den F) more)
-  lows-next lower entries values lows more are done entries_are values_are lows_are =
-      lows_are ∙ values_are ∙ ap (values_down (setting s num den F)) (entries_are ∙ level_down-is (setting s num den F) lower more are done)
-      ∙ ap (λ r. values_down (setting r num den F) (level_down (setting r num den F) more)) same
+  pub lower-next : (start : List ℕ) (lower : Sweeps) → AreSweepsFrom (setting s num den F) start lower → AreSweepsFrom (setting founded num den F) start lower
+  lower-next start lower are = subst (λ r. AreSweepsFrom (setting r num den F) start lower) same are
+
+  pub lows-next : (start : List ℕ) (lower : Sweeps) (entries values lows : List ℕ) (more : ℕ) → AreSweepsFrom (setting s num den F) start lower → lower.done ≡ sweeps_at more → entries ≡ lower.entries → values ≡ values_down (setting s num den F) entries → lows ≡ values → lows ≡ values_down (setting founded num den F) (level_down_from (setting founded num den F) start more)
+  lows-next start lower entries values lows more are done entries_are values_are lows_are =
+      lows_are ∙ values_are ∙ ap (values_down (setting s num den F)) (entries_are ∙ level_down-is (setting s num den F) start lower more are done)
+      ∙ ap (λ r. values_down (setting r num den F) (level_down_from (setting r num den F) start more)) same
 
   pub highs-next : (base whole values highs : List ℕ) (more : ℕ) → whole ≡ level_up (setting founded num den F) base more → map Some values ≡ values_up (setting s num den F) whole → highs ≡ values → map Some highs ≡ values_up (setting founded num den F) (level_up (setting founded num den F) base more)
   highs-next base whole values highs more whole_is values_are highs_are =

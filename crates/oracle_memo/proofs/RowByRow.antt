@@ -6,8 +6,13 @@ use Rattle.std.proofs.lemmas.Nat.{mul-add-lt}
 use Rattle.bz_model.specs.declared.cell.Bounds.{Bounds}
 use Rattle.fixed_enclosure.specs.Rounded.{greatest}
 use Rattle.rounded_map.specs.RoundedMap.{Setting, value_at, values_down, values_up}
-use Rattle.oracle_memo.specs.Levels.{level_down, level_up, lesser_value, bound_down, bound_up, level_bounds}
+use Rattle.oracle_memo.specs.Levels.{level_down_from, level_up, lesser_value, bound_down_from, bound_up, level_bounds_from}
 use Rattle.oracle_memo.specs.Memos.{whole, bounds_at, bounds_before, drawn_in, HasRows}
+
+-- A row begins at 0, or after a whole row.
+pub start-cases : (rows n start : ℕ) → start ≡ rows * n → (start ≡ 0) ⊎ (n ≤ start)
+start-cases zero n start at = inl (omega arith)
+start-cases (suc rows) n start at = inr (omega arith)
 
 -- In the first row there are no bounds before, in the others those of the row before.
 pub before-first : (table : List Bounds) (n start e : ℕ) → start ≡ 0 → bounds_before table n start e ≡ whole
@@ -45,34 +50,34 @@ upper-drawn : (g : ℕ) (o w : Option ℕ) (h : ℕ) → w ≡ Some h → h ≤ 
 upper-drawn g None w h is below = let least : min g h ≡ h = omega arith in least ∙ sym (ap (λ (v : Option ℕ). unwrap_or v g) is)
 upper-drawn g (Some a) w h is below = sym (ap (λ (v : Option ℕ). unwrap_or (lesser_value (Some a) v) g) is)
 
-module _ (t : Setting) (base : List ℕ) where
-  next-bounds : (level e : ℕ) (lows highs : List ℕ) → lows ≡ values_down t (level_down t (suc level)) → map Some highs ≡ values_up t (level_up t base (suc level)) → e < length highs → slice_index highs e ≤ greatest → drawn_in (level_bounds t base level e) (slice_index lows e) (slice_index highs e) ≡ level_bounds t base (suc level) e
-  unfolding bound_down bound_up
+module _ (t : Setting) (start_vector base : List ℕ) where
+  next-bounds : (level e : ℕ) (lows highs : List ℕ) → lows ≡ values_down t (level_down_from t start_vector (suc level)) → map Some highs ≡ values_up t (level_up t base (suc level)) → e < length highs → slice_index highs e ≤ greatest → drawn_in (level_bounds_from t start_vector base level e) (slice_index lows e) (slice_index highs e) ≡ level_bounds_from t start_vector base (suc level) e
+  unfolding bound_down_from bound_up
   next-bounds level e lows highs low high within fits =
-      let lo : max (bound_down t level e) (slice_index lows e) ≡ bound_down t (suc level) e = ap (λ (vs : List ℕ). max (bound_down t level e) (slice_index vs e)) low in
+      let lo : max (bound_down_from t start_vector level e) (slice_index lows e) ≡ bound_down_from t start_vector (suc level) e = ap (λ (vs : List ℕ). max (bound_down_from t start_vector level e) (slice_index vs e)) low in
       let there : value_at (values_up t (level_up t base (suc level))) e ≡ Some (slice_index highs e) = ap (λ (vs : List (Option ℕ)). value_at vs e) (sym high) ∙ value-copied highs e within in
       let hi : min (unwrap_or (bound_up t base level e) greatest) (slice_index highs e) ≡ unwrap_or (bound_up t base (suc level) e) greatest = upper-drawn greatest (bound_up t base level e) (value_at (values_up t (level_up t base (suc level))) e) (slice_index highs e) there fits in
       cc
 
-  pub rows-none : (table : List Bounds) → HasRows t base 0 table
+  pub rows-none : (table : List Bounds) → HasRows t start_vector base 0 table
   rows-none table = record { at = λ row e below within. absurd (omega arith) }
 
   -- The bounds before a row are those of the level before.
-  before-is : (levels n start e : ℕ) (table : List Bounds) → HasRows t base levels table → n ≡ length t.spec.nodes → start ≡ levels * n → e < n → bounds_before table n start e ≡ level_bounds t base levels e
-  unfolding bound_down bound_up
+  before-is : (levels n start e : ℕ) (table : List Bounds) → HasRows t start_vector base levels table → n ≡ length t.spec.nodes → start ≡ levels * n → e < n → bounds_before table n start e ≡ level_bounds_from t start_vector base levels e
+  unfolding bound_down_from bound_up
   before-is zero n start e table rows nodes at within = before-first table n start e (omega arith)
   before-is (suc k) n start e table rows nodes at within =
       before-later table n start e (k * n + e) (omega arith) (omega arith)
       ∙ ap (λ (m : ℕ). bounds_at table (k * m + e)) nodes
       ∙ rows.at k e (omega arith) (omega arith)
-      ∙ ap (λ (level : ℕ). level_bounds t base level e) (add-one k)
+      ∙ ap (λ (level : ℕ). level_bounds_from t start_vector base level e) (add-one k)
 
   pub rows-more : (levels more n start : ℕ) (table new : List Bounds) (lows highs : List ℕ)
-      → HasRows t base levels table → more ≡ levels + 1 → n ≡ length t.spec.nodes → start ≡ levels * n
+      → HasRows t start_vector base levels table → more ≡ levels + 1 → n ≡ length t.spec.nodes → start ≡ levels * n
       → ((e : ℕ) → e < n → bounds_at new (start + e) ≡ drawn_in (bounds_before table n start e) (slice_index lows e) (slice_index highs e))
       → ((i : ℕ) → i < start → bounds_at new i ≡ bounds_at table i)
-      → lows ≡ values_down t (level_down t more) → map Some highs ≡ values_up t (level_up t base more)
-      → length highs ≡ n → ((e : ℕ) → slice_index highs e ≤ greatest) → HasRows t base more new
+      → lows ≡ values_down t (level_down_from t start_vector more) → map Some highs ≡ values_up t (level_up t base more)
+      → length highs ≡ n → ((e : ℕ) → slice_index highs e ≤ greatest) → HasRows t start_vector base more new
   rows-more levels more n start table new lows highs rows one nodes at written others low high lengths fits = record {
     at = λ row e below within.
         elim (cases row (omega arith)) [
@@ -83,8 +88,8 @@ module _ (t : Setting) (base : List ℕ) where
               let place : row * length t.spec.nodes + e ≡ start + e = ap (λ (m : ℕ). row * m + e) (sym nodes) ∙ ap (λ (l : ℕ). l * n + e) last ∙ ap (λ (m : ℕ). m + e) (sym at) in
               ap (bounds_at new) place ∙ written e (omega arith)
               ∙ ap (λ (b : Bounds). drawn_in b (slice_index lows e) (slice_index highs e)) (before-is levels n start e table rows nodes at (omega arith))
-              ∙ next-bounds levels e lows highs (low ∙ ap (λ (m : ℕ). values_down t (level_down t m)) next) (high ∙ ap (λ (m : ℕ). values_up t (level_up t base m)) next) (omega arith) (fits e)
-              ∙ ap (λ (m : ℕ). level_bounds t base m e) (sym next ∙ one ∙ ap (λ (l : ℕ). l + 1) (sym last))
+              ∙ next-bounds levels e lows highs (low ∙ ap (λ (m : ℕ). values_down t (level_down_from t start_vector m)) next) (high ∙ ap (λ (m : ℕ). values_up t (level_up t base m)) next) (omega arith) (fits e)
+              ∙ ap (λ (m : ℕ). level_bounds_from t start_vector base m e) (sym next ∙ one ∙ ap (λ (l : ℕ). l + 1) (sym last))
         ];
   }
     where

@@ -5,7 +5,9 @@ ghost use Rattle.bz_model.specs.Spec.{Spec};
 ghost use Rattle.bz_model.specs.Oracle.{IsSound, AreCosts, cost_between};
 ghost use Rattle.bz_model.specs.declared.cell.Bounds.{Bounds};
 ghost use Rattle.rounded_map.specs.RoundedMap.{setting, values_up, IsPostFixed};
-ghost use Rattle.oracle_memo.specs.Levels.{level_bounds, level_down, level_up, cost_at, costs};
+ghost use Rattle.rounded_map.specs.Bounding.{AreBelow};
+ghost use Rattle.kleene_lower.specs.Lower.{zeros};
+ghost use Rattle.oracle_memo.specs.Levels.{level_bounds_from, level_down_from, level_up, cost_at, costs};
 ghost use Rattle.oracle_memo.specs.Memos.{Memory};
 
 use crate::rows::{WHOLE, write_row};
@@ -31,6 +33,7 @@ const LEVELS: usize = 6;
 pub struct Memo<'a, const F: u32> {
     founded: &'a Founded,
     x: Fraction,
+    start: Vec<u64>,
     base: Base<F>,
     raised: u8,
     lower: Lower<F>,
@@ -47,13 +50,16 @@ impl<'a, const F: u32> Model for Memo<'a, F> {
 
     ghost Value = { Memory };
 
-    ghost view = { λ m. record { spec = m.founded.now; num = m.x.num; den = m.x.den; base = m.base; raised = m.raised } };
+    ghost view = { λ m. record { spec = m.founded.now; num = m.x.num; den = m.x.den;
+        start = m.start.items; base = m.base; raised = m.raised } };
 
-    ghost invariant = { λ m. IsMemory (setting m.founded.now m.x.num m.x.den F) m.base m.raised m.lower m.upper.items m.table.items (vec_len m.low_values) (vec_len m.high_values) };
+    ghost invariant = { λ m. IsMemory (setting m.founded.now m.x.num m.x.den F) m.start.items m.base
+        m.raised m.lower m.upper.items m.table.items (vec_len m.low_values)
+        (vec_len m.high_values) };
 }
 
 impl<'a, const F: u32> Memo<'a, F> {
-    /// An oracle over the base, with no level raised.
+    /// An oracle over the base, whose lower sweeps start from zero, with no level raised.
     ///
     /// The base is post-fixed for this specification and x. Takes the memory of all six levels; no
     /// call of the memo takes any.
@@ -65,12 +71,40 @@ impl<'a, const F: u32> Memo<'a, F> {
     ) -> Result<Memo<'a, F>, AllocError>
         requires fraction_bits { (24 ≤ F) × (F ≤ 56) }
         requires belongs { IsPostFixed (setting founded.now x.num x.den F) base }
-        ensures made { IfOk result (λ memo. memo ≡ record { spec = founded.now; num = x.num; den = x.den; base = base.entry; raised = 0 }) }
+        ensures made { IfOk result (λ memo. memo ≡ record { spec = founded.now; num = x.num;
+            den = x.den; start = zeros (setting founded.now x.num x.den F); base = base.entry;
+            raised = 0 }) }
+    {
+        let system = founded.system();
+        system.known();
+        let start = vec![in alloc; 0; system.bodies().len()]?;
+        Memo::from_start(alloc, founded, x, base, start)
+    }
+
+    /// An oracle over the base, whose lower sweeps start from a vector that is reached, with no
+    /// level raised.
+    ///
+    /// The base is post-fixed for this specification and x. Takes the memory of all six levels; no
+    /// call of the memo takes any.
+    pub fn from_start(
+        alloc: Global,
+        founded: &'a Founded,
+        x: Fraction,
+        base: Base<F>,
+        start: Vec<u64>,
+    ) -> Result<Memo<'a, F>, AllocError>
+        requires fraction_bits { (24 ≤ F) × (F ≤ 56) }
+        requires belongs { IsPostFixed (setting founded.now x.num x.den F) base }
+        requires one_per_class { length start.items ≡ length founded.now.bodies }
+        requires reached { AreBelow founded.now (ratio x.num x.den) F start.items }
+        ensures made { IfOk result (λ memo. memo ≡ record { spec = founded.now; num = x.num;
+            den = x.den; start = start.items; base = base.entry; raised = 0 }) }
     {
         let system = founded.system();
         system.known();
         let nodes = system.nodes().len();
-        let lower = Lower::new(alloc, system)?;
+        let first = start.to_vec(alloc)?;
+        let lower = Lower::from_start(alloc, system, first)?;
         let upper = base.values().to_vec(alloc)?;
         let low_values = vec![in alloc; 0; nodes]?;
         let high_values = vec![in alloc; 0; nodes]?;
@@ -78,6 +112,7 @@ impl<'a, const F: u32> Memo<'a, F> {
         Ok(Memo {
             founded,
             x,
+            start,
             base,
             raised: 0,
             lower,
@@ -102,17 +137,21 @@ impl<'a, const F: u32> Memo<'a, F> {
         &self.base
     }
 
-    /// The lower class values of the highest raised level, and zeros where none is. Takes no memory.
+    /// The lower class values of the highest raised level, and the start where none is. Takes no
+    /// memory.
     pub fn lower(&self) -> &[u64]
-        ensures vector { result.now ≡ level_down (setting self.now.spec self.now.num self.now.den F) self.now.raised }
+        ensures vector { result.now ≡ level_down_from (setting self.now.spec self.now.num
+            self.now.den F) self.now.start self.now.raised }
         ensures one_per_class { length result.now ≡ length self.now.spec.bodies }
     {
         self.lower.values()
     }
 
-    /// The upper class values of the highest raised level, and the base where none is. Takes no memory.
+    /// The upper class values of the highest raised level, and the base where none is. Takes no
+    /// memory.
     pub fn upper(&self) -> &[u64]
-        ensures vector { result.now ≡ level_up (setting self.now.spec self.now.num self.now.den F) self.now.base self.now.raised }
+        ensures vector { result.now ≡ level_up (setting self.now.spec self.now.num self.now.den F)
+            self.now.base self.now.raised }
         ensures one_per_class { length result.now ≡ length self.now.spec.bodies }
     {
         self.upper.as_slice()
@@ -163,7 +202,8 @@ impl<'a, const F: u32> Oracle<F> for Memo<'a, F> {
 
     ghost x = { λ m. ratio m.num m.den };
 
-    ghost table = { λ m level node. level_bounds (setting m.spec m.num m.den F) m.base level node };
+    ghost table = { λ m level node. level_bounds_from (setting m.spec m.num m.den F) m.start m.base
+        level node };
 
     ghost raised = { λ m. m.raised };
 
@@ -190,7 +230,10 @@ impl<'a, const F: u32> Oracle<F> for Memo<'a, F> {
 }
 
 /// The upper value of each node at a post-fixed vector, where each node has one.
-fn eval_there<const F: u32, L: Ledger>(
+///
+/// `classes` has one entry per class and `nodes` one per node. `nodes` is overwritten. One tick.
+/// Takes no memory.
+pub fn eval_there<const F: u32, L: Ledger>(
     system: &System,
     x: Fraction,
     classes: &[u64],
@@ -202,6 +245,7 @@ fn eval_there<const F: u32, L: Ledger>(
     requires one_per_class { length classes.now ≡ length system.now.bodies }
     requires one_per_node { length nodes.old ≡ length system.now.nodes }
     ensures values { map Some nodes.new ≡ values_up (setting system.now x.num x.den F) classes.now }
+    ensures length { length nodes.new ≡ length nodes.old }
     ensures ticks { steps.new ≡ steps.old + 1 }
 {
     system.known();

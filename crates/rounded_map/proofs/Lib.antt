@@ -10,3 +10,4 @@ pub mod Bounding
 pub mod EachValued
 pub mod SlopesRunning
 pub mod Replaced
+pub mod SlopesLess

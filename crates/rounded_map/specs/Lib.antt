@@ -3,3 +3,4 @@ pub mod Bounding
 pub mod Derivative
 pub mod CountedKinds
 pub mod SlopeSums
+pub mod Contracting

@@ -97,7 +97,7 @@ fn number_of(value: Option<u64>) -> u64
 }
 
 /// The derivatives of all nodes, each where it has one.
-fn fill_derivatives<const F: u32>(
+pub(crate) fn fill_derivatives<const F: u32>(
     system: &System,
     values: &[u64],
     dual: &[u64],

@@ -7,12 +7,14 @@
 //! the exact values. No call takes memory, and each ticks once.
 #![tactic(auto)]
 
+pub mod contraction;
 pub mod dual;
 pub mod laws;
 pub mod lower;
 mod slopes;
 pub mod upper;
 
+pub use contraction::is_contracting;
 pub use dual::sweep_dual;
 pub use lower::{eval_lo, sweep_lo};
 pub use upper::{NoValue, PostFault, eval_hi, is_post_fixed, sweep_hi};

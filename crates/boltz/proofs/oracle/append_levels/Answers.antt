@@ -28,7 +28,7 @@ loop-before-preserved g c =
       same = now;
       told = levels_more t m.base c.lower.result.now c.upper.result.now c.loop-before.before c.args.text.now.items c.loop-before.text.items c.append_level.new.text.items
           c.loop-before.invariant.told
-          (lower_told m c.raise_to.new.self c.args.system.now g.row.F (c.loop-before.before + 1) c.lower.result.now now c.requires.same c.lower.ensures.vector)
+          (lower_told m c.raise_to.new.self c.args.system.now g.row.F (c.loop-before.before + 1) c.lower.result.now now c.requires.same c.requires.from_zero c.lower.ensures.vector)
           (upper_told m c.raise_to.new.self c.args.system.now g.row.F (c.loop-before.before + 1) c.upper.result.now now c.requires.same c.upper.ensures.vector)
           c.in_ok-append_level.ensures;
       ticks = level_ticks _ _ _ c.loop-before.memo.raised c.loop-before.before c.loop-before.invariant.ticks (ap (λ (k : Memory). k.raised) c.loop-before.invariant.same) c.raise_to.ensures.ticks;

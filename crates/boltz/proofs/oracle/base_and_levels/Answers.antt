@@ -1,10 +1,23 @@
-use Rattle.std.proofs.Common.{◌≡◌, ◌++◌, ◌∙◌, ap, subst, sym}
+use Rattle.std.proofs.Common.{◌≡◌, ◌++◌, ◌∙◌, ap, length, replicate, subst, sym, arith}
 use Rattle.bz_model.specs.Spec.{Spec}
-use Rattle.rounded_map.specs.RoundedMap.{setting}
+use Rattle.oracle_memo.specs.Memos.{Memory}
+use Rattle.rounded_map.specs.RoundedMap.{setting, IsPostFixed}
 use Rattle.boltz.specs.OracleCommand.{level_after}
 use Rattle.call_stages.specs.Lines.{certified_header, base_lines, lines_below, levels_end_line}
 use Rattle.boltz.proofs.Bounding.{joined_four, levels_of, base_lines_of}
 use Rattle.boltz.proofs.oracle.base_and_levels.Goals as goal
+
+-- no level is raised, and the lower sweeps start from zero
+pub append_levels-requires : goal.append_levels-requires
+append_levels-requires g c =
+    let made = c.in_ok-memo.ensures.made in
+    let same = c.system-system.ensures.system in
+    let zero : c.in_ok-memo.memo.start ≡ replicate (length c.system-system.result.now.bodies) 0 =
+    ap (λ (m : Memory). m.start) made ∙ ap (λ (s : Spec). replicate (length s.bodies) 0) (sym same) in
+    let fixed = subst (λ (s : Spec). IsPostFixed (setting s c.args.x.num c.args.x.den g.row.F) c.args.base) (sym same) c.requires.post_fixed in (
+      omega arith,
+      (c.requires.fraction_bits, (ap (λ (m : Memory). m.spec) made ∙ sym same, (ap (λ (m : Memory). m.raised) made, (zero, subst (λ (m : Memory). IsPostFixed (setting c.system-system.result.now m.num m.den g.row.F) m.base) (sym made) fixed)))),
+    )
 
 -- the header, the base, the levels and the last line are told
 pub returns-clause-text : goal.returns-clause-text

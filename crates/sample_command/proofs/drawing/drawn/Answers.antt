@@ -2,7 +2,7 @@ use Rattle.std.proofs.Common.{◌≡◌, ◌≤◌, ◌++◌, List, ℕ, refl, s
 use Rattle.bz_model.specs.Fraction.{ratio}
 use Rattle.bz_model.specs.Spec.{Spec}
 use Rattle.class_system.specs.Sound.{IsSound}
-use Rattle.oracle_memo.specs.Levels.{level_bounds, cost_at}
+use Rattle.oracle_memo.specs.Levels.{level_bounds, level_bounds_from, cost_at}
 use Rattle.oracle_memo.specs.Memos.{Memory}
 use Rattle.rounded_map.specs.RoundedMap.{setting}
 use Rattle.size_window.specs.Drawing.{ending_of, limits_of}
@@ -53,9 +53,9 @@ returns-in-Ok-draw_to_the_end-clause-ends g c = λ before below.
     c.in-Ok.ensures
     ∙ ap (λ (s : Spec). drawn_header (setting s c.args.x.num c.args.x.den g.row.F) c.values.result.now lim) c.system-system.ensures.system
     ∙ ap (λ (b : List ℕ). drawn_header t b lim) c.values.ensures.entries in
-    let under = starts-under-way c.args.founded.now (ratio memo.num memo.den) g.row.F (level_bounds (setting memo.spec memo.num memo.den g.row.F) memo.base) d.limits c.args.tape.source (g.S.Shelf.content c.args.shelf.now) before (g.S.Shelf.faults c.args.shelf.now) d c.args.tape.used memo.raised header c.in-Ok.page.items (g.K.Sink.written c.args.out.now) c.requires.unused c.in-Ok-new.ensures.start (ap (λ (m : Memory). m.raised) c.in-Ok-make.ensures.made) page in
+    let under = starts-under-way c.args.founded.now (ratio memo.num memo.den) g.row.F (level_bounds_from (setting memo.spec memo.num memo.den g.row.F) memo.start memo.base) d.limits c.args.tape.source (g.S.Shelf.content c.args.shelf.now) before (g.S.Shelf.faults c.args.shelf.now) d c.args.tape.used memo.raised header c.in-Ok.page.items (g.K.Sink.written c.args.out.now) c.requires.unused c.in-Ok-new.ensures.start (ap (λ (m : Memory). m.raised) c.in-Ok-make.ensures.made) page in
     let ended = c.in-Ok-draw_to_the_end.ensures.ended before below header (g.K.Sink.written c.args.out.now) under in
-    let over_base = subst (λ (m : Memory). IsOver c.args.founded.now (ratio m.num m.den) g.row.F (level_bounds (setting m.spec m.num m.den g.row.F) m.base) d.limits tape now used raised header (g.K.Sink.written c.args.out.now) (g.K.Sink.written c.draw_to_the_end.new.out) c.draw_to_the_end.new.page.items ending) c.in-Ok-make.ensures.made ended in
+    let over_base = subst (λ (m : Memory). IsOver c.args.founded.now (ratio m.num m.den) g.row.F (level_bounds_from (setting m.spec m.num m.den g.row.F) m.start m.base) d.limits tape now used raised header (g.K.Sink.written c.args.out.now) (g.K.Sink.written c.draw_to_the_end.new.out) c.draw_to_the_end.new.page.items ending) c.in-Ok-make.ensures.made ended in
     let over = subst (λ (l : Limits). IsOver c.args.founded.now (ratio c.args.x.num c.args.x.den) g.row.F (level_bounds t c.args.base) l tape now used raised header (g.K.Sink.written c.args.out.now) (g.K.Sink.written c.draw_to_the_end.new.out) c.draw_to_the_end.new.page.items ending) c.in-Ok-new.ensures.limits over_base in
     let closing = told_open ending ++ end_line (ending_word (ending_of ending)) c.counts.result.kept c.counts.result.thrown c.used.result c.counts.result.turns in
     let few = costs-from-none memo.raised raised c.args.steps.now c.draw_to_the_end.new.steps (ap (λ (m : Memory). m.raised) c.in-Ok-make.ensures.made) c.draw_to_the_end.ensures.levels c.draw_to_the_end.ensures.ticks in
@@ -77,9 +77,9 @@ returns-clause-ends g c = λ before below.
     c.in-Ok.ensures
     ∙ ap (λ (s : Spec). drawn_header (setting s c.args.x.num c.args.x.den g.row.F) c.values.result.now lim) c.system-system.ensures.system
     ∙ ap (λ (b : List ℕ). drawn_header t b lim) c.values.ensures.entries in
-    let under = starts-under-way c.args.founded.now (ratio memo.num memo.den) g.row.F (level_bounds (setting memo.spec memo.num memo.den g.row.F) memo.base) d.limits c.args.tape.source (g.S.Shelf.content c.args.shelf.now) before (g.S.Shelf.faults c.args.shelf.now) d c.args.tape.used memo.raised header c.in-Ok.page.items (g.K.Sink.written c.args.out.now) c.requires.unused c.in-Ok-new.ensures.start (ap (λ (m : Memory). m.raised) c.in-Ok-make.ensures.made) page in
+    let under = starts-under-way c.args.founded.now (ratio memo.num memo.den) g.row.F (level_bounds_from (setting memo.spec memo.num memo.den g.row.F) memo.start memo.base) d.limits c.args.tape.source (g.S.Shelf.content c.args.shelf.now) before (g.S.Shelf.faults c.args.shelf.now) d c.args.tape.used memo.raised header c.in-Ok.page.items (g.K.Sink.written c.args.out.now) c.requires.unused c.in-Ok-new.ensures.start (ap (λ (m : Memory). m.raised) c.in-Ok-make.ensures.made) page in
     let stopped = c.in-Err.ensures.broken before below header (g.K.Sink.written c.args.out.now) under in
-    let over_base = subst (λ (m : Memory). IsBroken c.args.founded.now (ratio m.num m.den) g.row.F (level_bounds (setting m.spec m.num m.den g.row.F) m.base) d.limits tape raised header (g.K.Sink.written c.args.out.now) (g.K.Sink.written c.draw_to_the_end.new.out)) c.in-Ok-make.ensures.made stopped in
+    let over_base = subst (λ (m : Memory). IsBroken c.args.founded.now (ratio m.num m.den) g.row.F (level_bounds_from (setting m.spec m.num m.den g.row.F) m.start m.base) d.limits tape raised header (g.K.Sink.written c.args.out.now) (g.K.Sink.written c.draw_to_the_end.new.out)) c.in-Ok-make.ensures.made stopped in
     let broken = subst (λ (l : Limits). IsBroken c.args.founded.now (ratio c.args.x.num c.args.x.den) g.row.F (level_bounds t c.args.base) l tape raised header (g.K.Sink.written c.args.out.now) (g.K.Sink.written c.draw_to_the_end.new.out)) c.in-Ok-new.ensures.limits over_base in
     let few = costs-from-none memo.raised raised c.args.steps.now c.draw_to_the_end.new.steps (ap (λ (m : Memory). m.raised) c.in-Ok-make.ensures.made) c.draw_to_the_end.ensures.levels c.draw_to_the_end.ensures.ticks in
     ends-stopped cost_at t.spec (ratio t.num t.den) t.bits (level_bounds t c.args.base) lim tape raised header (g.K.Sink.written c.args.out.now) (g.K.Sink.written c.draw_to_the_end.new.out) (g.K.Sink.faults c.args.out.now) (g.K.Sink.faults c.draw_to_the_end.new.out) c.args.steps.now c.draw_to_the_end.new.steps c.in-Err.stop c.status.result c.status.ensures broken few c.in-Err.ensures.cause

@@ -1,28 +1,19 @@
-use Rattle.std.proofs.Common.{◌≡◌, ◌∙◌, List, length, subst, sym, ap, arith}
+use Rattle.std.proofs.Common.{◌≡◌, ◌∙◌, List, ℕ, length, replicate, subst, sym, ap, arith}
+use Rattle.std.proofs.Math.ListN.{length-replicate}
 use Rattle.std.proofs.lemmas.List.{length-map}
-use Rattle.bz_model.specs.Spec.{Spec, Node}
-use Rattle.class_system.specs.Views.{spec_node}
-use Rattle.rounded_map.specs.RoundedMap.{setting}
-use Rattle.kleene_lower.specs.Lower.{AreSweepsOf}
-use Rattle.oracle_memo.proofs.Raising.{level_up-start}
-use Rattle.oracle_memo.proofs.RowByRow.{rows-none}
+use Rattle.bz_model.specs.Fraction.{ratio}
+use Rattle.bz_model.specs.Spec.{Spec}
+use Rattle.class_system.specs.Views.{number}
+use Rattle.class_system.specs.Sound.{IsSound}
+use Rattle.rounded_map.specs.Bounding.{AreBelow}
+use Rattle.rounded_map.proofs.Bounding.{sweeps-reached-at}
 use Rattle.oracle_memo.proofs.memo.Memo.make.Goals as goal
 
-pub invariant_of-result : goal.invariant_of-result
-invariant_of-result g c =
-    let t = setting c.args.founded.now c.args.x.num c.args.x.den g.row.F in
-    let nodes : length c.nodes-nodes.result.now ≡ length c.args.founded.now.nodes =
-    sym (length-map c.nodes-nodes.result.now spec_node) ∙ ap (λ (ns : List Node). length ns) c.nodes-nodes.ensures.nodes ∙ ap (λ (s : Spec). length s.nodes) c.system-system.ensures.system in
-    record {
-      bits = c.requires.fraction_bits;
-      post_fixed = c.requires.belongs;
-      few_levels = omega arith;
-      few_nodes = let same : length c.system-system.result.now.nodes ≡ length c.args.founded.now.nodes = ap (λ (s : Spec). length s.nodes) c.system-system.ensures.system in omega (arith, c.known.ensures.limits.nodes);
-      lower_is = subst (λ (s : Spec). AreSweepsOf (setting s c.args.x.num c.args.x.den g.row.F) c.in_ok-lower.lower) c.system-system.ensures.system (c.in_ok-lower.ensures.zero c.args.x.num c.args.x.den);
-      lower_done = c.in_ok-lower.ensures.none_done;
-      upper_is = c.in_ok-upper.ensures.items_if_clones_equal (λ x y h. h) ∙ c.values.ensures.entries ∙ level_up-start t c.args.base;
-      rows = rows-none t c.args.base c.in_ok-table.table.items;
-      room = omega (arith, c.in_ok-table.ensures.len, c.in_ok-table.table.ok.0);
-      low_values = c.in_ok-low_values.ensures.len ∙ nodes;
-      high_values = c.in_ok-high_values.ensures.len ∙ nodes;
-    }
+pub from_start-requires : goal.from_start-requires
+from_start-requires g c =
+    let s = c.args.founded.now in
+    let count : length c.bodies.result.now ≡ length s.bodies = sym (length-map c.bodies.result.now number) ∙ ap length c.bodies.ensures.bodies ∙ ap (λ (r : Spec). length r.bodies) c.system-system.ensures.system in
+    let items : c.in_ok-start.start.items ≡ replicate (length s.bodies) 0 = c.in_ok-start.ensures.items_if_clones_equal (λ y h. h) ∙ ap (λ (n : ℕ). replicate n 0) count in
+    let sound : IsSound s = subst IsSound c.system-system.ensures.system c.known.ensures.sound in
+    let below : AreBelow s (ratio c.args.x.num c.args.x.den) g.row.F (replicate (length s.bodies) 0) = sweeps-reached-at s c.args.x.num c.args.x.den g.row.F 0 sound c.args.x.den_in_limits.0 in
+    (omega arith, (omega arith, (c.requires.fraction_bits, (c.requires.belongs, (ap length items ∙ length-replicate (length s.bodies) 0, subst (λ v. AreBelow s (ratio c.args.x.num c.args.x.den) g.row.F v) (sym items) below)))))
