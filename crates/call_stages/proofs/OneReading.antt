@@ -3,6 +3,7 @@ use Rattle.std.proofs.Common.{◌≡◌, ◌≢◌, ℕ, zero, suc, ◌+◌, ◌
 use Rattle.std.specs.Prelude.{Option, Some, None, IfSome}
 use Rattle.bz_model.specs.Spec.{Spec}
 use Rattle.bz_model.specs.WellFounded.{IsWellFounded}
+use Rattle.class_system.specs.Limits.{IsWithinLimits}
 use Rattle.class_system.specs.Sound.{IsSound}
 use Rattle.spec_reader.specs.Reading.{Grammar, Refuses}
 use Rattle.spec_reader.specs.declared.fault.SpecFault.{SpecFault}
@@ -94,10 +95,10 @@ unfit-refused next bytes unfit status text ticks memory (stages.unfounded t caus
 unfit-refused next bytes unfit status text ticks memory (stages.no_memory says) = no-answer status [] text 0 ticks memory says
 unfit-refused next bytes unfit status text ticks memory (stages.founded t b g p) = absurd (unfit t b g)
 
-module _ (next : Spec → Outcome) (bytes : List ℕ) (ones : (s : Spec) → IsOne (next s)) (status other : Status) (text others : List ℕ) (ticks more : ℕ) (m : status ≢ Status.OutOfMemory) (n : other ≢ Status.OutOfMemory) where
+module _ (next : Spec → Outcome) (bytes : List ℕ) (ones : (s : Spec) → IsSound s → IsWithinLimits s → IsWellFounded s → IsOne (next s)) (status other : Status) (text others : List ℕ) (ticks more : ℕ) (m : status ≢ Status.OutOfMemory) (n : other ≢ Status.OutOfMemory) where
   judged-twice : Judged next bytes status text ticks → Judged next bytes other others more → (status ≡ other) × (text ≡ others)
   judged-twice (stages.no_memory says) q = no-answer status [] text 0 ticks m says
-  judged-twice (stages.founded s a g p) q = (ones s).one status other text others ticks more m n p (judged-only next bytes s a g other others more n q)
+  judged-twice (stages.founded s a g p) q = (ones s (sound bytes s a.stands) a.within g).one status other text others ticks more m n p (judged-only next bytes s a g other others more n q)
   judged-twice (stages.refused fault mem refuses says) (stages.no_memory says_too) = no-answer other [] others 0 more n says_too
   judged-twice (stages.refused fault mem refuses says) (stages.founded s a g p) = not-refused bytes s fault a mem refuses
   judged-twice (stages.refused fault mem refuses says) (stages.unfounded s cause a mem_too tells says_too) = not-refused bytes s fault a mem refuses
@@ -109,11 +110,18 @@ module _ (next : Spec → Outcome) (bytes : List ℕ) (ones : (s : Spec) → IsO
       let same = same-tables bytes s t a b in
       same-said Status.SpecRefused Status.SpecRefused status other (cause_line s cause) (cause_line t cause_too) text others 0 0 ticks more refl (ap (λ (u : Spec). cause_line u cause) same ∙ one-cause t cause cause_too mem mem_too (subst (λ (u : Spec). TellsCause u cause) same tells) tells_too) says says_too
 
+-- what comes next need have one outcome for sound specifications within the limits that are well founded alone
+pub one-judged-founded : (next : Spec → Outcome) (bytes : List ℕ) → ((s : Spec) → IsSound s → IsWithinLimits s → IsWellFounded s → IsOne (next s)) → IsOne (Judged next bytes)
+one-judged-founded next bytes ones = record { one = λ status other text others ticks more m n p q. judged-twice next bytes ones status other text others ticks more m n p q }
+
 pub one-judged : (next : Spec → Outcome) (bytes : List ℕ) → ((s : Spec) → IsOne (next s)) → IsOne (Judged next bytes)
-one-judged next bytes ones = record { one = λ status other text others ticks more m n p q. judged-twice next bytes ones status other text others ticks more m n p q }
+one-judged next bytes ones = one-judged-founded next bytes (λ s is_sound within founded. ones s)
+
+pub one-specified-founded : (f : Files) (file : List ℕ) (next : Spec → Outcome) → IsCalm f file → ((s : Spec) → IsSound s → IsWithinLimits s → IsWellFounded s → IsOne (next s)) → IsOne (Specified f file next)
+one-specified-founded f file next calm ones = one-read f file 65537 (Judged next) calm (λ bytes. one-judged-founded next bytes ones)
 
 pub one-specified : (f : Files) (file : List ℕ) (next : Spec → Outcome) → IsCalm f file → ((s : Spec) → IsOne (next s)) → IsOne (Specified f file next)
-one-specified f file next calm ones = one-read f file 65537 (Judged next) calm (λ bytes. one-judged next bytes ones)
+one-specified f file next calm ones = one-specified-founded f file next calm (λ s is_sound within founded. ones s)
 
 -- a search that has a base
 pub based-only : (t : Setting) (next : List ℕ → Outcome) (base : List ℕ) → base_of t ≡ Some base → (status : Status) (text : List ℕ) (ticks : ℕ) → status ≢ Status.OutOfMemory → Based t next status text ticks → (more : ℕ) × next base status text more

@@ -24,7 +24,7 @@ mod Resolving
 mod MovingOn
 mod Resuming
 mod Answering
-mod Agreeing
+pub mod Agreeing
 mod Arranging
 mod Shuffles
 mod Unarranged

@@ -1,0 +1,3 @@
+pub mod Feeds
+pub mod Judging
+pub mod OneObject
