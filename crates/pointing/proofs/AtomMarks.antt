@@ -1,18 +1,18 @@
 -- The marks of nodes and classes, as the code finds them.
 use Rattle.std.proofs.Common.{◌≡◌, ℕ, zero, suc, ◌+◌, ◌<◌, ◌≤◌, List, [], ◌∷◌, ◌++◌, take, map, length, arith, refl, sym, ◌∙◌, ap, Bool, true, false, Some, slice_get, get_or}
-use Rattle.std.specs.Prelude.{◌||◌, unwrap_or}
+use Rattle.std.specs.Prelude.{◌||◌}
 use Rattle.std.specs.List.{list_any}
 use Rattle.std.proofs.lemmas.List.{take_more, map-append}
-use Rattle.bz_model.specs.Spec.{Spec, Node, Range, node_at, range_at}
-use Rattle.class_system.specs.NodeResults.{node_results, ranged_nodes}
+use Rattle.bz_model.specs.Spec.{Spec, Node, Range, node_at}
+use Rattle.class_system.specs.NodeResults.{ranged_nodes}
 use Rattle.class_system.specs.Sound.{IsSound}
 use Rattle.class_system.specs.Views.{number}
 use Rattle.class_system.specs.declared.ids.ExprId.{ExprId}
 use Rattle.class_system.proofs.Results.{length-node_results, length-zip, take-at}
 use Rattle.class_system.proofs.Soundness.{has_range}
 use Rattle.well_founded.specs.EmptyObjects.{answer_at}
-use Rattle.pointing.specs.Forms.{Form, parts_from, found, node_form, all_forms, form_at, body_forms}
-use Rattle.pointing.specs.Atoms.{is_atomic, some_atomic, more_atomic}
+use Rattle.pointing.specs.Forms.{Form, parts_from, found, node_form, all_forms}
+use Rattle.pointing.specs.Atoms.{is_atomic, some_atomic}
 use Rattle.pointing.specs.PointedForm.{how_many}
 use Rattle.pointing.proofs.Reading.{result-at}
 

@@ -1,6 +1,6 @@
 -- The draft of a pointed specification, and what a refusal tells.
-use Rattle.std.proofs.Common.{◌≡◌, ◌≢◌, ℕ, ◌≤◌, List, [], ◌∷◌, ◌++◌, map, length, replicate, refl, sym, ◌∙◌, ap, subst, Bool, true, false, Some}
-use Rattle.bz_model.specs.Spec.{Spec, Mode, body_of}
+use Rattle.std.proofs.Common.{◌≡◌, ◌≢◌, ℕ, List, [], ◌++◌, map, replicate, sym, ◌∙◌, ap, subst, Bool, true, false}
+use Rattle.bz_model.specs.Spec.{Spec, Mode}
 use Rattle.class_system.specs.Drafting.{empty_draft}
 use Rattle.class_system.specs.Limits.{TellsLimit}
 use Rattle.class_system.specs.Sound.{IsSound}
@@ -43,7 +43,7 @@ drafted s cls l d is with_bodies = with_bodies ∙ (λ i. record {
 })
   where
     same : parts_from (pointed_parts cls (parts_from (body_forms s)) ++ map (copied cls) (body_forms s)) ≡ pointed_bodies cls (parts_from (body_forms s))
-    same = sym (joined-parts (pointed_parts cls (parts_from (body_forms s))) (map (copied cls) (body_forms s)) ) ∙ ap (joined (parts_from (pointed_parts cls (parts_from (body_forms s))))) (sym (copied-list cls (body_forms s)))
+    same = sym (joined-parts (pointed_parts cls (parts_from (body_forms s))) (map (copied cls) (body_forms s))) ∙ ap (joined (parts_from (pointed_parts cls (parts_from (body_forms s))))) (sym (copied-list cls (body_forms s)))
 
     bodies : l.draft.bodies ++ l.numbers ≡ tops 0 (pointed_bodies cls (parts_from (body_forms s)))
     bodies = ap (λ z. z ++ l.numbers) is.no_bodies ∙ is.numbered ∙ ap (tops 0) same

@@ -1,12 +1,12 @@
 -- What is laid out after one more node.
-use Rattle.std.proofs.Common.{◌≡◌, ℕ, zero, suc, ◌+◌, ◌-◌, ◌≤◌, ◌<◌, List, [], ◌∷◌, ◌++◌, take, drop, map, length, replicate, arith, refl, sym, ◌∙◌, ap, subst, append_assoc, append-nil, length-append, length-drop}
+use Rattle.std.proofs.Common.{◌≡◌, ℕ, zero, suc, ◌+◌, ◌-◌, ◌≤◌, ◌<◌, List, [], ◌∷◌, ◌++◌, take, drop, map, length, replicate, arith, refl, sym, ◌∙◌, ap, subst, append_assoc, append-nil, length-append}
 use Rattle.std.specs.Prelude.{Result, Ok, Err, OnOk, IfOk}
 use Rattle.std.proofs.lemmas.List.{take_all, length-map}
 use Rattle.class_system.specs.Views.{number}
 use Rattle.class_system.specs.declared.ids.ExprId.{ExprId}
-use Rattle.bz_model.specs.Spec.{Spec, Mode, Node, Range, plain_range}
+use Rattle.bz_model.specs.Spec.{Node, plain_range}
 use Rattle.class_system.specs.Drafting.{with_node}
-use Rattle.pointing.specs.Forms.{Form, Forms, end, also, parts_from}
+use Rattle.pointing.specs.Forms.{Form, Forms, parts_from}
 use Rattle.pointing.specs.LaidOut.{below, all_nodes, top, tops, laid, laid_each, plain}
 use Rattle.pointing.specs.Building.{Layout, IsLayout, put_together, choice_of}
 use Rattle.pointing.proofs.Laying.{length-laid, length-laid-each}
@@ -221,7 +221,6 @@ last-numbers all items parts old first n index same start is past so_far =
 pub first-numbers : (all front : List ExprId) (old : List ℕ) (first n : ℕ) → map number all ≡ old → first ≡ length all - n → front ≡ take first all → map number front ≡ take (length old - n) old
 first-numbers all front old first n same start is =
     ap (map number) is ∙ map-take number first all ∙ ap (take first) same ∙ ap (λ k. take k old) (start ∙ ap (λ k. k - n) (sym (length-map all number) ∙ ap length same))
-
 
 pub if-ok : {T E : Type 0} {P Q : T → Type 0} (r : Result T E) → IfOk r P → ((t : T) → P t → Q t) → IfOk r Q
 if-ok (Ok t) p f = f t p

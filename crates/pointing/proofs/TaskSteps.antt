@@ -1,5 +1,5 @@
 -- The tasks that lay out forms: what each is replaced by makes the same forms.
-use Rattle.std.proofs.Common.{◌≡◌, ℕ, zero, suc, ◌+◌, ◌-◌, ◌≤◌, ◌<◌, List, [], ◌∷◌, ◌++◌, take, drop, map, length, arith, refl, sym, ◌∙◌, ap, subst, append_assoc, append-nil, length-append, Bool, true, false, Option, Some, None, slice_get, get_or, add-one, drop-cons, length-drop, inl, inr}
+use Rattle.std.proofs.Common.{◌≡◌, ℕ, zero, suc, ◌+◌, ◌-◌, ◌<◌, List, [], ◌∷◌, ◌++◌, take, drop, map, length, arith, refl, sym, ◌∙◌, ap, subst, append_assoc, append-nil, length-append, Bool, true, false, Option, Some, None, slice_get, get_or, add-one, drop-cons, length-drop, inl, inr}
 use Rattle.std.specs.Prelude.{option_to_list, if◌then◌else◌, ◌⊎◌}
 use Rattle.std.specs.List.{AllByRecursion}
 use Rattle.std.proofs.lemmas.List.{length-map, map-append, take_all, take_more}
@@ -7,15 +7,15 @@ use Rattle.std.proofs.lemmas.Option.{same_Some, slice_get-get_or}
 use Rattle.bz_model.specs.Spec.{Spec, Mode, Node, Range, node_at, plain_range}
 use Rattle.class_system.specs.Sound.{IsSound}
 use Rattle.class_system.specs.Views.{number, spec_node}
-use Rattle.class_system.specs.NodeOrder.{HasPart, parts_of}
+use Rattle.class_system.specs.NodeOrder.{parts_of}
 use Rattle.class_system.specs.declared.expr.Expr.{Expr}
 use Rattle.class_system.specs.declared.expr.Expr.TheVariants as expr
 use Rattle.class_system.specs.declared.ids.ExprId.{ExprId}
 use Rattle.class_system.proofs.Soundness.{part_in_range, body_in_range}
 use Rattle.well_founded.specs.EmptyObjects.{answer_at}
-use Rattle.pointing.specs.Forms.{Form, Forms, end, also, parts_from, joined, all_forms, form_at, found, body_forms, node_form}
+use Rattle.pointing.specs.Forms.{Form, Forms, also, parts_from, joined, all_forms, form_at, found, body_forms, node_form}
 use Rattle.pointing.specs.Atoms.{is_atomic}
-use Rattle.pointing.specs.PointedForm.{how_many, pointed, pointed_parts, one_pointed, one_of, copied, copied_each, around, mark_word, pointed_class, copied_class}
+use Rattle.pointing.specs.PointedForm.{how_many, pointed, pointed_parts, one_pointed, one_of, copied, copied_each, around}
 use Rattle.pointing.specs.LaidOut.{laid, plain}
 use Rattle.pointing.specs.Building.{Layout, IsLayout, put_together, choice_of, after_task, after_tasks, IsInside, alternative, alternatives, IsTaskDone}
 use Rattle.pointing.specs.declared.tasks.Task.{Task}

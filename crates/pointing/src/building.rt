@@ -176,18 +176,21 @@ fn point(
                 return Ok(());
             }
             let (copied, pointed) = (Task::Copy(*part), Task::Point(*part));
-            tasks.push_all(&[copied, Task::Seq, pointed, copied, Task::Seq, Task::Product(3)])
+            tasks.push_all(&[
+                copied,
+                Task::Seq,
+                pointed,
+                copied,
+                Task::Seq,
+                Task::Product(3),
+            ])
         }
         Expr::Set(_) | Expr::Cyc(_) => unreachable!(),
     }
 }
 
 /// For each part with an atom, the product with this part pointed and the others copied.
-fn alternatives(
-    alloc: Global,
-    nodes: &[bool],
-    parts: &[ExprId],
-) -> Result<Vec<Task>, AllocError>
+fn alternatives(alloc: Global, nodes: &[bool], parts: &[ExprId]) -> Result<Vec<Task>, AllocError>
     ensures { IfOk result (λ tasks. tasks.items
         ≡ alternatives (length parts.now) nodes.now [] parts.now) }
 {
@@ -201,11 +204,7 @@ fn alternatives(
 }
 
 /// Appends the product with the part at a place pointed and the others copied.
-fn push_alternative(
-    tasks: &mut Vec<Task>,
-    parts: &[ExprId],
-    i: usize,
-) -> Result<(), AllocError>
+fn push_alternative(tasks: &mut Vec<Task>, parts: &[ExprId], i: usize) -> Result<(), AllocError>
     requires there { i < length parts.now }
     ensures { OnOk result ((part : ExprId) → slice_get parts.now i ≡ Some part
         → tasks.new.items ≡ tasks.old.items

@@ -47,7 +47,8 @@ impl Layout {
     /// The draft, each form that is laid out in it being the body of a class.
     pub(crate) fn finish(self) -> Result<Draft, AllocError>
         ensures bodies { IfOk result (λ d. d ≡ record (self.draft) {
-            bodies = self.draft.bodies ++ self.numbers }) }
+          bodies = self.draft.bodies ++ self.numbers;
+        }) }
     {
         let mut draft = self.draft;
         for number in &self.numbers {

@@ -13,7 +13,8 @@ use std::alloc::{AllocError, Global};
 pub(crate) fn named_draft(alloc: Global, classes: &[bool]) -> Result<Draft, AllocError>
     requires few { length classes.now ≤ 64 }
     ensures { IfOk result (λ d. d ≡ record (empty_draft model.Mode.Unlabelled) {
-        names = pointed_names classes.now }) }
+      names = pointed_names classes.now;
+    }) }
 {
     let mut draft = Draft::new(alloc, Mode::Unlabelled);
     name_pointed(alloc, &mut draft, classes)?;
@@ -25,8 +26,10 @@ pub(crate) fn named_draft(alloc: Global, classes: &[bool]) -> Result<Draft, Allo
 fn name_pointed(alloc: Global, draft: &mut Draft, classes: &[bool]) -> Result<(), AllocError>
     requires few { length classes.now ≤ 64 }
     requires room { length draft.old.names ≤ 64 }
-    ensures ok { OnOk result (draft.new ≡ record (draft.old) { names = draft.old.names
-        ++ map (named (codes "P")) (marked_from 0 classes.now) }) }
+    ensures ok { OnOk result (draft.new ≡ record (draft.old) {
+      names = draft.old.names
+          ++ map (named (codes "P")) (marked_from 0 classes.now);
+    }) }
 {
     for class in 0..classes.len() {
         if classes[class] {
@@ -40,8 +43,10 @@ fn name_pointed(alloc: Global, draft: &mut Draft, classes: &[bool]) -> Result<()
 fn name_copies(alloc: Global, draft: &mut Draft, classes: &[bool]) -> Result<(), AllocError>
     requires few { length classes.now ≤ 64 }
     requires room { length draft.old.names ≤ 64 }
-    ensures ok { OnOk result (draft.new ≡ record (draft.old) { names = draft.old.names
-        ++ map (named (codes "K")) (all_from 0 classes.now) }) }
+    ensures ok { OnOk result (draft.new ≡ record (draft.old) {
+      names = draft.old.names
+          ++ map (named (codes "K")) (all_from 0 classes.now);
+    }) }
 {
     for class in 0..classes.len() {
         add_class(alloc, draft, format!(in alloc; "K{class}")?)?;

@@ -1,4 +1,4 @@
-use Rattle.std.proofs.Common.{[], ◌∙◌, ap, sym, map, take, get_or, length, arith}
+use Rattle.std.proofs.Common.{[], ◌∙◌, ap, map, get_or, arith}
 use Rattle.std.proofs.lemmas.Option.{slice_get-get_or}
 use Rattle.std.proofs.lemmas.List.{take_all}
 use Rattle.bz_model.specs.Spec.{Node}

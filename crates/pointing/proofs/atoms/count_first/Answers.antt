@@ -1,4 +1,4 @@
-use Rattle.std.proofs.Common.{arith, take, get_or, sym}
+use Rattle.std.proofs.Common.{arith, take, get_or}
 use Rattle.std.specs.Prelude.{false}
 use Rattle.pointing.proofs.AtomMarks.{count-next, count-one, count-none}
 use Rattle.pointing.proofs.atoms.count_first.Goals as goal

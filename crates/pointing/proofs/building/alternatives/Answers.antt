@@ -1,4 +1,4 @@
-use Rattle.std.proofs.Common.{◌++◌, [], ◌∙◌, ap, sym, length, get_or, take, drop, append-nil, refl}
+use Rattle.std.proofs.Common.{[], ◌∙◌, ap, sym, length, get_or, append-nil}
 use Rattle.std.proofs.lemmas.Option.{slice_get-get_or}
 use Rattle.std.specs.Prelude.{true, false}
 use Rattle.pointing.specs.Building.{alternatives}

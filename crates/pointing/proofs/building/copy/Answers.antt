@@ -2,8 +2,8 @@ use Rattle.std.proofs.Common.{◌∙◌, ◌++◌, ◌+◌, ◌∷◌, [], arith
 use Rattle.bz_model.specs.Spec.{Node}
 use Rattle.class_system.specs.Views.{spec_node, number}
 use Rattle.class_system.proofs.Soundness.{class_in_range}
-use Rattle.pointing.specs.Forms.{Form, all_forms, node_form}
-use Rattle.pointing.specs.PointedForm.{copied, how_many}
+use Rattle.pointing.specs.Forms.{Form}
+use Rattle.pointing.specs.PointedForm.{how_many}
 use Rattle.pointing.specs.declared.tasks.Task.TheVariants as task
 use Rattle.std.proofs.lemmas.List.{take_all}
 use Rattle.pointing.proofs.Layouts.{on-both}

@@ -1,6 +1,4 @@
-use Rattle.std.proofs.Common.{◌∙◌, ◌++◌, ◌∷◌, ap, sym, subst, map, append-nil}
-use Rattle.std.specs.Prelude.{option_to_list}
-use Rattle.class_system.specs.Views.{number}
+use Rattle.std.proofs.Common.{◌∙◌, ◌++◌, ap, subst, map, append-nil}
 use Rattle.pointing.specs.declared.tasks.Task.TheVariants as task
 use Rattle.pointing.proofs.TaskSteps.{IsUnderWay, under_way-on, under_way-end, under_way-start}
 use Rattle.pointing.proofs.building.lay_out.Goals as goal

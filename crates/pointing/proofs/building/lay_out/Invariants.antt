@@ -1,4 +1,3 @@
-use Rattle.std.proofs.Common.{length}
 use Rattle.pointing.proofs.TaskSteps.{IsUnderWay}
 use Rattle.pointing.proofs.building.lay_out.Given as goal
 

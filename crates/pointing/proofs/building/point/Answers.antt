@@ -1,5 +1,5 @@
 use Rattle.std.proofs.Common.{◌∙◌, ◌++◌, ◌∷◌, [], ap, sym, refl, map, length, Some, None}
-use Rattle.std.specs.Prelude.{true, false, if◌then◌else◌, option_map, cond}
+use Rattle.std.specs.Prelude.{option_map, cond}
 use Rattle.bz_model.specs.Spec.{Node}
 use Rattle.class_system.specs.Views.{spec_node, number}
 use Rattle.well_founded.specs.EmptyObjects.{answer_at}

@@ -1,8 +1,8 @@
-use Rattle.std.proofs.Common.{◌∙◌, ◌++◌, ◌+◌, ◌≤◌, ◌≡◌, length, arith, ap, take, map}
+use Rattle.std.proofs.Common.{◌∙◌, length, arith, ap, take}
 use Rattle.std.specs.Prelude.{codes}
 use Rattle.std.proofs.lemmas.List.{length-take-le}
 use Rattle.class_system.specs.Drafting.{with_name}
-use Rattle.pointing.specs.PointedSpec.{all_from, named}
+use Rattle.pointing.specs.PointedSpec.{named}
 use Rattle.pointing.proofs.NameSteps.{names-all, few-all}
 use Rattle.pointing.proofs.naming.name_copies.Goals as goal
 

@@ -1,8 +1,8 @@
-use Rattle.std.proofs.Common.{◌∙◌, ◌++◌, ◌+◌, ◌≤◌, ◌≡◌, length, arith, ap, take, map}
+use Rattle.std.proofs.Common.{◌∙◌, ◌++◌, length, arith, ap, take, map}
 use Rattle.std.specs.Prelude.{codes}
 use Rattle.std.proofs.lemmas.List.{length-take-le}
 use Rattle.class_system.specs.Drafting.{with_name}
-use Rattle.pointing.specs.PointedSpec.{marked_from, named}
+use Rattle.pointing.specs.PointedSpec.{named}
 use Rattle.pointing.proofs.NameSteps.{names-marked, names-unmarked, few-marked}
 use Rattle.pointing.proofs.naming.name_pointed.Goals as goal
 use Rattle.pointing.proofs.naming.name_pointed.Goals.{then-classes-class+in_ok-format+in_ok-add_class, else-classes-class}

@@ -1,4 +1,3 @@
-use Rattle.std.proofs.Common.{◌∙◌, ap, refl}
 use Rattle.pointing.specs.PointedSpec.{pointed_names}
 use Rattle.pointing.proofs.Layouts.{if-ok}
 use Rattle.pointing.proofs.Drafted.{layout-start, drafted}

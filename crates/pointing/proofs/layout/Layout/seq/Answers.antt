@@ -1,4 +1,4 @@
-use Rattle.std.proofs.Common.{◌∙◌, ap, length, ◌++◌, ◌∷◌, [], map, append-nil}
+use Rattle.std.proofs.Common.{◌∙◌, ap, length, ◌++◌, ◌∷◌, [], append-nil}
 use Rattle.std.specs.Prelude.{option_to_list, option_map}
 use Rattle.bz_model.specs.Spec.{Node, plain_range}
 use Rattle.class_system.specs.Drafting.{with_node}
