@@ -1,0 +1,118 @@
+//! Pointing a specification.
+ghost use Rattle.std.specs.Prelude.{◌≡◌, map, length, IfOk, OnOk, IfErr, IfSome, IfNone};
+ghost use Rattle.bz_model.specs.Spec as model;
+ghost use Rattle.class_system.specs.Limits.{IsWithinLimits};
+ghost use Rattle.pointing.specs.Atoms.{is_atomic};
+ghost use Rattle.pointing.specs.Calls.{IsFirstRanged, IsPointingOf, TellsFault};
+ghost use Rattle.pointing.specs.Forms.{all_forms};
+ghost use Rattle.pointing.specs.PointedSpec.{IsPlain, pointed_by, pointed_spec};
+
+use crate::atoms::{atomic_classes, atomic_nodes, is_marked};
+use crate::building::lay_out;
+use crate::fault::PointFault;
+use crate::layout::Layout;
+use crate::naming::named_draft;
+use class_system::draft::{Draft, Mode};
+use class_system::ids::ExprId;
+use class_system::limits::BuildFault;
+use class_system::ranges::plain;
+use class_system::system::System;
+use std::alloc::{AllocError, Global};
+use std::marker::Model;
+use well_founded::examination::Founded;
+
+/// A pointed specification, and which nodes of the given one have an object with an atom.
+#[derive(Drop)]
+pub struct Pointed {
+    system: System,
+    atomic: Vec<bool>,
+}
+
+impl Model for Pointed {
+    ghost use Rattle.pointing.specs.Calls.{Pointing};
+
+    ghost Value = { Pointing };
+
+    ghost view = { λ p. record { system = p.system; atomic = p.atomic.items } };
+}
+
+/// Points a specification: class `Pi` of the result has the objects of class i with one atom marked.
+///
+/// Refused are labels, then ranges that aren't plain, then a class 0 without an atom, then the limits
+/// of the pointed specification.
+pub fn point(alloc: Global, founded: &Founded) -> Result<Pointed, PointFault>
+    ensures system { IfOk result (λ p. p.system ≡ pointed_spec founded.now) }
+    ensures pointing { IfOk result (IsPointingOf founded.now) }
+    ensures plain { OnOk result (IsPlain founded.now) }
+    ensures limits { OnOk result (IsWithinLimits (pointed_spec founded.now)) }
+    ensures fault { IfErr result (TellsFault founded.now) }
+{
+    let system = founded.system();
+    if let Mode::Labelled = system.mode() {
+        return Err(PointFault::Labelled);
+    }
+    if let Some(e) = first_ranged(system) {
+        return Err(PointFault::Ranged(e));
+    }
+    founded.known();
+    system.known();
+    let classes = atomic_classes(alloc, system)?;
+    if !is_marked(&classes, 0) {
+        return Err(PointFault::NoAtom);
+    }
+    let atomic = atomic_nodes(alloc, system, &classes)?;
+    let draft = draft_of(alloc, system, &classes, &atomic)?;
+    match System::build(alloc, draft) {
+        Ok(system) => Ok(Pointed { system, atomic }),
+        Err(fault) => {
+            if let BuildFault::OutOfMemory = fault {
+                return Err(PointFault::OutOfMemory);
+            }
+            Err(PointFault::Limit(fault))
+        }
+    }
+}
+
+impl Pointed {
+    /// The pointed specification. Takes no memory.
+    pub fn system(&self) -> &System
+        ensures system { result.now ≡ self.now.system }
+    {
+        &self.system
+    }
+}
+
+/// The first node whose range isn't the plain one.
+fn first_ranged(system: &System) -> Option<ExprId>
+    requires unlabelled { system.now.mode ≡ model.Mode.Unlabelled }
+    ensures found { IfSome result (λ e. IsFirstRanged system.now e.0) }
+    ensures none { IfNone result (IsPlain system.now) }
+{
+    system.known();
+    for e in 0..system.node_count() {
+        if system.range(ExprId(e)) != plain(system.node(ExprId(e))) {
+            return Some(ExprId(e));
+        }
+    }
+    None
+}
+
+/// The draft of the pointed specification, from the classes and nodes that have an object with an
+/// atom.
+fn draft_of(
+    alloc: Global,
+    system: &System,
+    classes: &[bool],
+    nodes: &[bool],
+) -> Result<Draft, AllocError>
+    requires unlabelled { system.now.mode ≡ model.Mode.Unlabelled }
+    requires classes { length classes.now ≡ length system.now.names }
+    requires nodes { nodes.now ≡ map (is_atomic classes.now) (all_forms system.now) }
+    ensures { IfOk result (λ d. d ≡ pointed_by system.now classes.now) }
+{
+    system.known();
+    let draft = named_draft(alloc, classes)?;
+    let mut layout = Layout::new(alloc, draft);
+    lay_out(alloc, system, classes, nodes, &mut layout)?;
+    layout.finish()
+}
