@@ -24,7 +24,7 @@ use Rattle.call_stages.specs.Outcomes as outcomes
 use Rattle.sample_command.specs.Spelling.{Spells}
 use Rattle.sample_command.specs.Sweeps.{Gives, most_bits}
 use Rattle.sample_command.specs.Sweeps as sweeps
-use Rattle.sample_command.specs.UnderWay.{met, IsSoFar, CanTurn, IsAtEnd, IsUnderWay, IsOver, IsBroken, told_open}
+use Rattle.sample_command.specs.UnderWay.{met, IsCourseSoFar, IsSoFar, CanTurn, IsCourseAtEnd, IsUnderWay, IsOver, IsBroken, told_open}
 use Rattle.call_stages.specs.Reports.{stop_status}
 use Rattle.call_stages.specs.declared.report.Stop.{Stop}
 use Rattle.call_stages.specs.declared.report.Stop.TheVariants as stop
@@ -53,19 +53,28 @@ no-bits : (s : Spec) (F : ℕ) (table : (level node : ℕ) → Bounds) (limits :
 unfolding most_bits
 no-bits s F table limits bits = refl
 
-pub starts-so-far : (s : Spec) (x : Fraction) (F : ℕ) (table : (level node : ℕ) → Bounds) (limits : Limits) (source : TapeSource) (contents : List ℕ → Option (List ℕ)) (before now : List ℕ → ℕ) (d : DrawingState) (used : ℕ) → used ≡ 0 → state_of d 0 ≡ start → IsSoFar s x F table limits (met source contents before now) d used 0 []
-starts-so-far s x F table limits source contents before now d used none at = record {
+pub course-starts : (s : Spec) (x : Fraction) (F : ℕ) (table : (level node : ℕ) → Bounds) (limits : Limits) (source : TapeSource) (contents : List ℕ → Option (List ℕ)) (before now : List ℕ → ℕ) (d : DrawingState) (used : ℕ) → used ≡ 0 → state_of d 0 ≡ start → IsCourseSoFar s x F table limits (met source contents before now) d used 0
+course-starts s x F table limits source contents before now d used none at = record {
   course = at_start;
   state = sym at ∙ ap (state_of d) (sym none);
   goes = goes-start s x limits;
   by_bits = over (bits_of source contents);
   gives = sweeps.start refl refl;
-  lists = drawn.none refl refl;
 }
   where
     over : (bits : Option (ℕ → Option Bool)) → IfSome bits (IsCourseOver s F table limits (met source contents before now) at_start 0)
     over None = tt
     over (Some bits) = record { turns = 0; faults = λ n. None; caused = λ n given e. absurd (cc); same = refl; most = no-bits s F table limits bits }
+
+-- nothing is kept
+pub starts-empty : (s : Spec) (x : Fraction) (F : ℕ) (table : (level node : ℕ) → Bounds) (limits : Limits) (source : TapeSource) (contents : List ℕ → Option (List ℕ)) (before now : List ℕ → ℕ) (d : DrawingState) (used : ℕ) (none : used ≡ 0) (at : state_of d 0 ≡ start) → (course-starts s x F table limits source contents before now d used none at).course.entries ≡ []
+unfolding course-starts
+starts-empty s x F table limits source contents before now d used none at = refl
+
+-- so there are no lines
+pub starts-so-far : (s : Spec) (x : Fraction) (F : ℕ) (table : (level node : ℕ) → Bounds) (limits : Limits) (source : TapeSource) (contents : List ℕ → Option (List ℕ)) (before now : List ℕ → ℕ) (d : DrawingState) (used : ℕ) → used ≡ 0 → state_of d 0 ≡ start → IsSoFar s x F table limits (met source contents before now) d used 0 []
+unfolding course-starts
+starts-so-far s x F table limits source contents before now d used none at = record { so_far = course-starts s x F table limits source contents before now d used none at; lists = drawn.none refl refl }
 
 -- a drawing is under way, its header held back
 pub starts-under-way : (s : Spec) (x : Fraction) (F : ℕ) (table : (level node : ℕ) → Bounds) (limits : Limits) (source : TapeSource) (contents : List ℕ → Option (List ℕ)) (before now : List ℕ → ℕ) (d : DrawingState) (used raised : ℕ) (header page : List ℕ) (o : Option (List ℕ)) → used ≡ 0 → state_of d 0 ≡ start → raised ≡ 0 → page ≡ header → IsUnderWay s x F table limits (met source contents before now) d used raised header o o page
@@ -105,8 +114,8 @@ spells-over s F table limits t c given None over = tt
 spells-over s F table limits t c given (Some bits) over = subst (λ d. Spells d bits) (sym over.same) (spells_bits (sampling s F table limits bits) over.faults over.turns)
 
 -- a course so far is one of which memory may run out, or a write fail
-pub course-of : (s : Spec) (x : Fraction) (F : ℕ) (table : (level node : ℕ) → Bounds) (limits : Limits) (t : TapeMet) (d : DrawingState) (used given : ℕ) (lines : List ℕ) (h : IsSoFar s x F table limits t d used given lines) → IsCourse s x F table limits t h.course given
-course-of s x F table limits t d used given lines h = record {
+pub course-of : (s : Spec) (x : Fraction) (F : ℕ) (table : (level node : ℕ) → Bounds) (limits : Limits) (t : TapeMet) (d : DrawingState) (used given : ℕ) (h : IsCourseSoFar s x F table limits t d used given) → IsCourse s x F table limits t h.course given
+course-of s x F table limits t d used given h = record {
   follows = h.goes.follows;
   by_bits = h.by_bits;
   spells = spells-over s F table limits t h.course given (bits_of t.source t.contents) h.by_bits;
@@ -116,13 +125,13 @@ course-of s x F table limits t d used given lines h = record {
 -- a drawing that is under way, of which a prefix was written, may be broken off
 pub broken-off : (s : Spec) (x : Fraction) (F : ℕ) (table : (level node : ℕ) → Bounds) (limits : Limits) (t : TapeMet) (d : DrawingState) (used raised : ℕ) (header : List ℕ) (from now after : Option (List ℕ)) (page : List ℕ) (h : IsUnderWay s x F table limits t d used raised header from now page) → AppendsFront from after (header ++ h.lines) → IsBroken s x F table limits t raised header from after
 broken-off s x F table limits t d used raised header from now after page h front = record {
-  course = h.so_far.course;
+  course = h.so_far.so_far.course;
   given = h.given;
-  first = h.so_far.course.entries;
+  first = h.so_far.so_far.course.entries;
   others = [];
   lines = h.lines;
-  is_course = course-of s x F table limits t d used h.given h.lines h.so_far;
-  entries = sym (append-nil h.so_far.course.entries);
+  is_course = course-of s x F table limits t d used h.given h.so_far.so_far;
+  entries = sym (append-nil h.so_far.so_far.course.entries);
   lists = h.so_far.lists;
   raised_is = h.raised_is;
   front = front;
@@ -152,8 +161,8 @@ no-drawing cost s x F table limits t header o fb fa ticks = ends.out_of_memory r
 same-closing : (o p word : List ℕ) (k l m n u v r q : ℕ) → o ≡ p → k ≡ l → m ≡ n → u ≡ v → r ≡ q → o ++ end_line word k m u r ≡ p ++ end_line word l n v q
 same-closing o p word k l m n u v r q a b c d e = cc
 
-pub closing-is : (s : Spec) (x : Fraction) (F : ℕ) (table : (level node : ℕ) → Bounds) (limits : Limits) (t : TapeMet) (d : DrawingState) (used given : ℕ) (lines : List ℕ) (e : Told) (kept thrown bits turns : ℕ) (h : IsAtEnd s x F table limits t d used given lines e) → kept ≡ d.kept → thrown ≡ d.thrown → bits ≡ used → turns ≡ d.turns → told_open e ++ end_line (ending_word (ending_of e)) kept thrown bits turns ≡ closing_lines table h.so_far.course (ending_of e)
-closing-is s x F table limits t d used given lines e kept thrown bits turns h is_kept is_thrown are_bits are_turns =
+pub closing-is : (s : Spec) (x : Fraction) (F : ℕ) (table : (level node : ℕ) → Bounds) (limits : Limits) (t : TapeMet) (d : DrawingState) (used given : ℕ) (e : Told) (kept thrown bits turns : ℕ) (h : IsCourseAtEnd s x F table limits t d used given e) → kept ≡ d.kept → thrown ≡ d.thrown → bits ≡ used → turns ≡ d.turns → told_open e ++ end_line (ending_word (ending_of e)) kept thrown bits turns ≡ closing_lines table h.so_far.course (ending_of e)
+closing-is s x F table limits t d used given e kept thrown bits turns h is_kept is_thrown are_bits are_turns =
     let at = h.so_far.state in
     let c = h.so_far.course in
     let kept_at : c.state.kept ≡ d.kept = ap (λ (st : State). st.kept) at in
@@ -163,23 +172,23 @@ closing-is s x F table limits t d used given lines e kept thrown bits turns h is
     same-closing (told_open e) (open_lines table (ending_of e)) (ending_word (ending_of e)) kept c.state.kept thrown c.state.thrown bits c.state.attempt.used turns c.state.turns h.open_is (is_kept ∙ sym kept_at) (is_thrown ∙ sym thrown_at) (are_bits ∙ sym bits_at) (are_turns ∙ sym turns_at)
 
 -- a drawing that has come to its end is one that is drawn
-pub drawn-at-end : (s : Spec) (x : Fraction) (F : ℕ) (table : (level node : ℕ) → Bounds) (limits : Limits) (t : TapeMet) (d : DrawingState) (used given : ℕ) (lines : List ℕ) (e : Told) (h : IsAtEnd s x F table limits t d used given lines e) → IsDrawn s x F table limits t h.so_far.course given (ending_of e)
-drawn-at-end s x F table limits t d used given lines e h =
+pub drawn-at-end : (s : Spec) (x : Fraction) (F : ℕ) (table : (level node : ℕ) → Bounds) (limits : Limits) (t : TapeMet) (d : DrawingState) (used given : ℕ) (e : Told) (h : IsCourseAtEnd s x F table limits t d used given e) → IsDrawn s x F table limits t h.so_far.course given (ending_of e)
+drawn-at-end s x F table limits t d used given e h =
     let at = h.so_far.state in
     record {
-      course = course-of s x F table limits t d used given lines h.so_far;
+      course = course-of s x F table limits t d used given h.so_far;
       ended = ap (λ (st : State). st.ending) at ∙ ap (option_map ending_of) h.ended;
       kept = λ is. ap (λ (st : State). st.kept) at ∙ h.kept (done-told e is);
       out_of_turns = λ is. ap (λ (st : State). st.turns) at ∙ h.out_of_turns (limit-told e is);
       failed = λ is. h.failed (fault-told e is);
     }
 
-module _ (cost : ℕ → ℕ) (s : Spec) (x : Fraction) (F : ℕ) (table : (level node : ℕ) → Bounds) (limits : Limits) (t : TapeMet) (d : DrawingState) (used raised : ℕ) (header : List ℕ) (b m : Option (List ℕ)) (page : List ℕ) (e : Told) (over : IsOver s x F table limits t d used raised header b m page e) (fb fm : ℕ) (writes : fb ≤ fm) (tb ta : ℕ) (few : ta ≤ tb + cost raised) (closing : List ℕ) (is_closing : closing ≡ closing_lines table over.at_end.so_far.course (ending_of e)) where
+module _ (cost : ℕ → ℕ) (s : Spec) (x : Fraction) (F : ℕ) (table : (level node : ℕ) → Bounds) (limits : Limits) (t : TapeMet) (d : DrawingState) (used raised : ℕ) (header : List ℕ) (b m : Option (List ℕ)) (page : List ℕ) (e : Told) (over : IsOver s x F table limits t d used raised header b m page e) (fb fm : ℕ) (writes : fb ≤ fm) (tb ta : ℕ) (few : ta ≤ tb + cost raised) (closing : List ℕ) (is_closing : closing ≡ closing_lines table over.at_end.at_end.so_far.course (ending_of e)) where
   -- the steps are those that the bits given ask for
   few-given : ta ≤ tb + cost (level_for over.given)
   few-given = subst (λ n. ta ≤ tb + cost n) over.raised_is few
 
-  whole-text : over.held_is.sent ++ (page ++ closing) ≡ header ++ (over.lines ++ closing_lines table over.at_end.so_far.course (ending_of e))
+  whole-text : over.held_is.sent ++ (page ++ closing) ≡ header ++ (over.lines ++ closing_lines table over.at_end.at_end.so_far.course (ending_of e))
   whole-text =
       sym (append-twice over.held_is.sent page closing)
       ∙ ap (λ z. z ++ closing) (sym over.held_is.text_is)
@@ -191,11 +200,11 @@ module _ (cost : ℕ → ℕ) (s : Spec) (x : Fraction) (F : ℕ) (table : (leve
 
   -- the whole drawing, with this status
   is-drawn : (status : Status) (text : List ℕ) → status ≡ ending_status (ending_of e) → text ≡ page ++ closing → Drawn cost header s x F table limits t status (over.held_is.sent ++ text) (cost (level_for over.given))
-  is-drawn status text answered same = drawn.ended over.at_end.so_far.course over.given (ending_of e) over.lines (drawn-at-end s x F table limits t d used over.given over.lines e over.at_end) over.at_end.so_far.lists (record { status_is = answered; text_is = ap (λ z. over.held_is.sent ++ z) same ∙ whole-text; ticks_are = refl })
+  is-drawn status text answered same = drawn.ended over.at_end.at_end.so_far.course over.given (ending_of e) over.lines (drawn-at-end s x F table limits t d used over.given e over.at_end.at_end) over.at_end.lists (record { status_is = answered; text_is = ap (λ z. over.held_is.sent ++ z) same ∙ whole-text; ticks_are = refl })
 
   -- what was drawn, of which no closing was made
   is-so-far : (status : Status) → status ≡ Status.OutOfMemory → Drawn cost header s x F table limits t status (header ++ over.lines) (cost (level_for over.given))
-  is-so-far status lacks = drawn.so_far over.at_end.so_far.course over.given over.at_end.so_far.course.entries [] over.lines (course-of s x F table limits t d used over.given over.lines over.at_end.so_far) (sym (append-nil over.at_end.so_far.course.entries)) over.at_end.so_far.lists (record { status_is = lacks; text_is = refl; ticks_are = refl })
+  is-so-far status lacks = drawn.so_far over.at_end.at_end.so_far.course over.given over.at_end.at_end.so_far.course.entries [] over.lines (course-of s x F table limits t d used over.given over.at_end.at_end.so_far) (sym (append-nil over.at_end.at_end.so_far.course.entries)) over.at_end.lists (record { status_is = lacks; text_is = refl; ticks_are = refl })
 
   text-so-far : (a : Option (List ℕ)) (text : List ℕ) → text ≡ [] → AppendsFront m a text → AppendsFront b a (header ++ over.lines)
   text-so-far a text empty front = subst (AppendsFront b a) (sym over.held_is.text_is) (front-more b a over.held_is.sent page (subst (AppendsFront b a) (append-nil over.held_is.sent) (front-both b m a over.held_is.sent [] over.held_is.appends (subst (AppendsFront m a) empty front))))

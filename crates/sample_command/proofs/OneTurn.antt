@@ -32,7 +32,7 @@ use Rattle.sample_command.specs.Drawn.{TapeMet, HasFailed, sampling, IsCourseOve
 use Rattle.sample_command.specs.Drawn as drawn
 use Rattle.sample_command.specs.Sweeps.{Gives, node_bits, most_bits}
 use Rattle.sample_command.specs.Sweeps as sweeps
-use Rattle.sample_command.specs.UnderWay.{met, IsSoFar, HasCourse, CanTurn, IsAtEnd, told_open}
+use Rattle.sample_command.specs.UnderWay.{met, IsCourseSoFar, IsSoFar, HasCourse, CanTurn, IsCourseAtEnd, IsAtEnd, told_open}
 use Rattle.call_stages.specs.Lines.{open_line}
 use Rattle.sample_command.proofs.KeptObjects.{kept-is-of}
 
@@ -128,17 +128,6 @@ pub record TellsTurn (s : Spec) (x : Fraction) (F : ℕ) (table : (level node : 
   pub cause : a ≡ answer.Finished told.ReadFault → HasFault source old new
   pub turn : IsTurn s x F table (bits_of source contents) d start a now used
 
--- A course of which the lines of the first entries are known.
-pub record HasLinesBefore (s : Spec) (x : Fraction) (F : ℕ) (table : (level node : ℕ) → Bounds) (limits : Limits) (t : TapeMet) (given : ℕ) (lines : List ℕ) : Type 0 where
-  pub course : Course
-  pub goes : Goes s x limits course
-  pub by_bits : IfSome (bits_of t.source t.contents) (IsCourseOver s F table limits t course given)
-  pub gives : Gives course given
-  pub first : List Entry
-  pub others : List Entry
-  pub entries : course.entries ≡ first ++ others
-  pub lists : Lists s first lines
-
 module _ (s : Spec) (x : Fraction) (F : ℕ) (table : (level node : ℕ) → Bounds) (limits : Limits) (source : TapeSource) (contents : List ℕ → Option (List ℕ)) (old new : List ℕ → ℕ) (d now : DrawingState) (start used : ℕ) (a : Answer) (h : TellsTurn s x F table limits source contents old new d now start used a) where
   goes-within : (c : Course) → c.state ≡ state_of d start → Goes s x limits c → Goes s x limits (followed_by c h.turn.turned)
   goes-within c at g = subst (λ l. Goes s x l (followed_by c h.turn.turned)) h.within (h.turn.goes c at (subst (λ l. Goes s x l c) (sym h.within) g))
@@ -193,30 +182,27 @@ module _ (s : Spec) (x : Fraction) (F : ℕ) (table : (level node : ℕ) → Bou
     lists-on c lines more None l none = subst (λ es. Lists s es (lines ++ more)) (sym (append-nil c.entries)) (subst (Lists s c.entries) (sym (ap (λ m. lines ++ m) none ∙ append-nil lines)) l)
     lists-on c lines more (Some e) l of = drawn.one_more c.entries e lines more l of refl refl
 
-    -- the course after the turn, with the lines of the entry that it kept
-    pub so-far-on : (given : ℕ) (lines more : List ℕ) → Appended s (told_entry a) more → IsSoFar s x F table limits (met source contents before old) d start given lines → IsSoFar s x F table limits (met source contents before new) now used (max given (bits_given d.waiting (used - start))) (lines ++ more)
+    -- the course after the turn
+    pub course-so-far-on : (given : ℕ) → IsCourseSoFar s x F table limits (met source contents before old) d start given → IsCourseSoFar s x F table limits (met source contents before new) now used (max given (bits_given d.waiting (used - start)))
     unfolding bits
-    so-far-on given lines more appended p = record {
+    course-so-far-on given p = record {
       course = followed_by p.course h.turn.turned;
       state = h.turn.state;
       goes = goes-within p.course p.state p.goes;
       by_bits = over-on p.course given p.state (bits_of source contents) p.by_bits h.turn.exact;
       gives = sweeps.one_more p.course given h.turn.turned p.gives refl (ap (λ n. max given n) (bits-are p.course p.state));
-      lists = subst (λ o. Lists s (p.course.entries ++ option_to_list o) (lines ++ more)) (sym h.turn.entry) (lists-on p.course lines more (told_entry a) p.lists appended);
     }
 
-    -- that course as one so far, of which the lines of the entries before the turn are known
-    pub course-after : (given : ℕ) (lines : List ℕ) → IsSoFar s x F table limits (met source contents before old) d start given lines → HasLinesBefore s x F table limits (met source contents before new) (max given (bits_given d.waiting (used - start))) lines
-    unfolding bits
-    course-after given lines p = record {
-      course = followed_by p.course h.turn.turned;
-      goes = goes-within p.course p.state p.goes;
-      by_bits = over-on p.course given p.state (bits_of source contents) p.by_bits h.turn.exact;
-      gives = sweeps.one_more p.course given h.turn.turned p.gives refl (ap (λ n. max given n) (bits-are p.course p.state));
-      first = p.course.entries;
-      others = option_to_list h.turn.turned.entry;
-      entries = refl;
-      lists = p.lists;
+    -- its entries are those before the turn, and the one that the turn kept
+    pub entries-on : (given : ℕ) (p : IsCourseSoFar s x F table limits (met source contents before old) d start given) → (course-so-far-on given p).course.entries ≡ p.course.entries ++ option_to_list (told_entry a)
+    unfolding course-so-far-on
+    entries-on given p = ap (λ o. p.course.entries ++ option_to_list o) h.turn.entry
+
+    -- that course, with the lines of its entries
+    pub so-far-on : (given : ℕ) (lines more : List ℕ) → Appended s (told_entry a) more → IsSoFar s x F table limits (met source contents before old) d start given lines → IsSoFar s x F table limits (met source contents before new) now used (max given (bits_given d.waiting (used - start))) (lines ++ more)
+    so-far-on given lines more appended p = record {
+      so_far = course-so-far-on given p.so_far;
+      lists = subst (λ es. Lists s es (lines ++ more)) (sym (entries-on given p.so_far)) (lists-on p.so_far.course lines more (told_entry a) p.lists appended);
     }
 
 abbrev bounds : (lo hi : ℕ) → Bounds
@@ -248,15 +234,25 @@ pub turns-one : (ending : Option Told) (a : Answer) → ending ≡ None → turn
 turns-one ending a none one = ap (λ o. turns_by o a) none ∙ one
 
 -- a drawing that ended in this turn has come to its end
-pub at-end : (s : Spec) (x : Fraction) (F : ℕ) (table : (level node : ℕ) → Bounds) (limits : Limits) (source : TapeSource) (contents : List ℕ → Option (List ℕ)) (old new : List ℕ → ℕ) (d now : DrawingState) (start used : ℕ) (e : Told) → TellsTurn s x F table limits source contents old new d now start used (answer.Finished e) → IsCounted d (answer.Finished e) now → ((answer.Finished e ≡ answer.Finished told.Done) → d.kept ≡ d.limits.count) → ((answer.Finished e ≡ answer.Finished told.TurnLimit) → d.turns ≡ d.limits.turns) → TellsOpen table (answer.Finished e) → (before : List ℕ → ℕ) → ((name : List ℕ) → before name ≤ old name) → (given : ℕ) (lines : List ℕ) → IsSoFar s x F table limits (met source contents before old) d start given lines → IsAtEnd s x F table limits (met source contents before new) now used (max given (bits_given d.waiting (used - start))) lines e
-at-end s x F table limits source contents old new d now start used e h counted done turn_limit tells_open before below given lines p = record {
-  so_far = subst (IsSoFar s x F table limits (met source contents before new) now used (max given (bits_given d.waiting (used - start)))) (append-nil lines) (so-far-on s x F table limits source contents old new d now start used (answer.Finished e) h before below given lines [] refl p);
+pub course-at-end : (s : Spec) (x : Fraction) (F : ℕ) (table : (level node : ℕ) → Bounds) (limits : Limits) (source : TapeSource) (contents : List ℕ → Option (List ℕ)) (old new : List ℕ → ℕ) (d now : DrawingState) (start used : ℕ) (e : Told) → TellsTurn s x F table limits source contents old new d now start used (answer.Finished e) → IsCounted d (answer.Finished e) now → ((answer.Finished e ≡ answer.Finished told.Done) → d.kept ≡ d.limits.count) → ((answer.Finished e ≡ answer.Finished told.TurnLimit) → d.turns ≡ d.limits.turns) → TellsOpen table (answer.Finished e) → (before : List ℕ → ℕ) → ((name : List ℕ) → before name ≤ old name) → (given : ℕ) → IsCourseSoFar s x F table limits (met source contents before new) now used given → IsCourseAtEnd s x F table limits (met source contents before new) now used given e
+course-at-end s x F table limits source contents old new d now start used e h counted done turn_limit tells_open before below given p = record {
+  so_far = p;
   ended = counted.ending;
   kept = λ is. let all = done (ap answer.Finished is) in let one = count-same d.limits limits h.within in let same = counted.kept in omega (arith, all, one, same);
   out_of_turns = λ is. let all = turn_limit (ap answer.Finished is) in let most = turns-same d.limits limits h.within in let same = counted.turns in let none = turns-none d.ending e h.goes_on is in omega (arith, all, most, same, none);
   failed = λ is. failed-since source before old new below (h.cause (ap answer.Finished is));
   open_is = open-told table e tells_open;
 }
+
+-- and the lines of its entries are those before the turn
+pub at-end : (s : Spec) (x : Fraction) (F : ℕ) (table : (level node : ℕ) → Bounds) (limits : Limits) (source : TapeSource) (contents : List ℕ → Option (List ℕ)) (old new : List ℕ → ℕ) (d now : DrawingState) (start used : ℕ) (e : Told) → TellsTurn s x F table limits source contents old new d now start used (answer.Finished e) → IsCounted d (answer.Finished e) now → ((answer.Finished e ≡ answer.Finished told.Done) → d.kept ≡ d.limits.count) → ((answer.Finished e ≡ answer.Finished told.TurnLimit) → d.turns ≡ d.limits.turns) → TellsOpen table (answer.Finished e) → (before : List ℕ → ℕ) → ((name : List ℕ) → before name ≤ old name) → (given : ℕ) (lines : List ℕ) → IsSoFar s x F table limits (met source contents before old) d start given lines → IsAtEnd s x F table limits (met source contents before new) now used (max given (bits_given d.waiting (used - start))) lines e
+unfolding course-at-end
+at-end s x F table limits source contents old new d now start used e h counted done turn_limit tells_open before below given lines p =
+    let on = so-far-on s x F table limits source contents old new d now start used (answer.Finished e) h before below given lines [] refl p in
+    record {
+      at_end = course-at-end s x F table limits source contents old new d now start used e h counted done turn_limit tells_open before below (max given (bits_given d.waiting (used - start))) on.so_far;
+      lists = subst (Lists s on.so_far.course.entries) (append-nil lines) on.lists;
+    }
 
 -- a drawing that goes on can make another turn
 pub can-turn-on : (s : Spec) (x : Fraction) (F : ℕ) (table : (level node : ℕ) → Bounds) (limits : Limits) (source : TapeSource) (contents : List ℕ → Option (List ℕ)) (old new : List ℕ → ℕ) (d now : DrawingState) (before_tape tape : TapeState) (a : Answer) → TellsTurn s x F table limits source contents old new d now before_tape.used tape.used a → CanTurn s x contents limits d before_tape → IsCounted d a now → turns_by None a ≡ 1 → ending_by d.ending a ≡ d.ending → DrawingBelongs s x now → Belongs contents tape → CanTurn s x contents limits now tape × (now.turns ≡ d.turns + 1)

@@ -1,11 +1,11 @@
 -- Drawings under way, with one turn more.
 use Rattle.std.proofs.Common.{◌≡◌, ℕ, ◌+◌, ◌-◌, ◌≤◌, max, List, [], ◌++◌, refl, sym, ◌∙◌, ap, subst, arith, append_assoc}
-use Rattle.std.specs.Prelude.{Option, Some, None, IfSome, slice_index}
+use Rattle.std.specs.Prelude.{Option, Some, None, option_to_list, slice_index}
 use Rattle.bz_model.specs.declared.cell.Bounds.{Bounds}
 use Rattle.bz_model.specs.Fraction.{Fraction}
 use Rattle.bz_model.specs.Spec.{Spec}
 use Rattle.bz_outside.specs.Outside.{AppendsFront}
-use Rattle.bit_tape.specs.Tape.{TapeSource, bits_of}
+use Rattle.bit_tape.specs.Tape.{TapeSource}
 use Rattle.choice_draw.specs.Decision.{level_for}
 use Rattle.size_window.specs.declared.ending.Ending.{Ending as Told}
 use Rattle.size_window.specs.declared.turned.Turned.{Turned as Answer}
@@ -20,9 +20,9 @@ use Rattle.oracle_memo.specs.Levels.{cost_at, costs}
 use Rattle.oracle_memo.proofs.Raising.{costs-at}
 use Rattle.sample_command.specs.Drawn.{TapeMet}
 use Rattle.sample_command.specs.UnderWay.{met, IsSoFar, IsAtEnd, IsUnderWay, IsOver, IsBroken}
-use Rattle.sample_command.proofs.AtTheEnd.{spells-over, broken-off}
+use Rattle.sample_command.proofs.AtTheEnd.{course-of, broken-off}
 use Rattle.call_stages.proofs.Held.{held-more, held-front}
-use Rattle.sample_command.proofs.OneTurn.{Appended, TellsTurn, so-far-on, course-after, at-end}
+use Rattle.sample_command.proofs.OneTurn.{Appended, TellsTurn, course-so-far-on, entries-on, so-far-on, at-end}
 
 -- the level for more bits is the greater one
 level-max : (a b : ℕ) → max (level_for a) (level_for b) ≡ level_for (max a b)
@@ -45,21 +45,17 @@ module _ (s : Spec) (x : Fraction) (F : ℕ) (table : (level node : ℕ) → Bou
   -- the lines of what was kept could not be made
   pub broken-on : IsBroken s x F table limits (met source contents before new) raised_now header from at
   broken-on =
-      let c = course-after s x F table limits source contents old new d now start used a h before below p.given p.lines p.so_far in
+      let most = max p.given (bits_given d.waiting (used - start)) in
+      let on = course-so-far-on s x F table limits source contents old new d now start used a h before below p.given p.so_far.so_far in
       record {
-        course = c.course;
-        given = max p.given (bits_given d.waiting (used - start));
-        first = c.first;
-        others = c.others;
+        course = on.course;
+        given = most;
+        first = p.so_far.so_far.course.entries;
+        others = option_to_list (told_entry a);
         lines = p.lines;
-        is_course = record {
-          follows = c.goes.follows;
-          by_bits = c.by_bits;
-          spells = spells-over s F table limits (met source contents before new) c.course (max p.given (bits_given d.waiting (used - start))) (bits_of source contents) c.by_bits;
-          gives = c.gives;
-        };
-        entries = c.entries;
-        lists = c.lists;
+        is_course = course-of s x F table limits (met source contents before new) now used most on;
+        entries = entries-on s x F table limits source contents old new d now start used a h before below p.given p.so_far.so_far;
+        lists = p.so_far.lists;
         raised_is = raised-for raised raised_now p.given (bits_given d.waiting (used - start)) p.raised_is raises;
         front = held-front from at page (header ++ p.lines) p.held_is;
       }

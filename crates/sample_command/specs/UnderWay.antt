@@ -22,14 +22,18 @@ use Rattle.sample_command.specs.Sweeps.{Gives}
 abbrev pub met : (source : TapeSource) (contents : List ℕ → Option (List ℕ)) (before now : List ℕ → ℕ) → TapeMet
 met source contents before now = record { source = source; contents = contents; before = before; now = now }
 
--- A course so far: its state is that of a drawing, this many bits being used. It goes as ideal runs do, and where the tape is known it is the course over the tape's bits. One number of a choice node was given at most so many bits in a turn. The lines of its entries are these.
-pub record IsSoFar (s : Spec) (x : Fraction) (F : ℕ) (table : (level node : ℕ) → Bounds) (limits : Limits) (t : TapeMet) (d : DrawingState) (used given : ℕ) (lines : List ℕ) : Type 0 where
+-- A course so far: its state is that of a drawing, this many bits being used. It goes as ideal runs do, and where the tape is known it is the course over the tape's bits. One number of a choice node was given at most so many bits in a turn.
+pub record IsCourseSoFar (s : Spec) (x : Fraction) (F : ℕ) (table : (level node : ℕ) → Bounds) (limits : Limits) (t : TapeMet) (d : DrawingState) (used given : ℕ) : Type 0 where
   pub course : Course
   pub state : course.state ≡ state_of d used
   pub goes : Goes s x limits course
   pub by_bits : IfSome (bits_of t.source t.contents) (IsCourseOver s F table limits t course given)
   pub gives : Gives course given
-  pub lists : Lists s course.entries lines
+
+-- A course so far, of whose entries these are the lines.
+pub record IsSoFar (s : Spec) (x : Fraction) (F : ℕ) (table : (level node : ℕ) → Bounds) (limits : Limits) (t : TapeMet) (d : DrawingState) (used given : ℕ) (lines : List ℕ) : Type 0 where
+  pub so_far : IsCourseSoFar s x F table limits t d used given
+  pub lists : Lists s so_far.course.entries lines
 
 -- A drawing has a course that goes as ideal runs do, this many bits being used.
 pub record HasCourse (s : Spec) (x : Fraction) (limits : Limits) (d : DrawingState) (used : ℕ) : Type 0 where
@@ -53,13 +57,18 @@ told_open (Undecided (straddle.Label m cell)) = open_label_line m cell
 told_open _ = []
 
 -- A drawing has come to this end, and states why.
-pub record IsAtEnd (s : Spec) (x : Fraction) (F : ℕ) (table : (level node : ℕ) → Bounds) (limits : Limits) (t : TapeMet) (d : DrawingState) (used given : ℕ) (lines : List ℕ) (ending : Ending) : Type 0 where
-  pub so_far : IsSoFar s x F table limits t d used given lines
+pub record IsCourseAtEnd (s : Spec) (x : Fraction) (F : ℕ) (table : (level node : ℕ) → Bounds) (limits : Limits) (t : TapeMet) (d : DrawingState) (used given : ℕ) (ending : Ending) : Type 0 where
+  pub so_far : IsCourseSoFar s x F table limits t d used given
   pub ended : d.ending ≡ Some ending
   pub kept : ending ≡ Done → d.kept ≡ limits.count
   pub out_of_turns : ending ≡ TurnLimit → d.turns ≡ limits.turns
   pub failed : ending ≡ ReadFault → HasFailed t
   pub open_is : told_open ending ≡ open_lines table (ending_of ending)
+
+-- A drawing has come to this end, and these are the lines of its entries.
+pub record IsAtEnd (s : Spec) (x : Fraction) (F : ℕ) (table : (level node : ℕ) → Bounds) (limits : Limits) (t : TapeMet) (d : DrawingState) (used given : ℕ) (lines : List ℕ) (ending : Ending) : Type 0 where
+  pub at_end : IsCourseAtEnd s x F table limits t d used given ending
+  pub lists : Lists s at_end.so_far.course.entries lines
 
 -- A drawing is under way: its levels are raised for the bits that its numbers were given, and of the header with the lines of its entries a part was written and the rest is held back.
 pub record IsUnderWay (s : Spec) (x : Fraction) (F : ℕ) (table : (level node : ℕ) → Bounds) (limits : Limits) (t : TapeMet) (d : DrawingState) (used raised : ℕ) (header : List ℕ) (start now : Option (List ℕ)) (held : List ℕ) : Type 0 where

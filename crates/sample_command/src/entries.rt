@@ -104,7 +104,7 @@ fn open_of(alloc: Global, straddle: Straddle) -> Result<String, AllocError>
 }
 
 /// Why a drawing ended, as the last line tells it.
-fn word_of(ending: Ending) -> &'static str
+pub fn word_of(ending: Ending) -> &'static str
     ensures { result.now ≡ ending_word (ending_of ending) }
 {
     match ending {

@@ -60,7 +60,7 @@ returns-in-Ok-draw_to_the_end-clause-ends g c = λ before below.
     let closing = told_open ending ++ end_line (ending_word (ending_of ending)) c.counts.result.kept c.counts.result.thrown c.used.result c.counts.result.turns in
     let few = costs-from-none memo.raised raised c.args.steps.now c.draw_to_the_end.new.steps (ap (λ (m : Memory). m.raised) c.in-Ok-make.ensures.made) c.draw_to_the_end.ensures.levels c.draw_to_the_end.ensures.ticks in
     ends-drawn cost_at t.spec (ratio t.num t.den) t.bits (level_bounds t c.args.base) lim tape now used raised header (g.K.Sink.written c.args.out.now) (g.K.Sink.written c.draw_to_the_end.new.out) c.draw_to_the_end.new.page.items ending over (g.K.Sink.faults c.args.out.now) (g.K.Sink.faults c.draw_to_the_end.new.out) c.draw_to_the_end.ensures.writes c.args.steps.now c.draw_to_the_end.new.steps few closing
-    (closing-is t.spec (ratio t.num t.den) t.bits (level_bounds t c.args.base) lim tape now used over.given over.lines ending c.counts.result.kept c.counts.result.thrown c.used.result c.counts.result.turns over.at_end c.counts.ensures.kept c.counts.ensures.thrown c.used.ensures c.counts.ensures.turns)
+    (closing-is t.spec (ratio t.num t.den) t.bits (level_bounds t c.args.base) lim tape now used over.given ending c.counts.result.kept c.counts.result.thrown c.used.result c.counts.result.turns over.at_end.at_end c.counts.ensures.kept c.counts.ensures.thrown c.used.ensures c.counts.ensures.turns)
     (g.K.Sink.written c.finished.new.out) (g.K.Sink.faults c.finished.new.out) c.finished.result c.finished.ensures.ends
 
 -- it was broken off

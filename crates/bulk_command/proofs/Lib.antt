@@ -1,0 +1,10 @@
+pub mod Blocks
+pub mod Names
+pub mod Sounds
+pub mod Results
+pub mod Shows
+pub mod Depths
+pub mod WellFounded
+pub mod RunTurns
+pub mod RunEnds
+pub mod OneBulk

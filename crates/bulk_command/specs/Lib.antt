@@ -1,0 +1,5 @@
+pub mod BulkText
+pub mod BulkTables
+pub mod NoFiles
+pub mod BulkCommand
+pub mod Running

@@ -1,0 +1,188 @@
+//! Runs whose objects are counted and let go.
+ghost use Rattle.std.specs.Prelude.{◌≡◌, ℕ, ◌+◌, ◌≤◌, ◌++◌, IfOk, OnErr, string_bytes};
+ghost use Rattle.bz_model.specs.Oracle.{AreCosts, cost_between};
+ghost use Rattle.rounded_map.specs.RoundedMap.{setting, IsPostFixed};
+ghost use Rattle.size_window.specs.Drawing.{ending_of};
+ghost use Rattle.sample_command.specs.Drawn.{ending_word, ending_status};
+ghost use Rattle.sample_command.specs.UnderWay.{CanTurn, GoesOn};
+ghost use Rattle.call_stages.specs.Ends.{EndsBy, output};
+ghost use Rattle.call_stages.specs.Outcomes.{MaySay};
+ghost use Rattle.bulk_command.specs.BulkCommand.{run_counts, bulk_line, BulkDrawn};
+ghost use Rattle.bulk_command.specs.BulkText.{classes_of};
+ghost use Rattle.bulk_command.specs.NoFiles.{empty_files};
+ghost use Rattle.bulk_command.specs.Running.{tape_from, IsRunning, HasRun, AfterTurn};
+
+use crate::no_files::NoFiles;
+use crate::spec_text::class_count;
+use bit_tape::tape::Tape;
+use bz_model::fraction::Fraction;
+use bz_model::oracle::Oracle;
+use bz_model::steps::Steps;
+use bz_outside::sink::Sink;
+use call_stages::report::written;
+use call_stages::status::Status;
+use newton_upper::Base;
+use oracle_memo::Memo;
+use sample_command::entries::{status_of, word_of};
+use size_window::drawing::Drawing;
+use size_window::ending::Ending;
+use size_window::limits::{Counts, Limits};
+use size_window::turned::Turned;
+use std::alloc::{AllocError, Global};
+use std::sync::ledger::Ledger;
+use well_founded::examination::Founded;
+
+/// The greatest size that is kept.
+const MOST_ATOMS: u64 = 200;
+
+/// How many objects are kept for each one of `n`.
+const OBJECTS: u64 = 100;
+
+/// How many turns may be made.
+const TURNS: u64 = 50_000_000;
+
+/// Draws `100 * n` objects over the levels of the base, with the bits of the seed `n`, and writes a line.
+pub(crate) fn drawn<const F: u32, K: Sink, L: Ledger>(
+    alloc: Global,
+    founded: &Founded,
+    n: u64,
+    x: Fraction,
+    base: Base<F>,
+    out: &mut K,
+    steps: &mut Steps<L>,
+) -> Status
+    requires fraction_bits { (24 ≤ F) × (F ≤ 56) }
+    requires least { 1 ≤ n }
+    requires greatest { n ≤ 1000 }
+    requires post_fixed { IsPostFixed (setting founded.now x.num x.den F) base }
+    ensures ends { EndsBy (BulkDrawn n (setting founded.now x.num x.den F) base.entry) (output (K.written out.old) (K.written out.new) (K.faults out.old) (K.faults out.new) steps.old steps.new) result }
+    ensures writes { K.faults out.old ≤ K.faults out.new }
+{
+    let limits = Limits {
+        min: 0,
+        max: MOST_ATOMS,
+        count: OBJECTS * n,
+        turns: TURNS,
+    };
+    founded.system().known();
+    let Ok(mut memo) = Memo::make(alloc, founded, x, base) else {
+        return Status::OutOfMemory;
+    };
+    let Ok(mut drawing) = Drawing::new(alloc, founded, limits) else {
+        return Status::OutOfMemory;
+    };
+    memo.known();
+    let mut tape = Tape::seeded(n);
+    match draw_to_the_end::<F, _, L>(founded, &mut memo, &mut tape, &mut drawing, steps) {
+        Ok(ending) => finished(alloc, n, ending, drawing.counts(), tape.used(), out),
+        Err(_) => Status::OutOfMemory,
+    }
+}
+
+/// Writes the line of a run that has come to its end.
+fn finished<K: Sink>(
+    alloc: Global,
+    n: u64,
+    ending: Ending,
+    counts: Counts,
+    bits: u64,
+    out: &mut K,
+) -> Status
+    ensures ends { EndsBy (MaySay (ending_status (ending_of ending)) (bulk_line n (classes_of n) (ending_word (ending_of ending)) counts.kept counts.thrown counts.atoms bits counts.turns) 0) (output (K.written out.old) (K.written out.new) (K.faults out.old) (K.faults out.new) 0 0) result }
+    ensures writes { K.faults out.old ≤ K.faults out.new }
+{
+    match line(alloc, n, class_count(n), word_of(ending), counts, bits) {
+        Ok(line) => written(out, status_of(ending), line.as_bytes()),
+        Err(_) => Status::OutOfMemory,
+    }
+}
+
+/// The line of a run over so many classes that ended with this word.
+fn line(
+    alloc: Global,
+    n: u64,
+    classes: u64,
+    word: &str,
+    counts: Counts,
+    bits: u64,
+) -> Result<String, AllocError>
+    ensures { IfOk result (λ line. string_bytes line ≡ bulk_line n classes word.now counts.kept counts.thrown counts.atoms bits counts.turns) }
+{
+    let numbers = counted(alloc, counts, bits)?;
+    let mut line = format!(in alloc; "bulk {n} classes {classes} end {word}")?;
+    line.push_str(&numbers)?;
+    Ok(line)
+}
+
+/// What the line of a run counts.
+fn counted(alloc: Global, counts: Counts, bits: u64) -> Result<String, AllocError>
+    ensures { IfOk result (λ text. string_bytes text ≡ run_counts counts.kept counts.thrown counts.atoms bits counts.turns) }
+{
+    let (kept, thrown) = (counts.kept, counts.thrown);
+    let (atoms, turns) = (counts.atoms, counts.turns);
+    format!(in alloc; " kept {kept} thrown {thrown} atoms {atoms} bits {bits} turns {turns}\n")
+}
+
+/// Makes turns until the run ends.
+fn draw_to_the_end<const F: u32, O: Oracle<F>, L: Ledger>(
+    founded: &Founded,
+    oracle: &mut O,
+    tape: &mut Tape,
+    drawing: &mut Drawing,
+    steps: &mut Steps<L>,
+) -> Result<Ending, AllocError>
+    requires fraction { (24 ≤ F) × (F ≤ 56) }
+    requires spec { O.spec oracle.old ≡ founded.now }
+    requires costs { AreCosts (O.cost oracle.old) }
+    requires levels { O.raised oracle.old ≤ 6 }
+    requires can_turn { CanTurn founded.now (O.x oracle.old) empty_files drawing.old.limits drawing.old tape.old }
+    ensures ended { IfOk result (λ ending. IsRunning founded.now (O.x oracle.old) F (O.table oracle.old) drawing.old.limits (tape_from tape.old.source) drawing.old tape.old.used (O.raised oracle.old)
+        → HasRun founded.now (O.x oracle.old) F (O.table oracle.old) drawing.old.limits (tape_from tape.old.source) drawing.new tape.new.used (O.raised oracle.new) ending) }
+    ensures broken { OnErr result (IsRunning founded.now (O.x oracle.old) F (O.table oracle.old) drawing.old.limits (tape_from tape.old.source) drawing.old tape.old.used (O.raised oracle.old)
+        → IsRunning founded.now (O.x oracle.old) F (O.table oracle.old) drawing.old.limits (tape_from tape.old.source) drawing.new tape.new.used (O.raised oracle.new)) }
+    ensures cost { O.cost oracle.new ≡ O.cost oracle.old }
+    ensures ticks { steps.new ≤ steps.old + cost_between (O.cost oracle.old) (O.raised oracle.old) (O.raised oracle.new) }
+    ensures levels { O.raised oracle.new ≤ 6 }
+{
+    'turns: loop {
+        let Ok(turned) = turn_once(founded, oracle, tape, drawing, steps) else {
+            return Err(AllocError);
+        };
+        if let Some(ending) = turned {
+            return Ok(ending);
+        }
+    }
+}
+
+/// Makes one turn, and lets go what it kept.
+fn turn_once<const F: u32, O: Oracle<F>, L: Ledger>(
+    founded: &Founded,
+    oracle: &mut O,
+    tape: &mut Tape,
+    drawing: &mut Drawing,
+    steps: &mut Steps<L>,
+) -> Result<Option<Ending>, AllocError>
+    requires fraction { (24 ≤ F) × (F ≤ 56) }
+    requires spec { O.spec oracle.old ≡ founded.now }
+    requires can_turn { CanTurn founded.now (O.x oracle.old) empty_files drawing.old.limits drawing.old tape.old }
+    ensures turned { IfOk result (λ ending. IsRunning founded.now (O.x oracle.old) F (O.table oracle.old) drawing.old.limits (tape_from tape.old.source) drawing.old tape.old.used (O.raised oracle.old)
+        → AfterTurn founded.now (O.x oracle.old) F (O.table oracle.old) drawing.old.limits (tape_from tape.old.source) drawing.new tape.new.used (O.raised oracle.new) ending) }
+    ensures broken { OnErr result ((drawing.new ≡ drawing.old) × (tape.new ≡ tape.old) × (oracle.new ≡ oracle.old)) }
+    ensures goes_on { IfOk result (λ ending. GoesOn founded.now (O.x oracle.old) empty_files drawing.old.limits drawing.old drawing.new tape.new ending) }
+    ensures spec { O.spec oracle.new ≡ O.spec oracle.old }
+    ensures x { O.x oracle.new ≡ O.x oracle.old }
+    ensures table { O.table oracle.new ≡ O.table oracle.old }
+    ensures cost { O.cost oracle.new ≡ O.cost oracle.old }
+    ensures levels { O.raised oracle.old ≤ 6 → O.raised oracle.new ≤ 6 }
+    ensures raised { O.raised oracle.old ≤ O.raised oracle.new }
+    ensures ticks { steps.new ≤ steps.old + cost_between (O.cost oracle.old) (O.raised oracle.old) (O.raised oracle.new) }
+    ensures source { tape.new.source ≡ tape.old.source }
+{
+    let mut files = NoFiles;
+    match drawing.turn(founded, oracle, tape, &mut files, steps) {
+        Turned::Going => Ok(None),
+        Turned::Kept(_entry) => Ok(None),
+        Turned::Finished(ending) => Ok(Some(ending)),
+        Turned::OutOfMemory => Err(AllocError),
+    }
+}
