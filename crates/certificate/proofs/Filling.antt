@@ -12,15 +12,15 @@ pub cons-same : (a b : ℕ) (xs ys : List ℕ) → a ∷ xs ≡ b ∷ ys → (a 
 cons-same a b xs ys e = (cc, cc)
 
 -- a number sign takes the next number, another byte stands for itself
-sign-filled : (b : ℕ) (pattern ns : List ℕ) (next : ℕ) → b ≡ 35 → filled_from (b ∷ pattern) ns next ≡ decimal (get_or ns next 0) ++ filled_from pattern ns (suc next)
+pub sign-filled : (b : ℕ) (pattern ns : List ℕ) (next : ℕ) → b ≡ 35 → filled_from (b ∷ pattern) ns next ≡ decimal (get_or ns next 0) ++ filled_from pattern ns (suc next)
 unfolding filled_from
 sign-filled b pattern ns next e = let t : nat_eq b 35 ≡ true = eq-eqb b 35 e in rw t refl
 
-byte-filled : (b : ℕ) (pattern ns : List ℕ) (next : ℕ) → b ≢ 35 → filled_from (b ∷ pattern) ns next ≡ b ∷ filled_from pattern ns next
+pub byte-filled : (b : ℕ) (pattern ns : List ℕ) (next : ℕ) → b ≢ 35 → filled_from (b ∷ pattern) ns next ≡ b ∷ filled_from pattern ns next
 unfolding filled_from
 byte-filled b pattern ns next e = let t : nat_eq b 35 ≡ false = ne_eqb b 35 e in rw t refl
 
-nothing-filled : (ns : List ℕ) (next : ℕ) → filled_from [] ns next ≡ []
+pub nothing-filled : (ns : List ℕ) (next : ℕ) → filled_from [] ns next ≡ []
 unfolding filled_from
 nothing-filled ns next = refl
 

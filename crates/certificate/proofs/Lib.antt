@@ -1,6 +1,15 @@
 pub mod BaseFields
 pub mod CellFields
+pub mod CertificateWays
+pub mod Completions
+pub mod Distinct
+pub mod Feeds
 pub mod Filling
+pub mod FirstBad
+pub mod NextLines
 pub mod Numerals
+pub mod Parts
+pub mod ReadLines
+pub mod StageLines
 pub mod WordFronts
 pub mod Writing

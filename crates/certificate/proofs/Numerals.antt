@@ -27,7 +27,7 @@ digits-same (x ∷ xs) (y ∷ ys) r q h k m n e =
     let same : x ∷ xs ≡ y ∷ ys = cc (p.0, t.0) in
     (same, t.1)
 
-digits-in : (n : ℕ) → n < 2 ^ 64 → AllDigits 10 (decimal n)
+pub digits-in : (n : ℕ) → n < 2 ^ 64 → AllDigits 10 (decimal n)
 digits-in n h = (decimal_is_IsNumeral n h).0.1
 
 pub one-number : (text : List ℕ) (n m : ℕ) (r q : List ℕ) → BeginsNumber text n r → BeginsNumber text m q → (n ≡ m) × (r ≡ q)

@@ -29,7 +29,7 @@ pub(crate) fn is_printed(text: &[u8]) -> bool
 }
 
 /// Whether the numbers are those of a cell: from 1 to 60 bits, and below 1.
-fn is_cell(k: u64, b: u64) -> bool
+pub(crate) fn is_cell(k: u64, b: u64) -> bool
     ensures { IsTrue result ↔ IsCell k b }
 {
     1 <= b && b <= 60 && k < 1_u64 << b
@@ -120,7 +120,7 @@ fn before_space(text: &[u8]) -> usize
 
 /// The name and the value of a line of the base; `None` where it is no such line.
 pub(crate) fn base_of(line: &[u8]) -> Option<(&[u8], u64)>
-    ensures found { IfSome result (λ found. IsName found.0.now × (line.now ≡ base_line found.0.now found.1)) }
+    ensures found { IfSome result (λ found. IsName found.0.now × (found.1 < 2 ^ 64) × (line.now ≡ base_line found.0.now found.1)) }
     ensures none { IfNone result ((name : List ℕ) (value : ℕ) → IsName name → value < 2 ^ 64 → line.now ≢ base_line name value) }
 {
     let rest = behind_word(b"base ", line)?;

@@ -1,14 +1,22 @@
 //! Certificates: what a drawing prints, as values and as text.
 //!
-//! `certificate` and `closing` have the values, `write` gives their lines. The lines and their texts
-//! are defined in `specs/Lines.antt`, a certificate's lines in `specs/Certificates.antt`. A line of
-//! words and numbers is a pattern with numbers put in (`specs/Patterns.antt`); `fields` reads what
-//! stands in lines, exactly. No clause says that memory suffices.
+//! `certificate` and `closing` have the values, `write` gives their lines, `read` reads them. The lines
+//! and their texts are defined in `specs/Lines.antt`, a certificate's lines in
+//! `specs/Certificates.antt`. A line of words and numbers is a pattern with numbers put in
+//! (`specs/Patterns.antt`).
+//!
+//! A text is read exactly: what is read has this text, and a refusal names the first bad line
+//! (`specs/Reading.antt`). `specs/Stages.antt` says which line may stand next; `stages` reads the line in
+//! front of a text, by the readers of lines in `lines` and of fields in `fields`. No clause says that
+//! memory suffices.
 #![tactic(auto)]
 
 pub mod certificate;
 pub mod closing;
 pub mod digest;
 mod fields;
+mod lines;
 mod pattern;
+pub mod read;
+mod stages;
 pub mod write;

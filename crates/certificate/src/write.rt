@@ -157,7 +157,7 @@ fn push_open(text: &mut Vec<u8>, straddle: Option<Straddle>) -> Result<(), Alloc
 }
 
 /// The pattern of the last line, by why the drawing ended.
-fn pattern_of(word: ClosingWord) -> &'static [u8]
+pub(crate) fn pattern_of(word: ClosingWord) -> &'static [u8]
     ensures { result.now ≡ end_pattern word }
 {
     match word {

@@ -1,0 +1,52 @@
+-- Names of which none stands twice, one by one.
+use Rattle.std.specs.Prelude.{slice_get}
+use Rattle.std.proofs.Common.{◌≡◌, ℕ, zero, suc, ◌<◌, List, [], ◌∷◌, ◌++◌, length, Some, arith, refl, sym, ◌∙◌, ap, ◌⊎◌, inl, inr}
+use Rattle.class_system.specs.Distinct.{AreDistinct, IsMissing}
+
+at-append : (xs ys : List (List ℕ)) (i : ℕ) (w : List ℕ) → slice_get xs i ≡ Some w → slice_get (xs ++ ys) i ≡ Some w
+at-append [] ys i w e = absurd (cc)
+at-append (x ∷ xs) ys zero w e = e
+at-append (x ∷ xs) ys (suc i) w e = at-append xs ys i w e
+
+within : (xs : List (List ℕ)) (i : ℕ) (w : List ℕ) → slice_get xs i ≡ Some w → i < length xs
+within [] i w e = absurd (cc)
+within (x ∷ xs) zero w e = omega arith
+within (x ∷ xs) (suc i) w e = let h = within xs i w e in omega arith
+
+at-here : (before ws : List (List ℕ)) (w : List ℕ) → slice_get (before ++ w ∷ ws) (length before) ≡ Some w
+at-here [] ws w = refl
+at-here (v ∷ before) ws w = at-here before ws w
+
+-- Of names of which none stands twice, each is missing among those before it.
+pub missing-before : (before ws : List (List ℕ)) (w : List ℕ) → AreDistinct (before ++ w ∷ ws) → IsMissing w before
+missing-before before ws w d = record {
+  nowhere = λ i at.
+      let same : i ≡ length before = d.once i (length before) w (at-append before (w ∷ ws) i w at) (at-here before ws w) in
+      let h : i < length before = within before i w at in
+      absurd (omega arith);
+}
+
+-- What stands in a list with one more name stands in the list, or is that name in the last place.
+in-one-more : (xs : List (List ℕ)) (x : List ℕ) (i : ℕ) (w : List ℕ) → slice_get (xs ++ x ∷ []) i ≡ Some w → (slice_get xs i ≡ Some w) ⊎ ((i ≡ length xs) × (x ≡ w))
+in-one-more [] x zero w e = let same : x ≡ w = cc in inr (refl, same)
+in-one-more [] x (suc i) w e = absurd (cc)
+in-one-more (y ∷ xs) x zero w e = inl e
+in-one-more (y ∷ xs) x (suc i) w e = later (in-one-more xs x i w e)
+  where
+    later : (slice_get xs i ≡ Some w) ⊎ ((i ≡ length xs) × (x ≡ w)) → (slice_get xs i ≡ Some w) ⊎ ((suc i ≡ suc (length xs)) × (x ≡ w))
+    later (inl f) = inl f
+    later (inr f) = inr (ap suc f.0, f.1)
+
+-- One more name that is missing keeps names distinct.
+pub distinct-more : (names : List (List ℕ)) (name : List ℕ) → AreDistinct names → IsMissing name names → AreDistinct (names ++ name ∷ [])
+distinct-more names name d m = record { once = λ i j w a b. once i j w (in-one-more names name i w a) (in-one-more names name j w b) }
+  where
+    once : (i j : ℕ) (w : List ℕ) → (slice_get names i ≡ Some w) ⊎ ((i ≡ length names) × (name ≡ w)) → (slice_get names j ≡ Some w) ⊎ ((j ≡ length names) × (name ≡ w)) → i ≡ j
+    once i j w (inl a) (inl b) = d.once i j w a b
+    once i j w (inl a) (inr b) = absurd (m.nowhere i (a ∙ ap Some (sym b.1)))
+    once i j w (inr a) (inl b) = absurd (m.nowhere j (b ∙ ap Some (sym a.1)))
+    once i j w (inr a) (inr b) = a.0 ∙ sym b.0
+
+-- No names are distinct.
+pub none-distinct : AreDistinct []
+none-distinct = record { once = λ i j w a b. let h : i < 0 = within [] i w a in absurd (omega arith) }
