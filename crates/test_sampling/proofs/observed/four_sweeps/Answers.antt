@@ -9,4 +9,4 @@ advance_to-requires g c =
     let least : 48 ≤ 56 = search rules in
     let none = c.in_ok-lower.ensures.none_done in
     let few : c.in_ok-lower.lower.done ≤ 4 = omega arith in
-    (small, ((most, least), (c.in_ok-lower.ensures.zero c.args.x.num c.args.x.den, few)))
+    (small, ((most, least), (c.in_ok-lower.ensures.one_per_class, (c.in_ok-lower.ensures.one_per_node, few))))
