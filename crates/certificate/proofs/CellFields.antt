@@ -47,11 +47,11 @@ small-cell k b h = record { each = λ i. at i }
     at (suc (suc i)) = omega arith
 
 -- no digit begins what follows a cell in a line of cells
-field-begins : (c : Cell) → (rest : List ℕ) → (tail : List ℕ) × (cell_field c ++ rest ≡ 32 ∷ tail)
+pub field-begins : (c : Cell) → (rest : List ℕ) → (tail : List ℕ) × (cell_field c ++ rest ≡ 32 ∷ tail)
 unfolding filled_from
 field-begins c rest = (_, refl)
 
-no-digit-after : (more : List Cell) → HasNoDigit (flat_map cell_field more)
+pub no-digit-after : (more : List Cell) → HasNoDigit (flat_map cell_field more)
 no-digit-after [] = tt
 no-digit-after (c ∷ more) = let f = field-begins c (flat_map cell_field more) in subst HasNoDigit (sym f.1) (λ d. absurd (let low = d.0 in omega arith))
 

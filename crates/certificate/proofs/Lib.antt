@@ -8,6 +8,7 @@ pub mod Filling
 pub mod FirstBad
 pub mod NextLines
 pub mod Numerals
+pub mod OneText
 pub mod Parts
 pub mod ReadLines
 pub mod StageLines

@@ -117,16 +117,16 @@ one-base name other value more is are e =
     let t = one-cut-at 32 name other (decimal value ++ []) (decimal more ++ []) (run-no-space name is.run) (run-no-space other are.run) (append_cancel_left (codes "base ") (name ++ filled (codes " #") (value ∷ [])) (other ++ filled (codes " #") (more ∷ [])) e) in
     (t.0, sym (append-nil (decimal value)) ∙ t.1 ∙ append-nil (decimal more))
 
-object-head : (number place size : ℕ) → get_or (object_line number place size) 0 0 ≡ 111
+pub object-head : (number place size : ℕ) → get_or (object_line number place size) 0 0 ≡ 111
 unfolding filled_from
 object-head number place size = refl
 
-open-head : (s : Straddle) → get_or (open_line s) 0 0 ≡ 117
+pub open-head : (s : Straddle) → get_or (open_line s) 0 0 ≡ 117
 unfolding filled_from
 open-head (straddle.Node node cell lo hi) = refl
 open-head (straddle.Label m cell) = refl
 
-end-head : (word : ClosingWord) (kept thrown bits turns : ℕ) → get_or (end_line word kept thrown bits turns) 0 0 ≡ 101
+pub end-head : (word : ClosingWord) (kept thrown bits turns : ℕ) → get_or (end_line word kept thrown bits turns) 0 0 ≡ 101
 unfolding filled_from
 end-head Done kept thrown bits turns = refl
 end-head TapeEnded kept thrown bits turns = refl
@@ -139,7 +139,7 @@ pub differ : (x y : List ℕ) (a b : ℕ) → get_or x 0 0 ≡ a → get_or y 0 
 differ x y a b h k ne e = ne (sym h ∙ ap (λ t. get_or t 0 0) e ∙ k)
 
 -- No line that may follow the base begins as a line of the base.
-no-base-head : {line : Line} {next : Stage} → May Stage.AtObject line next → get_or (line_text line) 0 0 ≢ 98
+pub no-base-head : {line : Line} {next : Stage} → May Stage.AtObject line next → get_or (line_text line) 0 0 ≢ 98
 no-base-head (May.object {number = number} {place = place} {size = size} h k l) e = let f = object-head number place size in absurd (omega arith)
 no-base-head (May.left_open {straddle = s} h r) e = let f = open-head s in absurd (omega arith)
 no-base-head (May.end {word = word} {kept = kept} {thrown = thrown} {bits = bits} {turns = turns} ne k t b u) e = let f = end-head word kept thrown bits turns in absurd (omega arith)
@@ -156,7 +156,7 @@ one-after-base (May.end {word = word} {kept = kept} {thrown = thrown} {bits = bi
 one-after-base (May.end {word = word} {kept = kept} {thrown = thrown} {bits = bits} {turns = turns} ne k t b u) (May.left_open {straddle = s} m r) e = absurd (differ (end_line word kept thrown bits turns) (open_line s) 101 117 (end-head word kept thrown bits turns) (open-head s) (omega arith) e)
 one-after-base (May.end ne k t b u) (May.end me l w c v) e = refl
 
-one-version : (v w : ℕ) → IsSmall v → IsSmall w → line_text (Line.Version v) ≡ line_text (Line.Version w) → v ≡ w
+pub one-version : (v w : ℕ) → IsSmall v → IsSmall w → line_text (Line.Version v) ≡ line_text (Line.Version w) → v ≡ w
 one-version v w h k e = one-line (codes "boltzmann #") (v ∷ []) (w ∷ []) refl (small1 v h) (small1 w k) e 0 (omega arith)
 
 -- Of two lines that may stand next and have one text, the same comes next.

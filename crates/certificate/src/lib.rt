@@ -7,14 +7,16 @@
 //!
 //! A text is read exactly: what is read has this text, and a refusal names the first bad line
 //! (`specs/Reading.antt`). `specs/Stages.antt` says which line may stand next; `stages` reads the line in
-//! front of a text, by the readers of lines in `lines` and of fields in `fields`. No clause says that
-//! memory suffices.
+//! front of a text, by the readers of lines in `lines` and of fields in `fields`. `laws` says that one
+//! text has one certificate and at most one first bad line, and that what is written is read. No
+//! clause says that memory suffices.
 #![tactic(auto)]
 
 pub mod certificate;
 pub mod closing;
 pub mod digest;
 mod fields;
+pub mod laws;
 mod lines;
 mod pattern;
 pub mod read;
