@@ -48,13 +48,24 @@ abbrev pub class_name : Spec → ℕ → List ℕ
 class_name s c = unwrap_or (slice_get s.names c) []
 
 -- The lines before the base, or before the window of a drawing: the format, the mode, the SHA-256 digest of the canonical text in hex digits, x as it was given, and the fraction bits.
-abbrev pub certified_header : Spec → (num den F : ℕ) → List ℕ
-certified_header s num den F =
-    (codes "boltzmann 2" ++ feed ++ codes "mode ")
+abbrev pub header_lines : (format : List ℕ) → Spec → (num den F : ℕ) → List ℕ
+header_lines format s num den F =
+    format ++ ((feed ++ codes "mode ")
     ++ (mode_word s.mode ++ ((feed ++ codes "spec ")
     ++ (encode_lower (sha256 (canonical_text s)) ++ ((feed ++ codes "x ")
     ++ (decimal num ++ (codes "/" ++ (decimal den
-    ++ ((feed ++ codes "fraction ") ++ (decimal F ++ feed)))))))))
+    ++ ((feed ++ codes "fraction ") ++ (decimal F ++ feed))))))))))
+
+-- The format of what `verify` accepts, and that of a drawing whose lower sweeps start from a fast vector.
+abbrev pub certified_format : List ℕ
+certified_format = codes "boltzmann 2"
+
+abbrev pub fast_format : List ℕ
+fast_format = codes "boltzmann fast"
+
+-- Those lines of what `verify` accepts.
+abbrev pub certified_header : Spec → (num den F : ℕ) → List ℕ
+certified_header s num den F = header_lines certified_format s num den F
 
 -- The line of a class's entry in the base.
 abbrev pub base_line : (name : List ℕ) → (value : ℕ) → List ℕ

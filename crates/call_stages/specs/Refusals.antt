@@ -93,3 +93,7 @@ no_upper_line candidates proposals = codes "refused upper candidates " ++ (decim
 -- No base was found: the number of candidates of all six rounds and of proposals, and a line for each proposal.
 abbrev pub no_upper_text : Spec → (F : ℕ) → List Trial → List ℕ
 no_upper_text s F trials = no_upper_line (6 * candidate_count F) (length trials) ++ flat_map (proposal_line s) trials
+
+-- No fast vector was found: how many candidates there were, one for each fraction bit.
+abbrev pub no_fast_line : (candidates : ℕ) → List ℕ
+no_fast_line candidates = codes "refused fast candidates " ++ (decimal candidates ++ feed)

@@ -1,6 +1,6 @@
 //! The lines that the program writes.
 ghost use Rattle.std.specs.Prelude.{◌≡◌, ◌++◌, length, IfOk, OnOk, string_bytes};
-ghost use Rattle.call_stages.specs.Lines.{object_line, entry_lines, cells_line, cell_field, open_line, open_label_line, end_line, spec_end_line, class_name, certified_header, window_line, base_line, base_lines, class_base, lines_below, level_line, feed};
+ghost use Rattle.call_stages.specs.Lines.{object_line, entry_lines, cells_line, cell_field, open_line, open_label_line, end_line, spec_end_line, class_name, header_lines, certified_header, window_line, base_line, base_lines, class_base, lines_below, level_line, feed};
 ghost use Rattle.class_system.specs.CanonicalText.{mode_word};
 ghost use Rattle.class_system.specs.Views.{spec_mode};
 
@@ -90,13 +90,26 @@ pub fn spec_end(alloc: Global, classes: u32, nodes: u32) -> Result<String, Alloc
     format!(in alloc; "end done classes {classes} nodes {nodes}\n")
 }
 
-/// The lines before the base, or before the window of a drawing.
+/// The lines before the base, or before the window of a drawing, of what `verify` accepts.
 pub fn certified_header<const F: u32>(
     alloc: Global,
     system: &System,
     x: Fraction,
 ) -> Result<String, AllocError>
     ensures { IfOk result (λ text. string_bytes text ≡ certified_header system.now x.num x.den F) }
+{
+    header_lines::<F>(alloc, "boltzmann 2", system, x)
+}
+
+/// The lines before the base, or before the window of a drawing, of which the first is the format.
+pub fn header_lines<const F: u32>(
+    alloc: Global,
+    format: &str,
+    system: &System,
+    x: Fraction,
+) -> Result<String, AllocError>
+    ensures { IfOk result (λ text. string_bytes text
+        ≡ header_lines format.now system.now x.num x.den F) }
 {
     let canonical = system.to_text()?;
     let digest = Sha256::digest(canonical.as_slice());
@@ -105,7 +118,7 @@ pub fn certified_header<const F: u32>(
     let hex = hex.as_str();
     let num = x.num;
     let den = x.den;
-    format!(in alloc; "boltzmann 2\nmode {mode}\nspec {hex}\nx {num}/{den}\nfraction {F}\n")
+    format!(in alloc; "{format}\nmode {mode}\nspec {hex}\nx {num}/{den}\nfraction {F}\n")
 }
 
 /// A mode's word.

@@ -6,7 +6,7 @@ ghost use Rattle.well_founded.specs.declared.cause.UnfoundedCause.{UnfoundedCaus
 ghost use Rattle.call_stages.specs.Lines.{feed};
 ghost use Rattle.call_stages.specs.Outcomes.{Says};
 ghost use Rattle.call_stages.specs.declared.status.Status.{Status};
-ghost use Rattle.call_stages.specs.Refusals.{value_name, words_line, not_yet_line, read_line, limit_line, text_line, cause_line, IsNamed, number_field, value_text, proposal_line, no_upper_line, no_upper_text};
+ghost use Rattle.call_stages.specs.Refusals.{value_name, words_line, not_yet_line, read_line, limit_line, text_line, cause_line, IsNamed, number_field, value_text, proposal_line, no_upper_line, no_upper_text, no_fast_line};
 
 use crate::format::name_of;
 use crate::report::Report;
@@ -96,6 +96,17 @@ pub fn upper_refusal<const F: u32>(
     let text = no_upper::<F>(alloc, system, proposals)?;
     Ok(Report {
         status: Status::NoUpper,
+        text,
+    })
+}
+
+/// No fast vector was found among the candidates, one for each fraction bit.
+pub fn fast_refusal<const F: u32>(alloc: Global) -> Result<Report, AllocError>
+    ensures { IfOk result (λ r. Says Status.NoFast (no_fast_line F) 0 r.status r.text.items 0) }
+{
+    let text = format!(in alloc; "refused fast candidates {F}\n")?.into_bytes();
+    Ok(Report {
+        status: Status::NoFast,
         text,
     })
 }

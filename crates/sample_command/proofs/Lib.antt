@@ -8,3 +8,4 @@ pub mod SpelledTurns
 pub mod AtTheEnd
 pub mod Turns
 pub mod OneDrawing
+pub mod Starting

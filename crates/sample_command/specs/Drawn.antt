@@ -15,7 +15,7 @@ use Rattle.choice_draw.specs.Decision.{level_for}
 use Rattle.rounded_map.specs.RoundedMap.{Setting}
 use Rattle.call_stages.specs.Outcomes.{Says}
 use Rattle.sample_command.specs.Sweeps.{Gives, most_bits}
-use Rattle.call_stages.specs.Lines.{certified_header, window_line, base_lines, entry_lines, open_line, open_label_line, end_line}
+use Rattle.call_stages.specs.Lines.{header_lines, window_line, base_lines, entry_lines, open_line, open_label_line, end_line}
 use Rattle.call_stages.specs.declared.status.Status.{Status}
 
 -- A drawing is a function of the specification, a table of bounds of its nodes in units of 2^-F, the limits, and the bits of the tape.
@@ -92,9 +92,9 @@ open_lines table ending = []
 abbrev pub closing_lines : (table : (level node : ℕ) → Bounds) → Course → Ending → List ℕ
 closing_lines table c ending = open_lines table ending ++ end_line (ending_word ending) c.state.kept c.state.thrown c.state.attempt.used c.state.turns
 
--- The lines before the first object: the header, the window of sizes, and the base.
-abbrev pub drawn_header : Setting → (base : List ℕ) → Limits → List ℕ
-drawn_header t base limits = certified_header t.spec t.num t.den t.bits ++ (window_line limits.min limits.max ++ base_lines t.spec base)
+-- The lines before the first object: the header that begins with this format, the window of sizes, and the base.
+abbrev pub drawn_header : (format : List ℕ) → Setting → (base : List ℕ) → Limits → List ℕ
+drawn_header format t base limits = header_lines format t.spec t.num t.den t.bits ++ (window_line limits.min limits.max ++ base_lines t.spec base)
 
 -- Objects are drawn by a table of bounds whose levels cost so much to raise, after these lines of a header. The drawing comes to its end: the header, the lines of the kept objects and the closing are its text, and its end gives the status. Or memory runs out: the text until then is the header with the lines of the first entries of a course so far, or nothing. A level is raised only for the bits that one number of a choice node was given: one for each ten of them begun.
 pub data Drawn (cost : (level : ℕ) → ℕ) (header : List ℕ) (s : Spec) (x : Fraction) (F : ℕ) (table : (level node : ℕ) → Bounds) (limits : Limits) (t : TapeMet) (status : Status) (text : List ℕ) (ticks : ℕ) : Type 0 where

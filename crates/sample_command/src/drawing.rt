@@ -1,33 +1,27 @@
-//! Drawings, whose lines are written while it goes on.
+//! Drawings, whose lines are written while they go on.
 ghost use Rattle.std.specs.Prelude.{◌≡◌, ◌≢◌, ◌+◌, ℕ, ◌≤◌, [], ◌++◌, List, length, max, Option, None, Some, IfOk, IfErr, OnErr, IfSome, IfNone, string_bytes};
-ghost use Rattle.bz_model.specs.Fraction.{ratio};
 ghost use Rattle.bz_model.specs.Oracle.{AreCosts, cost_between};
 ghost use Rattle.bz_outside.specs.Outside.{Rose};
 ghost use Rattle.bit_tape.specs.Tape.{TapeSource, Belongs};
 ghost use Rattle.object_store.specs.Tokens.{IsOf};
-ghost use Rattle.oracle_memo.specs.Memos.{Memory};
-ghost use Rattle.rounded_map.specs.RoundedMap.{setting, IsPostFixed};
+ghost use Rattle.oracle_memo.specs.Levels.{cost_at, costs};
 ghost use Rattle.size_window.specs.Drawing.{AreLimits, ending_of, limits_of};
-ghost use Rattle.sample_command.specs.Drawn.{ending_word, ending_status};
+ghost use Rattle.sample_command.specs.Drawn.{Drawn, ending_word, ending_status};
 ghost use Rattle.call_stages.specs.Ends.{EndsBy, output};
 ghost use Rattle.call_stages.specs.Lines.{end_line};
 ghost use Rattle.call_stages.specs.Outcomes.{MaySay};
-ghost use Rattle.sample_command.specs.SampleCommand.{DrawnFrom};
 ghost use Rattle.sample_command.specs.UnderWay.{met, CanTurn, IsUnderWay, IsOver, IsBroken, AfterTurn, GoesOn, told_open};
 ghost use Rattle.call_stages.specs.declared.report.Stop.TheVariants as stop;
 
-use crate::entries::{append_entry, closing, header, status_of};
+use crate::entries::{append_entry, closing, status_of};
 use call_stages::page::send_enough;
 use call_stages::report::{Stop, written};
 use call_stages::status::Status;
 use bit_tape::tape::Tape;
-use bz_model::fraction::Fraction;
 use bz_model::oracle::Oracle;
 use bz_model::steps::Steps;
 use bz_outside::shelf::Shelf;
 use bz_outside::sink::Sink;
-use newton_upper::Base;
-use oracle_memo::Memo;
 use size_window::drawing::Drawing;
 use size_window::ending::Ending;
 use size_window::limits::{Counts, Limits};
@@ -36,53 +30,51 @@ use std::alloc::{AllocError, Global};
 use std::sync::ledger::Ledger;
 use well_founded::examination::Founded;
 
-/// Draws objects over the levels of the base, and writes the lines of each when there are enough.
-pub fn drawn<const F: u32, S: Shelf, K: Sink, L: Ledger>(
+/// Draws objects by the bounds of an oracle, after the lines of a header, and writes the lines of each
+/// when there are enough.
+///
+/// No level is raised and no bit of the tape is used before. A level is raised where a number needs it.
+pub fn drawn<const F: u32, O: Oracle<F>, S: Shelf, K: Sink, L: Ledger>(
     alloc: Global,
     founded: &Founded,
-    x: Fraction,
-    base: Base<F>,
+    oracle: &mut O,
     limits: Limits,
     mut tape: Tape,
+    mut header: Vec<u8>,
     shelf: &mut S,
     out: &mut K,
     steps: &mut Steps<L>,
 ) -> Status
     requires fraction_bits { (24 ≤ F) × (F ≤ 56) }
-    requires post_fixed { IsPostFixed (setting founded.now x.num x.den F) base }
+    requires spec { O.spec oracle.old ≡ founded.now }
+    requires costs { O.cost oracle.old ≡ costs }
+    requires none_raised { O.raised oracle.old ≡ 0 }
     requires limits { AreLimits (limits_of limits) }
     requires unused { tape.used ≡ 0 }
     requires ahead { Belongs (S.content shelf.old) tape }
     ensures ends { (before : List ℕ → ℕ) → ((name : List ℕ) → before name ≤ S.faults shelf.old name)
-        → EndsBy (DrawnFrom (setting founded.now x.num x.den F) (limits_of limits) (met tape.source (S.content shelf.old) before (S.faults shelf.new)) base.entry) (output (K.written out.old) (K.written out.new) (K.faults out.old) (K.faults out.new) steps.old steps.new) result }
+        → EndsBy (Drawn cost_at header.items founded.now (O.x oracle.old) F (O.table oracle.old) (limits_of limits) (met tape.source (S.content shelf.old) before (S.faults shelf.new))) (output (K.written out.old) (K.written out.new) (K.faults out.old) (K.faults out.new) steps.old steps.new) result }
     ensures content { S.content shelf.new ≡ S.content shelf.old }
     ensures counts { (name : List ℕ) → S.faults shelf.old name ≤ S.faults shelf.new name }
     ensures writes { K.faults out.old ≤ K.faults out.new }
 {
-    let system = founded.system();
-    system.known();
-    let Ok(mut page) = header::<F>(alloc, system, x, limits, base.values()) else {
-        return Status::OutOfMemory;
-    };
-    let Ok(mut memo) = Memo::make(alloc, founded, x, base) else {
-        return Status::OutOfMemory;
-    };
+    founded.system().known();
+    oracle.known();
     let Ok(mut drawing) = Drawing::new(alloc, founded, limits) else {
         return Status::OutOfMemory;
     };
-    memo.known();
-    match draw_to_the_end::<F, _, S, K, L>(
+    match draw_to_the_end::<F, O, S, K, L>(
         alloc,
         founded,
-        &mut memo,
+        oracle,
         &mut tape,
         &mut drawing,
         shelf,
         out,
         steps,
-        &mut page,
+        &mut header,
     ) {
-        Ok(ending) => finished(alloc, ending, drawing.counts(), tape.used(), page, out),
+        Ok(ending) => finished(alloc, ending, drawing.counts(), tape.used(), header, out),
         Err(stop) => stop.status(),
     }
 }

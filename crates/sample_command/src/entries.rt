@@ -9,7 +9,7 @@ ghost use Rattle.sample_command.specs.Drawn.{ending_word, ending_status, drawn_h
 ghost use Rattle.call_stages.specs.Lines.{end_line};
 ghost use Rattle.sample_command.specs.UnderWay.{told_open};
 
-use call_stages::format::{append_base, certified_header, end, entry, open_label, open_number, window};
+use call_stages::format::{append_base, end, entry, header_lines, open_label, open_number, window};
 use call_stages::status::Status;
 use bz_model::cell::Bounds;
 use bz_model::fraction::Fraction;
@@ -22,19 +22,20 @@ use size_window::turned::Entry;
 use std::alloc::{AllocError, Global};
 use well_founded::examination::Founded;
 
-/// The lines before the first object.
+/// The lines before the first object, of which the first is the format.
 pub fn header<const F: u32>(
     alloc: Global,
+    format: &str,
     system: &System,
     x: Fraction,
     limits: Limits,
     base: &[u64],
 ) -> Result<Vec<u8>, AllocError>
     requires one_per_class { length base.now ≡ length system.now.bodies }
-    ensures { IfOk result (λ text. text.items ≡ drawn_header (setting system.now x.num x.den F) base.now (limits_of limits)) }
+    ensures { IfOk result (λ text. text.items ≡ drawn_header format.now (setting system.now x.num x.den F) base.now (limits_of limits)) }
 {
     let window = window(alloc, limits.min, limits.max)?;
-    let mut text = certified_header::<F>(alloc, system, x)?.into_bytes();
+    let mut text = header_lines::<F>(alloc, format, system, x)?.into_bytes();
     text.extend_from_slice(window.as_bytes())?;
     append_base(alloc, system, base, &mut text)?;
     Ok(text)

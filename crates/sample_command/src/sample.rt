@@ -5,11 +5,11 @@ ghost use Rattle.command_words.specs.Fractions.{fraction_bits};
 ghost use Rattle.rounded_map.specs.RoundedMap.{setting};
 ghost use Rattle.size_window.specs.Drawing.{AreLimits, limits_of};
 ghost use Rattle.call_stages.specs.Ends.{EndsBy, output};
-ghost use Rattle.sample_command.specs.SampleCommand.{CarriesSample, DrawnFrom, source_of};
+ghost use Rattle.sample_command.specs.SampleCommand.{CarriesSample, DrawnOver, source_of};
 ghost use Rattle.call_stages.specs.Stages.{files, Based};
 ghost use Rattle.sample_command.specs.UnderWay.{met};
 
-use crate::drawing::drawn;
+use crate::starts::drawn_over;
 use call_stages::at_fraction;
 use call_stages::report::refused;
 use call_stages::stages::{based, specified};
@@ -26,7 +26,8 @@ use std::alloc::{AllocError, Global};
 use std::sync::ledger::Ledger;
 use well_founded::examination::Founded;
 
-/// Reads a specification, judges it, searches a base at `x`, and draws objects of its first class.
+/// Reads a specification, judges it, searches a base at `x`, and draws objects of its first class. With
+/// `fast` the lower sweeps start from the base's fast vector, where it has one.
 pub fn sample<S: Shelf, K: Sink, L: Ledger>(
     alloc: Global,
     file: &Word,
@@ -34,12 +35,13 @@ pub fn sample<S: Shelf, K: Sink, L: Ledger>(
     tape: &TapeWord,
     limits: Limits,
     fraction: FractionBits,
+    fast: bool,
     shelf: &mut S,
     out: &mut K,
     steps: &mut Steps<L>,
 ) -> Status
     requires { AreLimits (limits_of limits) }
-    ensures ends { EndsBy (CarriesSample (files (S.content shelf.old) (S.faults shelf.old) (S.faults shelf.new)) file.now x tape.now limits (fraction_bits fraction)) (output (K.written out.old) (K.written out.new) (K.faults out.old) (K.faults out.new) steps.old steps.new) result }
+    ensures ends { EndsBy (CarriesSample (files (S.content shelf.old) (S.faults shelf.old) (S.faults shelf.new)) file.now x tape.now limits (fraction_bits fraction) fast) (output (K.written out.old) (K.written out.new) (K.faults out.old) (K.faults out.new) steps.old steps.new) result }
     ensures content { S.content shelf.new ≡ S.content shelf.old }
     ensures counts { (name : List ℕ) → S.faults shelf.old name ≤ S.faults shelf.new name }
     ensures writes { K.faults out.old ≤ K.faults out.new }
@@ -47,7 +49,7 @@ pub fn sample<S: Shelf, K: Sink, L: Ledger>(
     match specified(alloc, file, shelf) {
         Ok(founded) => {
             sampled_at(
-                alloc, &founded, x, tape, limits, fraction, shelf, out, steps,
+                alloc, &founded, x, tape, limits, fraction, fast, shelf, out, steps,
             )
         }
         Err(refusal) => refused(out, &refusal),
@@ -62,18 +64,19 @@ fn sampled_at<S: Shelf, K: Sink, L: Ledger>(
     tape: &TapeWord,
     limits: Limits,
     fraction: FractionBits,
+    fast: bool,
     shelf: &mut S,
     out: &mut K,
     steps: &mut Steps<L>,
 ) -> Status
     requires limits { AreLimits (limits_of limits) }
     ensures ends { (before : List ℕ → ℕ) → ((name : List ℕ) → before name ≤ S.faults shelf.old name)
-        → EndsBy (Based (setting founded.now x.num x.den (fraction_bits fraction)) (DrawnFrom (setting founded.now x.num x.den (fraction_bits fraction)) (limits_of limits) (met (source_of tape.now) (S.content shelf.old) before (S.faults shelf.new)))) (output (K.written out.old) (K.written out.new) (K.faults out.old) (K.faults out.new) steps.old steps.new) result }
+        → EndsBy (Based (setting founded.now x.num x.den (fraction_bits fraction)) (DrawnOver fast (setting founded.now x.num x.den (fraction_bits fraction)) (limits_of limits) (met (source_of tape.now) (S.content shelf.old) before (S.faults shelf.new)))) (output (K.written out.old) (K.written out.new) (K.faults out.old) (K.faults out.new) steps.old steps.new) result }
     ensures content { S.content shelf.new ≡ S.content shelf.old }
     ensures counts { (name : List ℕ) → S.faults shelf.old name ≤ S.faults shelf.new name }
     ensures writes { K.faults out.old ≤ K.faults out.new }
 {
-    at_fraction!(fraction, sampled [S, K, L] (alloc, founded, x, tape, limits, shelf, out, steps))
+    at_fraction!(fraction, sampled [S, K, L] (alloc, founded, x, tape, limits, fast, shelf, out, steps))
 }
 
 /// Searches a base of the specification, and draws over its levels, in units of `2^-F`.
@@ -83,6 +86,7 @@ fn sampled<const F: u32, S: Shelf, K: Sink, L: Ledger>(
     x: Fraction,
     tape: &TapeWord,
     limits: Limits,
+    fast: bool,
     shelf: &mut S,
     out: &mut K,
     steps: &mut Steps<L>,
@@ -90,16 +94,16 @@ fn sampled<const F: u32, S: Shelf, K: Sink, L: Ledger>(
     requires fraction_bits { (24 ≤ F) × (F ≤ 56) }
     requires limits { AreLimits (limits_of limits) }
     ensures ends { (before : List ℕ → ℕ) → ((name : List ℕ) → before name ≤ S.faults shelf.old name)
-        → EndsBy (Based (setting founded.now x.num x.den F) (DrawnFrom (setting founded.now x.num x.den F) (limits_of limits) (met (source_of tape.now) (S.content shelf.old) before (S.faults shelf.new)))) (output (K.written out.old) (K.written out.new) (K.faults out.old) (K.faults out.new) steps.old steps.new) result }
+        → EndsBy (Based (setting founded.now x.num x.den F) (DrawnOver fast (setting founded.now x.num x.den F) (limits_of limits) (met (source_of tape.now) (S.content shelf.old) before (S.faults shelf.new)))) (output (K.written out.old) (K.written out.new) (K.faults out.old) (K.faults out.new) steps.old steps.new) result }
     ensures content { S.content shelf.new ≡ S.content shelf.old }
     ensures counts { (name : List ℕ) → S.faults shelf.old name ≤ S.faults shelf.new name }
     ensures writes { K.faults out.old ≤ K.faults out.new }
 {
     match based::<F, L>(alloc, founded, x, steps) {
         Ok(base) => match tape_of(alloc, tape) {
-            Ok(tape) => {
-                drawn::<F, S, K, L>(alloc, founded, x, base, limits, tape, shelf, out, steps)
-            }
+            Ok(tape) => drawn_over::<F, S, K, L>(
+                alloc, founded, x, base, limits, tape, fast, shelf, out, steps,
+            ),
             Err(_) => Status::OutOfMemory,
         },
         Err(refusal) => refused(out, &refusal),

@@ -8,6 +8,8 @@
 #[cfg(test)]
 mod drawings;
 #[cfg(test)]
+mod fast;
+#[cfg(test)]
 mod faults;
 #[cfg(test)]
 mod texts;
