@@ -37,6 +37,7 @@ use Rattle.boltz.proofs.Commands.{not-refused, one-fault}
 use Rattle.call_stages.proofs.Endings as endings
 use Rattle.call_stages.proofs.Endings.{ends_as, written_on}
 use Rattle.sample_command.proofs.OneDrawing.{one-drawn}
+use Rattle.bulk_command.proofs.OneBulk.{one-bulk}
 use Rattle.call_stages.proofs.OneReading.{one-said, one-specified, one-based}
 
 -- the tape of a sample is known, and no read of it failed
@@ -57,6 +58,7 @@ one-carried f (command.Sample file x word limits F false) calm =
     let t = λ (s : Spec). setting s x.num x.den (fraction_bits F) in
     let met = tape_in f (source_of word) in
     one-specified f file (λ s. Based (t s) (DrawnFrom (t s) (limits_of limits) met)) calm.0 (λ s. one-based (t s) (DrawnFrom (t s) (limits_of limits) met) (λ base. one-drawn cost_at (drawn_header (t s) base (limits_of limits)) s (ratio x.num x.den) (fraction_bits F) (level_bounds (t s) base) (limits_of limits) met bits.0 bits.1 (calm-tape f word calm.1)))
+one-carried f (command.Bulk n F) calm = one-bulk n (fraction_bits F)
 one-carried f later calm = one-said Status.WordsRefused not_yet_line 0
 
 -- words that are refused

@@ -36,9 +36,10 @@ one-fault words NotACommand (BadValue v) m n h i = absurd (h.formless i.name i.a
 one-fault words (BadValue v) NotACommand m n h i = absurd (i.formless h.name h.arguments h.form)
 one-fault words (BadValue v) (BadValue u) m n h i = ap BadValue (one_bad_value words v u h i)
 
--- The limits of a drawing are within those that it takes.
+-- The limits of a drawing and the number of a run are within those that the command takes.
 abbrev HasLimits : Command → Type 0
 HasLimits (command.Sample file x word limits F fast) = AreWithin (limits_of limits)
+HasLimits (command.Bulk n F) = (1 ≤ n) × (n ≤ 1000)
 HasLimits other = Unit {0}
 
 set-max : (name : CommandName) (texts : List (List ℕ)) (n : ℕ) → IsSet name value.Max 1000 texts n → n ≤ 1000000
@@ -66,7 +67,7 @@ has-limits given name c (makes.oracle f t x b e r is) = tt
 has-limits given name c (makes.pool f t p ts x l b e r l_is is) = tt
 has-limits given name c (makes.verify f k e) = tt
 has-limits given name c (makes.migrate f k e) = tt
-has-limits given name c (makes.bulk t n b e st is) = tt
+has-limits given name c (makes.bulk t n b e st is) = st.within
 has-limits given name c (makes.point f e) = tt
 has-limits given name c (makes.chance f t o x b e r is) = tt
 has-limits given name c (makes.count f t n e st) = tt
@@ -75,3 +76,6 @@ has-limits given name c (makes.rank f o e) = tt
 
 pub sample_limits : (file : List ℕ) (x : Fraction) (word : TapeWord) (limits : Limits) (F : FractionBits) (fast : Bool) → IsStoodFor (command.Sample file x word limits F fast) → AreWithin (limits_of limits)
 sample_limits file x word limits F fast h = has-limits _ _ (command.Sample file x word limits F fast) h.is.made
+
+pub bulk_limits : (n : ℕ) (F : FractionBits) → IsStoodFor (command.Bulk n F) → (1 ≤ n) × (n ≤ 1000)
+bulk_limits n F h = has-limits _ _ (command.Bulk n F) h.is.made

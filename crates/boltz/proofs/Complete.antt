@@ -29,6 +29,9 @@ use Rattle.boltz.specs.Complete.{IsGiven, IsFit, IsPrintable, IsUnfit, undisturb
 use Rattle.boltz.specs.Complete as complete
 use Rattle.sample_command.specs.Drawn.{TapeMet, HasFailed, Drawn, Lists, drawn_header, closing_lines, ending_status}
 use Rattle.sample_command.specs.Drawn as drawn
+use Rattle.bulk_command.specs.BulkText.{bulk_text}
+use Rattle.bulk_command.specs.BulkCommand.{BulkDrawn}
+use Rattle.bulk_command.specs.BulkCommand as bulks
 use Rattle.boltz.specs.OracleCommand.{Bounded, bounded_text}
 use Rattle.call_stages.specs.Outcomes.{Outcome, Says, MaySay}
 use Rattle.call_stages.specs.Outcomes as outcomes
@@ -138,16 +141,16 @@ said-no-words : (said : Status) (line : List ℕ) (most : ℕ) (status : Status)
 said-no-words said line most status text ticks other (outcomes.says says) is = not-words said status line text most ticks other says is
 said-no-words said line most status text ticks other (outcomes.no_memory says) is = not-words Status.OutOfMemory status [] text most ticks (λ e. absurd (cc)) says is
 
+judged-no-words : (bytes : List ℕ) (next : Spec → Outcome) → ((s : Spec) (status : Status) (text : List ℕ) (ticks : ℕ) → next s status text ticks → status ≡ Status.WordsRefused → ⊥) → (status : Status) (text : List ℕ) (ticks : ℕ) → Judged next bytes status text ticks → status ≡ Status.WordsRefused → ⊥
+judged-no-words bytes next on status text ticks (stages.refused fault m refuses says) is = not-words Status.SpecRefused status _ text _ ticks (λ e. absurd (cc)) says is
+judged-no-words bytes next on status text ticks (stages.unfounded s cause a m tells says) is = not-words Status.SpecRefused status _ text _ ticks (λ e. absurd (cc)) says is
+judged-no-words bytes next on status text ticks (stages.no_memory says) is = not-words Status.OutOfMemory status _ text _ ticks (λ e. absurd (cc)) says is
+judged-no-words bytes next on status text ticks (stages.founded s a g q) is = on s status text ticks q is
+
 specified-no-words : (f : Files) (file : List ℕ) (next : Spec → Outcome) → ((s : Spec) (status : Status) (text : List ℕ) (ticks : ℕ) → next s status text ticks → status ≡ Status.WordsRefused → ⊥) → (status : Status) (text : List ℕ) (ticks : ℕ) → Specified f file next status text ticks → status ≡ Status.WordsRefused → ⊥
 specified-no-words f file next on status text ticks (stages.failed rose says) is = not-words Status.ReadFault status _ text _ ticks (λ e. absurd (cc)) says is
 specified-no-words f file next on status text ticks (stages.no_memory says) is = not-words Status.OutOfMemory status _ text _ ticks (λ e. absurd (cc)) says is
-specified-no-words f file next on status text ticks (stages.read bytes are p) is = go p
-  where
-    go : Judged next bytes status text ticks → ⊥
-    go (stages.refused fault m refuses says) = not-words Status.SpecRefused status _ text _ ticks (λ e. absurd (cc)) says is
-    go (stages.unfounded s cause a m tells says) = not-words Status.SpecRefused status _ text _ ticks (λ e. absurd (cc)) says is
-    go (stages.no_memory says) = not-words Status.OutOfMemory status _ text _ ticks (λ e. absurd (cc)) says is
-    go (stages.founded s a g q) = on s status text ticks q is
+specified-no-words f file next on status text ticks (stages.read bytes are p) is = judged-no-words bytes next on status text ticks p is
 
 based-no-words : (t : Setting) (next : List ℕ → Outcome) → ((base : List ℕ) (status : Status) (text : List ℕ) (ticks : ℕ) → next base status text ticks → status ≡ Status.WordsRefused → ⊥) → (status : Status) (text : List ℕ) (ticks : ℕ) → Based t next status text ticks → status ≡ Status.WordsRefused → ⊥
 based-no-words t next on status text ticks (stages.no_base trials lacks says) is = not-words Status.NoUpper status _ text _ ticks (λ e. absurd (cc)) says is
@@ -166,6 +169,11 @@ drawn-no-words t limits met base status text ticks (drawn.ended c given d lines 
 drawn-no-words t limits met base status text ticks (drawn.so_far c given first others lines h e l says) is = not-words Status.OutOfMemory status _ text _ ticks (λ e. absurd (cc)) says is
 drawn-no-words t limits met base status text ticks (drawn.no_memory says) is = not-words Status.OutOfMemory status _ text _ ticks (λ e. absurd (cc)) says is
 
+bulk-no-words : (n : ℕ) (t : Setting) (base : List ℕ) (status : Status) (text : List ℕ) (ticks : ℕ) → BulkDrawn n t base status text ticks → status ≡ Status.WordsRefused → ⊥
+bulk-no-words n t base status text ticks (bulks.ended c given d h says) is = not-words (ending_status d) status _ text _ ticks (ending-no-words d) says is
+bulk-no-words n t base status text ticks (bulks.so_far c given h says) is = not-words Status.OutOfMemory status _ text _ ticks (λ e. absurd (cc)) says is
+bulk-no-words n t base status text ticks (bulks.no_memory says) is = not-words Status.OutOfMemory status _ text _ ticks (λ e. absurd (cc)) says is
+
 carried-no-words : (f : Files) (asked : Command) → ¬ (¬ (IsBuilt asked)) → (status : Status) (text : List ℕ) (ticks : ℕ) → Carries f asked status text ticks → status ≡ Status.WordsRefused → ⊥
 carried-no-words f (command.Spec file) built status text ticks h is = specified-no-words f file Printed (λ s status text ticks p e. said-no-words Status.Done (spec_text s) 0 status text ticks (λ e. absurd (cc)) p e) status text ticks h is
 carried-no-words f (command.Oracle file x F) built status text ticks h is =
@@ -175,12 +183,16 @@ carried-no-words f (command.Sample file x word limits F false) built status text
     let t = λ (s : Spec). setting s x.num x.den (fraction_bits F) in
     let met = tape_in f (source_of word) in
     specified-no-words f file (λ s. Based (t s) (DrawnFrom (t s) (limits_of limits) met)) (λ s. based-no-words (t s) (DrawnFrom (t s) (limits_of limits) met) (drawn-no-words (t s) (limits_of limits) met)) status text ticks h is
+carried-no-words f (command.Bulk n F) built status text ticks h is =
+    let t = λ (s : Spec). setting s 3 16 (fraction_bits F) in
+    judged-no-words (bulk_text n) (λ s. Based (t s) (BulkDrawn n (t s))) (λ s. based-no-words (t s) (BulkDrawn n (t s)) (bulk-no-words n (t s))) status text ticks h is
 carried-no-words f later built status text ticks h is = absurd (built (λ no. no))
 
 only-refused : (w : World) (asked : Command) → IsCommand w.words asked → (status : Status) (text : List ℕ) (ticks : ℕ) → Carries w.files asked status text ticks → status ≡ Status.WordsRefused → AreRefused w.words
 only-refused w (command.Spec file) named status text ticks h is = absurd (carried-no-words w.files (command.Spec file) (λ no. no tt) status text ticks h is)
 only-refused w (command.Oracle file x F) named status text ticks h is = absurd (carried-no-words w.files (command.Oracle file x F) (λ no. no tt) status text ticks h is)
 only-refused w (command.Sample file x word limits F false) named status text ticks h is = absurd (carried-no-words w.files (command.Sample file x word limits F false) (λ no. no tt) status text ticks h is)
+only-refused w (command.Bulk n F) named status text ticks h is = absurd (carried-no-words w.files (command.Bulk n F) (λ no. no tt) status text ticks h is)
 only-refused w later named status text ticks h is = commands.not_yet later named (λ built. built)
 
 pub words_only : (w : World) (status : Status) (text : List ℕ) (ticks : ℕ) → Answers w status text ticks → status ≡ Status.WordsRefused → AreRefused w.words
@@ -198,6 +210,7 @@ later-only : (f : Files) (asked : Command) → ¬ (IsBuilt asked) → (status : 
 later-only f (command.Spec file) unbuilt status text ticks memory h = absurd (unbuilt tt)
 later-only f (command.Oracle file x F) unbuilt status text ticks memory h = absurd (unbuilt tt)
 later-only f (command.Sample file x word limits F false) unbuilt status text ticks memory h = absurd (unbuilt tt)
+later-only f (command.Bulk n F) unbuilt status text ticks memory h = absurd (unbuilt tt)
 later-only f later unbuilt status text ticks memory h = may-say-only Status.WordsRefused not_yet_line 0 status text ticks memory h
 
 pub not_yet : (w : World) (asked : Command) (status : Status) (text : List ℕ) (ticks : ℕ) → IsCommand w.words asked → ¬ (IsBuilt asked) → status ≢ Status.OutOfMemory → Answers w status text ticks → (status ≡ Status.WordsRefused) × (text ≡ not_yet_line)

@@ -9,6 +9,7 @@ use Rattle.command_words.specs.declared.command.TapeWord.{TapeWord}
 use Rattle.command_words.specs.declared.command.TapeWord.TheVariants as tape
 use Rattle.command_words.specs.declared.fault.WordsFault.{WordsFault}
 use Rattle.call_stages.specs.Outcomes.{Outcome, Says, MaySay}
+use Rattle.bulk_command.specs.BulkCommand.{CarriesBulk}
 use Rattle.boltz.specs.OracleCommand.{CarriesOracle}
 use Rattle.call_stages.specs.Refusals.{words_line, not_yet_line}
 use Rattle.sample_command.specs.SampleCommand.{CarriesSample}
@@ -33,6 +34,7 @@ abbrev pub Carries : Files → Command → Outcome
 Carries f (command.Spec file) = CarriesSpec f file
 Carries f (command.Oracle file x F) = CarriesOracle f file x (fraction_bits F)
 Carries f (command.Sample file x word limits F false) = CarriesSample f file x word limits (fraction_bits F)
+Carries f (command.Bulk n F) = CarriesBulk n (fraction_bits F)
 Carries f later = NotYet
 
 -- Words that stand for no command are refused for a reason; memory may run out instead.
@@ -50,7 +52,7 @@ abbrev pub tape_files : TapeWord → List (List ℕ)
 tape_files (tape.File name) = name ∷ []
 tape_files (tape.Seed seed) = []
 
--- The files that a command reads.
+-- The files that a command reads; `bulk` reads none.
 abbrev pub files_of : Command → List (List ℕ)
 files_of (command.Spec file) = file ∷ []
 files_of (command.Oracle file x F) = file ∷ []

@@ -5,14 +5,15 @@ use Rattle.command_words.specs.declared.command.Command.{Command}
 use Rattle.command_words.specs.declared.command.Command.TheVariants as command
 use Rattle.command_words.specs.declared.fault.WordsFault.{WordsFault}
 
--- The program does what `spec`, `oracle` and `sample` ask for, and not yet what the other commands do.
+-- The program does what `spec`, `oracle`, `sample` and `bulk` ask for, and not yet what the other commands do.
 abbrev pub IsBuilt : Command → Type 0
 IsBuilt (command.Spec file) = Unit {0}
 IsBuilt (command.Oracle file x F) = Unit {0}
 IsBuilt (command.Sample file x word limits F false) = Unit {0}
+IsBuilt (command.Bulk n F) = Unit {0}
 IsBuilt later = ⊥
 
--- A command that is built reads its specification from this file.
+-- A command that is built reads its specification from this file; `bulk` makes its own.
 abbrev pub Specifies : Command → (file : List ℕ) → Type 0
 Specifies (command.Spec file) name = file ≡ name
 Specifies (command.Oracle file x F) name = file ≡ name

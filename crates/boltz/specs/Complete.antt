@@ -1,4 +1,4 @@
--- When the answer is certain: what is certain to be printed, to be refused, to be bounded, and to be drawn.
+-- When the answer is certain: what is certain to be printed, to be refused, to be bounded, to be drawn, and to be counted.
 use Rattle.std.specs.Prelude.{false, ◌≡◌, ℕ, Bool, List, take, Option, Some, None}
 use Rattle.bz_model.specs.Spec.{Spec}
 use Rattle.bz_model.specs.WellFounded.{IsWellFounded}
@@ -16,6 +16,8 @@ use Rattle.command_words.specs.declared.command.Command.TheVariants as command
 use Rattle.command_words.specs.declared.command.FractionBits.{FractionBits}
 use Rattle.command_words.specs.declared.command.TapeWord.{TapeWord}
 use Rattle.command_words.specs.Fractions.{fraction_bits}
+use Rattle.bulk_command.specs.BulkCommand.{bulk_course}
+use Rattle.bulk_command.specs.BulkTables.{bulk_tables}
 use Rattle.boltz.specs.Answers.{World}
 use Rattle.boltz.specs.Commands.{Specifies}
 use Rattle.sample_command.specs.Drawn.{HasFailed, sampling}
@@ -73,3 +75,9 @@ pub record IsDrawable (w : World) (s : Spec) (x : Fraction) (F : FractionBits) (
   pub are_told : bits_of (source_of word) w.files.content ≡ Some bits
   pub no_fault : ¬ (HasFailed (tape_in w.files (source_of word)))
   pub ends : (undisturbed (setting s x.num x.den (fraction_bits F)) base (limits_of limits) bits turns).state.ending ≡ Some ending
+
+-- The words ask for the run of a number, in units of 2^-F; its specification has this base at 3/16, and over it the course of so many turns comes to this end.
+pub record IsCountable (w : World) (n : ℕ) (F : FractionBits) (base : List ℕ) (turns : ℕ) (ending : Ending) : Type 0 where
+  pub named : IsCommand w.words (command.Bulk n F)
+  pub has_base : base_of (setting (bulk_tables n) 3 16 (fraction_bits F)) ≡ Some base
+  pub ends : (bulk_course n (setting (bulk_tables n) 3 16 (fraction_bits F)) base turns).state.ending ≡ Some ending

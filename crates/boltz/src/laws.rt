@@ -1,4 +1,4 @@
-//! Laws of answers. Each function's contract is the law; none does anything.
+//! Laws of answers. Each function's contract is the law, and its body calls only laws.
 //!
 //! `run` ends with an outcome that its words and files have (`ends`). The laws say which outcome that is.
 ghost use Rattle.std.specs.Prelude.{◌≡◌, ◌≢◌, ◌⊎◌, ℕ, Bool, List, ◌++◌, Option};
@@ -19,7 +19,9 @@ ghost use Rattle.size_window.specs.RunByBits.{Ending};
 ghost use Rattle.size_window.specs.declared.limits.Limits.{Limits};
 ghost use Rattle.boltz.specs.Answers.{World, Answers, IsUndisturbed};
 ghost use Rattle.boltz.specs.Commands.{IsBuilt, AreRefused};
-ghost use Rattle.boltz.specs.Complete.{IsPrintable, IsUnfit, IsDrawable, IsBoundable, IsBaseless, undisturbed};
+ghost use Rattle.boltz.specs.Complete.{IsPrintable, IsUnfit, IsDrawable, IsBoundable, IsBaseless, IsCountable, undisturbed};
+ghost use Rattle.bulk_command.specs.BulkCommand.{bulk_course, course_line};
+ghost use Rattle.bulk_command.specs.BulkTables.{bulk_tables};
 ghost use Rattle.sample_command.specs.Drawn.{Lists, drawn_header, closing_lines, ending_status};
 ghost use Rattle.call_stages.specs.Ends.{Output, EndsBy, IsWritten};
 ghost use Rattle.boltz.specs.OracleCommand.{bounded_text};
@@ -27,6 +29,8 @@ ghost use Rattle.call_stages.specs.Outcomes.{IsOne};
 ghost use Rattle.call_stages.specs.Refusals.{words_line, not_yet_line, no_upper_text};
 ghost use Rattle.boltz.specs.SpecCommand.{spec_text};
 ghost use Rattle.call_stages.specs.declared.status.Status.{Status};
+
+use bulk_command::laws::a_run_that_ends_is_told;
 
 /// A call in which no write fails writes the whole text of an answer, or memory runs out.
 pub fn without_a_failed_write_the_answer_is_whole()
@@ -76,6 +80,16 @@ pub fn what_can_be_drawn_is_drawn()
         → IsDrawable w s x F limits base bits turns ending → status ≢ Status.OutOfMemory → Answers w status text ticks
         → (status ≡ ending_status ending) × ((lines : List ℕ) × Lists s (undisturbed (setting s x.num x.den (fraction_bits F)) base (limits_of limits) bits turns).entries lines × (text ≡ drawn_header (setting s x.num x.den (fraction_bits F)) base (limits_of limits) ++ (lines ++ closing_lines (level_bounds (setting s x.num x.den (fraction_bits F)) base) (undisturbed (setting s x.num x.den (fraction_bits F)) base (limits_of limits) bits turns) ending))) }
 {}
+
+/// What can be counted has no other answer than the line of the run over the base's levels and the bits
+/// of the number's seed, with the status of its end.
+pub fn what_a_number_draws_is_told()
+    ensures told { (w : World) (n : ℕ) (F : FractionBits) (base : List ℕ) (turns : ℕ) (ending : Ending) (status : Status) (text : List ℕ) (ticks : ℕ)
+        → IsCountable w n F base turns ending → status ≢ Status.OutOfMemory → Answers w status text ticks
+        → (status ≡ ending_status ending) × (text ≡ course_line n (bulk_course n (setting (bulk_tables n) 3 16 (fraction_bits F)) base turns) ending) }
+{
+    a_run_that_ends_is_told();
+}
 
 /// What is read of an unfit specification is refused.
 pub fn what_is_unfit_is_refused()

@@ -8,6 +8,7 @@ ghost use Rattle.call_stages.specs.Stages.{files};
 ghost use Rattle.call_stages.specs.declared.status.Status.{Status};
 
 use crate::oracle::oracle;
+use bulk_command::bulk::bulk;
 use call_stages::refusals::{not_yet_refusal, words_refusal};
 use call_stages::report::written;
 use sample_command::sample::sample;
@@ -87,7 +88,7 @@ fn carried_out<S: Shelf, K: Sink, L: Ledger>(
         Command::Pool { .. } => not_yet(alloc, out),
         Command::Verify { .. } => not_yet(alloc, out),
         Command::Migrate { .. } => not_yet(alloc, out),
-        Command::Bulk { .. } => not_yet(alloc, out),
+        Command::Bulk { n, fraction } => bulk(alloc, *n, *fraction, out, steps),
         Command::Point { .. } => not_yet(alloc, out),
         Command::Chance { .. } => not_yet(alloc, out),
         Command::Count { .. } => not_yet(alloc, out),

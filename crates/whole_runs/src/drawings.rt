@@ -25,10 +25,30 @@ fn words_that_are_refused(rt: HostRuntime) -> Result<(), Fail> {
         ),
         ("oracle s 1/2 --fraction 47", "refused value fraction\n"),
         ("pool s 1/2 s t", "refused not yet\n"),
-        ("bulk 1", "refused not yet\n"),
+        ("verify s t", "refused not yet\n"),
+        ("bulk 0", "refused value n\n"),
+        ("bulk 1001", "refused value n\n"),
+        ("bulk 1 --fraction 47", "refused value fraction\n"),
     ] {
         let text = "unlabelled\nC = Z + Z\n";
         compare(&rt, words, text, b"\x80", 2, want)?;
+    }
+    Ok(())
+}
+
+#[test]
+fn a_run_that_a_number_names(rt: HostRuntime) -> Result<(), Fail> {
+    for (words, want) in [
+        (
+            "bulk 1",
+            "bulk 1 classes 3 end done kept 100 thrown 0 atoms 44 bits 486 turns 608\n",
+        ),
+        (
+            "bulk 3 --fraction 48",
+            "bulk 3 classes 5 end done kept 300 thrown 0 atoms 166 bits 1652 turns 2062\n",
+        ),
+    ] {
+        compare(&rt, words, "", b"", 0, want)?;
     }
     Ok(())
 }
