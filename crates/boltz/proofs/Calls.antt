@@ -1,6 +1,6 @@
 -- Calls: from commands to answers, and that an undisturbed call has one answer.
 use Rattle.std.proofs.Common.{◌≡◌, ◌≢◌, ℕ, ◌+◌, ◌≤◌, ◌⊎◌, inl, inr, List, [], ◌∷◌, refl, sym, ap, subst, ◌∙◌, arith}
-use Rattle.std.specs.Prelude.{false, Bool, Option, Some, None, option_map}
+use Rattle.std.specs.Prelude.{Bool, Option, Some, None, option_map}
 use Rattle.bz_model.specs.Spec.{Spec}
 use Rattle.bz_outside.specs.Outside.{Rose, Appends}
 use Rattle.bit_tape.specs.Bits.{file_bit, seed_bit}
@@ -14,29 +14,28 @@ use Rattle.command_words.specs.declared.command.TapeWord.TheVariants as tape
 use Rattle.command_words.specs.declared.fault.WordsFault.{WordsFault}
 use Rattle.command_words.proofs.Unique.{one_command}
 use Rattle.rounded_map.specs.RoundedMap.{Setting, setting}
-use Rattle.oracle_memo.specs.Levels.{level_bounds, cost_at}
-use Rattle.bz_model.specs.Fraction.{ratio}
+use Rattle.oracle_memo.specs.Levels.{cost_at}
 use Rattle.size_window.specs.Drawing.{limits_of}
 use Rattle.size_window.specs.RunByBits.{Limits as Window}
 use Rattle.boltz.specs.Answers.{World, world, Carries, NotYet, Unworded, Answers, files_of, tape_files, IsUndisturbed}
 use Rattle.boltz.specs.Answers as answers
 use Rattle.boltz.specs.Commands.{IsBuilt, AreRefused}
 use Rattle.boltz.specs.Commands as commands
-use Rattle.sample_command.specs.Drawn.{TapeMet, HasFailed, drawn_header}
+use Rattle.sample_command.specs.Drawn.{HasFailed}
 use Rattle.call_stages.specs.Ends.{output, EndsBy}
 use Rattle.call_stages.specs.Ends as ends
 use Rattle.boltz.specs.OracleCommand.{Bounded, bounded_text}
 use Rattle.call_stages.specs.Outcomes.{Outcome, Says, MaySay, IsOne}
 use Rattle.call_stages.specs.Outcomes as outcomes
 use Rattle.call_stages.specs.Refusals.{words_line, not_yet_line}
-use Rattle.sample_command.specs.SampleCommand.{source_of, tape_in, DrawnFrom}
+use Rattle.sample_command.specs.SampleCommand.{source_of, tape_in, DrawnOver}
 use Rattle.boltz.specs.SpecCommand.{Printed, spec_text}
 use Rattle.call_stages.specs.Stages.{AreCalm, Files, files, Based}
 use Rattle.call_stages.specs.declared.status.Status.{Status}
 use Rattle.boltz.proofs.Commands.{not-refused, one-fault}
 use Rattle.call_stages.proofs.Endings as endings
 use Rattle.call_stages.proofs.Endings.{ends_as, written_on}
-use Rattle.sample_command.proofs.OneDrawing.{one-drawn}
+use Rattle.sample_command.proofs.Starting.{one-drawn-over}
 use Rattle.bulk_command.proofs.OneBulk.{one-bulk}
 use Rattle.call_stages.proofs.OneReading.{one-said, one-specified, one-based}
 
@@ -53,11 +52,11 @@ calm-tape f (tape.Seed seed) calm never = never
 one-carried : (f : Files) (asked : Command) → AreCalm f (files_of asked) → IsOne (Carries f asked)
 one-carried f (command.Spec file) calm = one-specified f file Printed calm.0 (λ s. one-said Status.Done (spec_text s) 0)
 one-carried f (command.Oracle file x F) calm = one-specified f file (λ s. Based (setting s x.num x.den (fraction_bits F)) (Bounded (setting s x.num x.den (fraction_bits F)))) calm.0 (λ s. one-based (setting s x.num x.den (fraction_bits F)) (Bounded (setting s x.num x.den (fraction_bits F))) (λ base. one-said Status.Done (bounded_text (setting s x.num x.den (fraction_bits F)) base) (cost_at 6)))
-one-carried f (command.Sample file x word limits F false) calm =
+one-carried f (command.Sample file x word limits F fast) calm =
     let bits = known-bits f word calm.1 in
     let t = λ (s : Spec). setting s x.num x.den (fraction_bits F) in
     let met = tape_in f (source_of word) in
-    one-specified f file (λ s. Based (t s) (DrawnFrom (t s) (limits_of limits) met)) calm.0 (λ s. one-based (t s) (DrawnFrom (t s) (limits_of limits) met) (λ base. one-drawn cost_at (drawn_header (t s) base (limits_of limits)) s (ratio x.num x.den) (fraction_bits F) (level_bounds (t s) base) (limits_of limits) met bits.0 bits.1 (calm-tape f word calm.1)))
+    one-specified f file (λ s. Based (t s) (DrawnOver fast (t s) (limits_of limits) met)) calm.0 (λ s. one-based (t s) (DrawnOver fast (t s) (limits_of limits) met) (one-drawn-over fast (t s) (limits_of limits) met bits.0 bits.1 (calm-tape f word calm.1)))
 one-carried f (command.Bulk n F) calm = one-bulk n (fraction_bits F)
 one-carried f later calm = one-said Status.WordsRefused not_yet_line 0
 

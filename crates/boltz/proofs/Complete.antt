@@ -1,12 +1,12 @@
 -- What is certain to be printed, refused, bounded or drawn.
 use Rattle.std.proofs.Common.{arith, ◌≢◌, ◌⊎◌, inl, inr, ◌≡◌, ℕ, zero, suc, ◌≤◌, List, [], ◌∷◌, ◌++◌, refl, sym, subst, ap, ◌∙◌}
-use Rattle.std.specs.Prelude.{false, Bool, length, take, Option, Some, None}
+use Rattle.std.specs.Prelude.{true, Bool, length, take, Option, Some, None}
 use Rattle.bz_model.specs.Fraction.{ratio}
 use Rattle.bz_model.specs.Spec.{Spec}
 use Rattle.bz_model.specs.WellFounded.{IsWellFounded}
 use Rattle.bz_model.specs.declared.fraction.Fraction.{Fraction}
 use Rattle.bit_tape.specs.Tape.{bits_of}
-use Rattle.oracle_memo.specs.Levels.{level_bounds, cost_at}
+use Rattle.oracle_memo.specs.Levels.{level_bounds_from, cost_at}
 use Rattle.rounded_map.specs.RoundedMap.{Setting, setting}
 use Rattle.size_window.specs.Drawing.{limits_of}
 use Rattle.size_window.specs.RunByBits.{Limits as Window, Course, Ending}
@@ -25,7 +25,7 @@ use Rattle.boltz.specs.Answers.{World, Carries, Answers, Unworded}
 use Rattle.boltz.specs.Answers as answers
 use Rattle.boltz.specs.Commands.{IsBuilt, Specifies, AreRefused}
 use Rattle.boltz.specs.Commands as commands
-use Rattle.boltz.specs.Complete.{IsGiven, IsFit, IsPrintable, IsUnfit, undisturbed, IsDrawable, IsBoundable, IsBaseless}
+use Rattle.boltz.specs.Complete.{IsGiven, IsFit, IsPrintable, IsUnfit, undisturbed, IsDrawable, IsBoundable, IsBaseless, IsWithoutFast}
 use Rattle.boltz.specs.Complete as complete
 use Rattle.sample_command.specs.Drawn.{TapeMet, HasFailed, Drawn, Lists, drawn_header, closing_lines, ending_status}
 use Rattle.sample_command.specs.Drawn as drawn
@@ -35,14 +35,17 @@ use Rattle.bulk_command.specs.BulkCommand as bulks
 use Rattle.boltz.specs.OracleCommand.{Bounded, bounded_text}
 use Rattle.call_stages.specs.Outcomes.{Outcome, Says, MaySay}
 use Rattle.call_stages.specs.Outcomes as outcomes
-use Rattle.call_stages.specs.Refusals.{words_line, not_yet_line, no_upper_text}
-use Rattle.sample_command.specs.SampleCommand.{DrawnFrom, source_of, tape_in}
+use Rattle.call_stages.specs.Refusals.{words_line, not_yet_line, no_upper_text, no_fast_line}
+use Rattle.sample_command.specs.SampleCommand.{DrawnFrom, DrawnOver, source_of, tape_in}
+use Rattle.sample_command.specs.Starts.{format_of, start_of, Started}
+use Rattle.sample_command.specs.Starts as starting
 use Rattle.boltz.specs.SpecCommand.{Printed, spec_text}
 use Rattle.call_stages.specs.Stages.{IsCalm, Files, IsAccepted, FileRead, Judged, Specified, Based}
 use Rattle.call_stages.specs.Stages as stages
 use Rattle.call_stages.specs.declared.status.Status.{Status}
 use Rattle.boltz.proofs.Commands.{not-refused, one-fault}
 use Rattle.sample_command.proofs.OneDrawing.{same-course}
+use Rattle.sample_command.proofs.Starting.{started-only, startless-only}
 use Rattle.call_stages.proofs.OneReading.{may-say-only, read-only, judged-only, unfit-refused, based-only, baseless-only}
 
 -- words that stand for a command have an outcome of it
@@ -83,8 +86,8 @@ unfit-carried w p (command.Spec file) is status text ticks memory h = unfit-only
 unfit-carried w p (command.Oracle file x F) is status text ticks memory h =
     let next = λ (s : Spec). Based (setting s x.num x.den (fraction_bits F)) (Bounded (setting s x.num x.den (fraction_bits F))) in
     unfit-only w p next status text ticks memory (subst (λ f. Specified w.files f next status text ticks) is h)
-unfit-carried w p (command.Sample file x word limits F false) is status text ticks memory h =
-    let next = λ (s : Spec). Based (setting s x.num x.den (fraction_bits F)) (DrawnFrom (setting s x.num x.den (fraction_bits F)) (limits_of limits) (tape_in w.files (source_of word))) in
+unfit-carried w p (command.Sample file x word limits F fast) is status text ticks memory h =
+    let next = λ (s : Spec). Based (setting s x.num x.den (fraction_bits F)) (DrawnOver fast (setting s x.num x.den (fraction_bits F)) (limits_of limits) (tape_in w.files (source_of word))) in
     unfit-only w p next status text ticks memory (subst (λ f. Specified w.files f next status text ticks) is h)
 unfit-carried w p later is status text ticks memory h = absurd is
 
@@ -104,34 +107,45 @@ baseless w s x F status text ticks (complete.to_bound file fit none) memory h =
     let asked = command.Oracle file x F in
     let t = λ (s : Spec). setting s x.num x.den (fraction_bits F) in
     baseless-only (t s) (Bounded (t s)) none status text ticks memory (fit-only w asked file s fit (λ s. Based (t s) (Bounded (t s))) status text ticks memory (outcome-of w asked fit.given.named status text ticks memory h))
-baseless w s x F status text ticks (complete.to_draw file word limits fit none) memory h =
-    let asked = command.Sample file x word limits F false in
+baseless w s x F status text ticks (complete.to_draw file word limits fast fit none) memory h =
+    let asked = command.Sample file x word limits F fast in
     let t = λ (s : Spec). setting s x.num x.den (fraction_bits F) in
     let met = tape_in w.files (source_of word) in
-    baseless-only (t s) (DrawnFrom (t s) (limits_of limits) met) none status text ticks memory (fit-only w asked file s fit (λ s. Based (t s) (DrawnFrom (t s) (limits_of limits) met)) status text ticks memory (outcome-of w asked fit.given.named status text ticks memory h))
+    baseless-only (t s) (DrawnOver fast (t s) (limits_of limits) met) none status text ticks memory (fit-only w asked file s fit (λ s. Based (t s) (DrawnOver fast (t s) (limits_of limits) met)) status text ticks memory (outcome-of w asked fit.given.named status text ticks memory h))
 
 -- a drawing over a tape that is known is the undisturbed one
-drawn-only : (cost : ℕ → ℕ) (header : List ℕ) (a : Setting) (base : List ℕ) (limits : Window) (t : TapeMet) (bits : ℕ → Option Bool) (turns : ℕ) (ending : Ending) → bits_of t.source t.contents ≡ Some bits → ¬ (HasFailed t) → (undisturbed a base limits bits turns).state.ending ≡ Some ending → (status : Status) (text : List ℕ) (ticks : ℕ) → status ≢ Status.OutOfMemory → Drawn cost header a.spec (ratio a.num a.den) a.bits (level_bounds a base) limits t status text ticks → (status ≡ ending_status ending) × ((lines : List ℕ) × Lists a.spec (undisturbed a base limits bits turns).entries lines × (text ≡ header ++ (lines ++ closing_lines (level_bounds a base) (undisturbed a base limits bits turns) ending)))
-drawn-only cost header a base limits t bits turns ending are_known calm ends status text ticks memory (drawn.so_far c given first others lines h e l says) = absurd (memory says.status_is)
-drawn-only cost header a base limits t bits turns ending are_known calm ends status text ticks memory (drawn.no_memory says) = absurd (memory says.status_is)
-drawn-only cost header a base limits t bits turns ending are_known calm ends status text ticks memory (drawn.ended c given d lines h l says) =
-    let same = same-course a.spec (ratio a.num a.den) a.bits (level_bounds a base) limits t bits are_known calm c given d h turns ending ends in (
+drawn-only : (cost : ℕ → ℕ) (header : List ℕ) (a : Setting) (base start : List ℕ) (limits : Window) (t : TapeMet) (bits : ℕ → Option Bool) (turns : ℕ) (ending : Ending) → bits_of t.source t.contents ≡ Some bits → ¬ (HasFailed t) → (undisturbed a base start limits bits turns).state.ending ≡ Some ending → (status : Status) (text : List ℕ) (ticks : ℕ) → status ≢ Status.OutOfMemory → Drawn cost header a.spec (ratio a.num a.den) a.bits (level_bounds_from a start base) limits t status text ticks → (status ≡ ending_status ending) × ((lines : List ℕ) × Lists a.spec (undisturbed a base start limits bits turns).entries lines × (text ≡ header ++ (lines ++ closing_lines (level_bounds_from a start base) (undisturbed a base start limits bits turns) ending)))
+drawn-only cost header a base start limits t bits turns ending are_known calm ends status text ticks memory (drawn.so_far c given first others lines h e l says) = absurd (memory says.status_is)
+drawn-only cost header a base start limits t bits turns ending are_known calm ends status text ticks memory (drawn.no_memory says) = absurd (memory says.status_is)
+drawn-only cost header a base start limits t bits turns ending are_known calm ends status text ticks memory (drawn.ended c given d lines h l says) =
+    let same = same-course a.spec (ratio a.num a.den) a.bits (level_bounds_from a start base) limits t bits are_known calm c given d h turns ending ends in (
       says.status_is ∙ ap ending_status same.1,
       (
         lines,
         subst (λ (z : Course). Lists a.spec z.entries lines) same.0 l,
-        says.text_is ∙ ap (λ (z : Course). header ++ (lines ++ closing_lines (level_bounds a base) z d)) same.0 ∙ ap (λ z. header ++ (lines ++ closing_lines (level_bounds a base) (undisturbed a base limits bits turns) z)) same.1,
+        says.text_is ∙ ap (λ (z : Course). header ++ (lines ++ closing_lines (level_bounds_from a start base) z d)) same.0 ∙ ap (λ z. header ++ (lines ++ closing_lines (level_bounds_from a start base) (undisturbed a base start limits bits turns) z)) same.1,
       ),
     )
 
-pub draws : (w : World) (s : Spec) (x : Fraction) (F : FractionBits) (turns : ℕ) (limits : Limits) (base : List ℕ) (bits : ℕ → Option Bool) (ending : Ending) (status : Status) (text : List ℕ) (ticks : ℕ) → IsDrawable w s x F limits base bits turns ending → status ≢ Status.OutOfMemory → Answers w status text ticks → (status ≡ ending_status ending) × ((lines : List ℕ) × Lists s (undisturbed (setting s x.num x.den (fraction_bits F)) base (limits_of limits) bits turns).entries lines × (text ≡ drawn_header (setting s x.num x.den (fraction_bits F)) base (limits_of limits) ++ (lines ++ closing_lines (level_bounds (setting s x.num x.den (fraction_bits F)) base) (undisturbed (setting s x.num x.den (fraction_bits F)) base (limits_of limits) bits turns) ending)))
-draws w s x F turns limits base bits ending status text ticks p memory h =
-    let asked = command.Sample p.file x p.word limits F false in
+pub draws : (w : World) (s : Spec) (x : Fraction) (F : FractionBits) (fast : Bool) (turns : ℕ) (limits : Limits) (base start : List ℕ) (bits : ℕ → Option Bool) (ending : Ending) (status : Status) (text : List ℕ) (ticks : ℕ) → IsDrawable w s x F fast limits base start bits turns ending → status ≢ Status.OutOfMemory → Answers w status text ticks → (status ≡ ending_status ending) × ((lines : List ℕ) × Lists s (undisturbed (setting s x.num x.den (fraction_bits F)) base start (limits_of limits) bits turns).entries lines × (text ≡ drawn_header (format_of fast) (setting s x.num x.den (fraction_bits F)) base (limits_of limits) ++ (lines ++ closing_lines (level_bounds_from (setting s x.num x.den (fraction_bits F)) start base) (undisturbed (setting s x.num x.den (fraction_bits F)) base start (limits_of limits) bits turns) ending)))
+draws w s x F fast turns limits base start bits ending status text ticks p memory h =
+    let asked = command.Sample p.file x p.word limits F fast in
     let t = λ (s : Spec). setting s x.num x.den (fraction_bits F) in
     let met = tape_in w.files (source_of p.word) in
-    let own = fit-only w asked p.file s p.fit (λ s. Based (t s) (DrawnFrom (t s) (limits_of limits) met)) status text ticks memory (outcome-of w asked p.fit.given.named status text ticks memory h) in
-    let over = based-only (t s) (DrawnFrom (t s) (limits_of limits) met) base p.has_base status text ticks memory own in
-    drawn-only cost_at (drawn_header (t s) base (limits_of limits)) (t s) base (limits_of limits) met bits turns ending p.are_told p.no_fault p.ends status text over.0 memory over.1
+    let own = fit-only w asked p.file s p.fit (λ s. Based (t s) (DrawnOver fast (t s) (limits_of limits) met)) status text ticks memory (outcome-of w asked p.fit.given.named status text ticks memory h) in
+    let over = based-only (t s) (DrawnOver fast (t s) (limits_of limits) met) base p.has_base status text ticks memory own in
+    let from = started-only fast (t s) base (DrawnFrom fast (t s) (limits_of limits) met base) start p.has_start status text over.0 memory over.1 in
+    drawn-only cost_at (drawn_header (format_of fast) (t s) base (limits_of limits)) (t s) base start (limits_of limits) met bits turns ending p.are_told p.no_fault p.ends status text from.0 memory from.1
+
+-- without a fast vector nothing is drawn by it
+pub without-fast : (w : World) (s : Spec) (x : Fraction) (F : FractionBits) (base : List ℕ) (status : Status) (text : List ℕ) (ticks : ℕ) → IsWithoutFast w s x F base → status ≢ Status.OutOfMemory → Answers w status text ticks → (status ≡ Status.NoFast) × (text ≡ no_fast_line (fraction_bits F))
+without-fast w s x F base status text ticks p memory h =
+    let asked = command.Sample p.file x p.word p.limits F true in
+    let t = λ (s : Spec). setting s x.num x.den (fraction_bits F) in
+    let met = tape_in w.files (source_of p.word) in
+    let own = fit-only w asked p.file s p.fit (λ s. Based (t s) (DrawnOver true (t s) (limits_of p.limits) met)) status text ticks memory (outcome-of w asked p.fit.given.named status text ticks memory h) in
+    let over = based-only (t s) (DrawnOver true (t s) (limits_of p.limits) met) base p.has_base status text ticks memory own in
+    startless-only true (t s) base (DrawnFrom true (t s) (limits_of p.limits) met base) p.has_none status text over.0 memory over.1
 
 -- only words that are refused have the status that says so
 not-words : (said status : Status) (line text : List ℕ) (most ticks : ℕ) → said ≢ Status.WordsRefused → Says said line most status text ticks → status ≡ Status.WordsRefused → ⊥
@@ -164,25 +178,25 @@ ending-no-words (Ending.Undecided left_open) is = absurd (cc)
 ending-no-words Ending.TurnLimit is = absurd (cc)
 ending-no-words Ending.ReadFault is = absurd (cc)
 
-drawn-no-words : (t : Setting) (limits : Window) (met : TapeMet) (base : List ℕ) (status : Status) (text : List ℕ) (ticks : ℕ) → DrawnFrom t limits met base status text ticks → status ≡ Status.WordsRefused → ⊥
-drawn-no-words t limits met base status text ticks (drawn.ended c given d lines h l says) is = not-words (ending_status d) status _ text _ ticks (ending-no-words d) says is
-drawn-no-words t limits met base status text ticks (drawn.so_far c given first others lines h e l says) is = not-words Status.OutOfMemory status _ text _ ticks (λ e. absurd (cc)) says is
-drawn-no-words t limits met base status text ticks (drawn.no_memory says) is = not-words Status.OutOfMemory status _ text _ ticks (λ e. absurd (cc)) says is
+drawn-no-words : (fast : Bool) (t : Setting) (limits : Window) (met : TapeMet) (base start : List ℕ) (status : Status) (text : List ℕ) (ticks : ℕ) → DrawnFrom fast t limits met base start status text ticks → status ≡ Status.WordsRefused → ⊥
+drawn-no-words fast t limits met base start status text ticks (drawn.ended c given d lines h l says) is = not-words (ending_status d) status _ text _ ticks (ending-no-words d) says is
+drawn-no-words fast t limits met base start status text ticks (drawn.so_far c given first others lines h e l says) is = not-words Status.OutOfMemory status _ text _ ticks (λ e. absurd (cc)) says is
+drawn-no-words fast t limits met base start status text ticks (drawn.no_memory says) is = not-words Status.OutOfMemory status _ text _ ticks (λ e. absurd (cc)) says is
 
-bulk-no-words : (n : ℕ) (t : Setting) (base : List ℕ) (status : Status) (text : List ℕ) (ticks : ℕ) → BulkDrawn n t base status text ticks → status ≡ Status.WordsRefused → ⊥
-bulk-no-words n t base status text ticks (bulks.ended c given d h says) is = not-words (ending_status d) status _ text _ ticks (ending-no-words d) says is
-bulk-no-words n t base status text ticks (bulks.so_far c given h says) is = not-words Status.OutOfMemory status _ text _ ticks (λ e. absurd (cc)) says is
-bulk-no-words n t base status text ticks (bulks.no_memory says) is = not-words Status.OutOfMemory status _ text _ ticks (λ e. absurd (cc)) says is
+over-no-words : (fast : Bool) (t : Setting) (limits : Window) (met : TapeMet) (base : List ℕ) (status : Status) (text : List ℕ) (ticks : ℕ) → DrawnOver fast t limits met base status text ticks → status ≡ Status.WordsRefused → ⊥
+over-no-words fast t limits met base status text ticks (starting.no_fast none says) is = not-words Status.NoFast status _ text _ ticks (λ e. absurd (cc)) says is
+over-no-words fast t limits met base status text ticks (starting.no_memory says) is = not-words Status.OutOfMemory status _ text _ ticks (λ e. absurd (cc)) says is
+over-no-words fast t limits met base status text ticks (starting.started start more has p sum) is = drawn-no-words fast t limits met base start status text more p is
 
 carried-no-words : (f : Files) (asked : Command) → ¬ (¬ (IsBuilt asked)) → (status : Status) (text : List ℕ) (ticks : ℕ) → Carries f asked status text ticks → status ≡ Status.WordsRefused → ⊥
 carried-no-words f (command.Spec file) built status text ticks h is = specified-no-words f file Printed (λ s status text ticks p e. said-no-words Status.Done (spec_text s) 0 status text ticks (λ e. absurd (cc)) p e) status text ticks h is
 carried-no-words f (command.Oracle file x F) built status text ticks h is =
     let t = λ (s : Spec). setting s x.num x.den (fraction_bits F) in
     specified-no-words f file (λ s. Based (t s) (Bounded (t s))) (λ s. based-no-words (t s) (Bounded (t s)) (λ base status text ticks p e. said-no-words Status.Done (bounded_text (t s) base) (cost_at 6) status text ticks (λ e. absurd (cc)) p e)) status text ticks h is
-carried-no-words f (command.Sample file x word limits F false) built status text ticks h is =
+carried-no-words f (command.Sample file x word limits F fast) built status text ticks h is =
     let t = λ (s : Spec). setting s x.num x.den (fraction_bits F) in
     let met = tape_in f (source_of word) in
-    specified-no-words f file (λ s. Based (t s) (DrawnFrom (t s) (limits_of limits) met)) (λ s. based-no-words (t s) (DrawnFrom (t s) (limits_of limits) met) (drawn-no-words (t s) (limits_of limits) met)) status text ticks h is
+    specified-no-words f file (λ s. Based (t s) (DrawnOver fast (t s) (limits_of limits) met)) (λ s. based-no-words (t s) (DrawnOver fast (t s) (limits_of limits) met) (over-no-words fast (t s) (limits_of limits) met)) status text ticks h is
 carried-no-words f (command.Bulk n F) built status text ticks h is =
     let t = λ (s : Spec). setting s 3 16 (fraction_bits F) in
     judged-no-words (bulk_text n) (λ s. Based (t s) (BulkDrawn n (t s))) (λ s. based-no-words (t s) (BulkDrawn n (t s)) (bulk-no-words n (t s))) status text ticks h is
@@ -191,7 +205,7 @@ carried-no-words f later built status text ticks h is = absurd (built (λ no. no
 only-refused : (w : World) (asked : Command) → IsCommand w.words asked → (status : Status) (text : List ℕ) (ticks : ℕ) → Carries w.files asked status text ticks → status ≡ Status.WordsRefused → AreRefused w.words
 only-refused w (command.Spec file) named status text ticks h is = absurd (carried-no-words w.files (command.Spec file) (λ no. no tt) status text ticks h is)
 only-refused w (command.Oracle file x F) named status text ticks h is = absurd (carried-no-words w.files (command.Oracle file x F) (λ no. no tt) status text ticks h is)
-only-refused w (command.Sample file x word limits F false) named status text ticks h is = absurd (carried-no-words w.files (command.Sample file x word limits F false) (λ no. no tt) status text ticks h is)
+only-refused w (command.Sample file x word limits F fast) named status text ticks h is = absurd (carried-no-words w.files (command.Sample file x word limits F fast) (λ no. no tt) status text ticks h is)
 only-refused w (command.Bulk n F) named status text ticks h is = absurd (carried-no-words w.files (command.Bulk n F) (λ no. no tt) status text ticks h is)
 only-refused w later named status text ticks h is = commands.not_yet later named (λ built. built)
 
@@ -209,7 +223,7 @@ no_command w fault status text ticks refuses m memory (answers.carried asked nam
 later-only : (f : Files) (asked : Command) → ¬ (IsBuilt asked) → (status : Status) (text : List ℕ) (ticks : ℕ) → status ≢ Status.OutOfMemory → Carries f asked status text ticks → (status ≡ Status.WordsRefused) × (text ≡ not_yet_line)
 later-only f (command.Spec file) unbuilt status text ticks memory h = absurd (unbuilt tt)
 later-only f (command.Oracle file x F) unbuilt status text ticks memory h = absurd (unbuilt tt)
-later-only f (command.Sample file x word limits F false) unbuilt status text ticks memory h = absurd (unbuilt tt)
+later-only f (command.Sample file x word limits F fast) unbuilt status text ticks memory h = absurd (unbuilt tt)
 later-only f (command.Bulk n F) unbuilt status text ticks memory h = absurd (unbuilt tt)
 later-only f later unbuilt status text ticks memory h = may-say-only Status.WordsRefused not_yet_line 0 status text ticks memory h
 

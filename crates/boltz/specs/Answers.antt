@@ -1,5 +1,5 @@
 -- What the program answers to words, in the files that it meets. Each command has its own file of these definitions, and a line here.
-use Rattle.std.specs.Prelude.{false, ◌≡◌, ◌≢◌, ℕ, List, [], ◌∷◌, Option, Some}
+use Rattle.std.specs.Prelude.{◌≡◌, ◌≢◌, ℕ, List, [], ◌∷◌, Option, Some}
 use Rattle.bz_outside.specs.Outside.{Rose}
 use Rattle.command_words.specs.Commands.{IsCommand, Refuses}
 use Rattle.command_words.specs.Fractions.{fraction_bits}
@@ -33,7 +33,7 @@ NotYet = MaySay Status.WordsRefused not_yet_line 0
 abbrev pub Carries : Files → Command → Outcome
 Carries f (command.Spec file) = CarriesSpec f file
 Carries f (command.Oracle file x F) = CarriesOracle f file x (fraction_bits F)
-Carries f (command.Sample file x word limits F false) = CarriesSample f file x word limits (fraction_bits F)
+Carries f (command.Sample file x word limits F fast) = CarriesSample f file x word limits (fraction_bits F) fast
 Carries f (command.Bulk n F) = CarriesBulk n (fraction_bits F)
 Carries f later = NotYet
 
@@ -56,7 +56,7 @@ tape_files (tape.Seed seed) = []
 abbrev pub files_of : Command → List (List ℕ)
 files_of (command.Spec file) = file ∷ []
 files_of (command.Oracle file x F) = file ∷ []
-files_of (command.Sample file x word limits F false) = file ∷ tape_files word
+files_of (command.Sample file x word limits F fast) = file ∷ tape_files word
 files_of later = []
 
 -- A call is undisturbed where each file that its words ask to read is known and no read of it failed.

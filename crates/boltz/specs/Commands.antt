@@ -1,5 +1,5 @@
 -- Which commands are built, which words are refused, and which specification a command reads.
-use Rattle.std.specs.Prelude.{false, ◌≡◌, ◌≢◌, ℕ, List}
+use Rattle.std.specs.Prelude.{◌≡◌, ◌≢◌, ℕ, List}
 use Rattle.command_words.specs.Commands.{IsCommand, Refuses}
 use Rattle.command_words.specs.declared.command.Command.{Command}
 use Rattle.command_words.specs.declared.command.Command.TheVariants as command
@@ -9,7 +9,7 @@ use Rattle.command_words.specs.declared.fault.WordsFault.{WordsFault}
 abbrev pub IsBuilt : Command → Type 0
 IsBuilt (command.Spec file) = Unit {0}
 IsBuilt (command.Oracle file x F) = Unit {0}
-IsBuilt (command.Sample file x word limits F false) = Unit {0}
+IsBuilt (command.Sample file x word limits F fast) = Unit {0}
 IsBuilt (command.Bulk n F) = Unit {0}
 IsBuilt later = ⊥
 
@@ -17,7 +17,7 @@ IsBuilt later = ⊥
 abbrev pub Specifies : Command → (file : List ℕ) → Type 0
 Specifies (command.Spec file) name = file ≡ name
 Specifies (command.Oracle file x F) name = file ≡ name
-Specifies (command.Sample file x word limits F false) name = file ≡ name
+Specifies (command.Sample file x word limits F fast) name = file ≡ name
 Specifies later name = ⊥
 
 -- There are words that stand for a command.

@@ -12,21 +12,22 @@ ghost use Rattle.command_words.specs.declared.command.FractionBits.{FractionBits
 ghost use Rattle.command_words.specs.declared.fault.WordsFault.{WordsFault};
 ghost use Rattle.newton_upper.specs.BaseRule.{HasNoUpper};
 ghost use Rattle.newton_upper.specs.declared.trials.Trial.{Trial};
-ghost use Rattle.oracle_memo.specs.Levels.{level_bounds};
+ghost use Rattle.oracle_memo.specs.Levels.{level_bounds_from};
 ghost use Rattle.rounded_map.specs.RoundedMap.{setting};
 ghost use Rattle.size_window.specs.Drawing.{limits_of};
 ghost use Rattle.size_window.specs.RunByBits.{Ending};
 ghost use Rattle.size_window.specs.declared.limits.Limits.{Limits};
 ghost use Rattle.boltz.specs.Answers.{World, Answers, IsUndisturbed};
 ghost use Rattle.boltz.specs.Commands.{IsBuilt, AreRefused};
-ghost use Rattle.boltz.specs.Complete.{IsPrintable, IsUnfit, IsDrawable, IsBoundable, IsBaseless, IsCountable, undisturbed};
+ghost use Rattle.boltz.specs.Complete.{IsPrintable, IsUnfit, IsDrawable, IsBoundable, IsBaseless, IsWithoutFast, IsCountable, undisturbed};
 ghost use Rattle.bulk_command.specs.BulkCommand.{bulk_course, course_line};
 ghost use Rattle.bulk_command.specs.BulkTables.{bulk_tables};
+ghost use Rattle.sample_command.specs.Starts.{format_of};
 ghost use Rattle.sample_command.specs.Drawn.{Lists, drawn_header, closing_lines, ending_status};
 ghost use Rattle.call_stages.specs.Ends.{Output, EndsBy, IsWritten};
 ghost use Rattle.boltz.specs.OracleCommand.{bounded_text};
 ghost use Rattle.call_stages.specs.Outcomes.{IsOne};
-ghost use Rattle.call_stages.specs.Refusals.{words_line, not_yet_line, no_upper_text};
+ghost use Rattle.call_stages.specs.Refusals.{words_line, not_yet_line, no_upper_text, no_fast_line};
 ghost use Rattle.boltz.specs.SpecCommand.{spec_text};
 ghost use Rattle.call_stages.specs.declared.status.Status.{Status};
 
@@ -73,12 +74,20 @@ pub fn what_can_be_bounded_is_bounded()
         → (trials : List Trial) × HasNoUpper (setting s x.num x.den (fraction_bits F)) trials × (status ≡ Status.NoUpper) × (text ≡ no_upper_text s (fraction_bits F) trials) }
 {}
 
+/// Where the base has no fast vector, drawing by it has no other answer than the line that says so.
+pub fn what_has_no_fast_vector_is_refused()
+    ensures refused { (w : World) (s : Spec) (x : Fraction) (F : FractionBits) (base : List ℕ) (status : Status) (text : List ℕ) (ticks : ℕ)
+        → IsWithoutFast w s x F base → status ≢ Status.OutOfMemory → Answers w status text ticks
+        → (status ≡ Status.NoFast) × (text ≡ no_fast_line (fraction_bits F)) }
+{}
+
 /// What can be drawn has no other answer than the text of the drawing over the base's levels and the
-/// tape's bits, with the status of its end.
+/// tape's bits, with the status of its end. The lower sweeps of the levels start from zero, or with
+/// `--fast` from the base's fast vector.
 pub fn what_can_be_drawn_is_drawn()
-    ensures drawn { (w : World) (s : Spec) (x : Fraction) (F : FractionBits) (turns : ℕ) (limits : Limits) (base : List ℕ) (bits : ℕ → Option Bool) (ending : Ending) (status : Status) (text : List ℕ) (ticks : ℕ)
-        → IsDrawable w s x F limits base bits turns ending → status ≢ Status.OutOfMemory → Answers w status text ticks
-        → (status ≡ ending_status ending) × ((lines : List ℕ) × Lists s (undisturbed (setting s x.num x.den (fraction_bits F)) base (limits_of limits) bits turns).entries lines × (text ≡ drawn_header (setting s x.num x.den (fraction_bits F)) base (limits_of limits) ++ (lines ++ closing_lines (level_bounds (setting s x.num x.den (fraction_bits F)) base) (undisturbed (setting s x.num x.den (fraction_bits F)) base (limits_of limits) bits turns) ending))) }
+    ensures drawn { (w : World) (s : Spec) (x : Fraction) (F : FractionBits) (fast : Bool) (turns : ℕ) (limits : Limits) (base start : List ℕ) (bits : ℕ → Option Bool) (ending : Ending) (status : Status) (text : List ℕ) (ticks : ℕ)
+        → IsDrawable w s x F fast limits base start bits turns ending → status ≢ Status.OutOfMemory → Answers w status text ticks
+        → (status ≡ ending_status ending) × ((lines : List ℕ) × Lists s (undisturbed (setting s x.num x.den (fraction_bits F)) base start (limits_of limits) bits turns).entries lines × (text ≡ drawn_header (format_of fast) (setting s x.num x.den (fraction_bits F)) base (limits_of limits) ++ (lines ++ closing_lines (level_bounds_from (setting s x.num x.den (fraction_bits F)) start base) (undisturbed (setting s x.num x.den (fraction_bits F)) base start (limits_of limits) bits turns) ending))) }
 {}
 
 /// What can be counted has no other answer than the line of the run over the base's levels and the bits

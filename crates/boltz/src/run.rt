@@ -78,13 +78,9 @@ fn carried_out<S: Shelf, K: Sink, L: Ledger>(
             limits,
             fraction,
             fast,
-        } => {
-            if *fast {
-                not_yet(alloc, out)
-            } else {
-                sample(alloc, file, *x, tape, *limits, *fraction, shelf, out, steps)
-            }
-        }
+        } => sample(
+            alloc, file, *x, tape, *limits, *fraction, *fast, shelf, out, steps,
+        ),
         Command::Pool { .. } => not_yet(alloc, out),
         Command::Verify { .. } => not_yet(alloc, out),
         Command::Migrate { .. } => not_yet(alloc, out),

@@ -1,4 +1,4 @@
-use Rattle.std.proofs.Common.{subst, sym, ap, ◌∙◌}
+use Rattle.std.proofs.Common.{subst, sym}
 use Rattle.command_words.specs.declared.command.Command.{Command}
 use Rattle.command_words.specs.declared.command.Command.TheVariants as command
 use Rattle.boltz.specs.Answers.{Carries}
@@ -70,10 +70,3 @@ pub returns-in-Rank-clause-ends : goal.returns-in-Rank-clause-ends
 returns-in-Rank-clause-ends g c =
     let at = c.not_yet-in-Rank in
     subst (λ (k : Command). EndsBy (Carries (files (g.S.Shelf.content c.args.shelf.now) (g.S.Shelf.faults c.args.shelf.now) (g.S.Shelf.faults c.args.shelf.now)) k) (output (g.K.Sink.written c.args.out.now) (g.K.Sink.written at.new.out) (g.K.Sink.faults c.args.out.now) (g.K.Sink.faults at.new.out) c.args.steps.now c.args.steps.now) at.result) (sym c.in-Rank.is) (at.ensures.ends c.args.steps.now)
-
--- a fast sample isn't built yet
-pub returns-then-fast-clause-ends : goal.returns-then-fast-clause-ends
-returns-then-fast-clause-ends g c =
-    let at = c.not_yet in
-    subst (λ (k : Command). EndsBy (Carries (files (g.S.Shelf.content c.args.shelf.now) (g.S.Shelf.faults c.args.shelf.now) (g.S.Shelf.faults c.args.shelf.now)) k) (output (g.K.Sink.written c.args.out.now) (g.K.Sink.written at.new.out) (g.K.Sink.faults c.args.out.now) (g.K.Sink.faults at.new.out) c.args.steps.now c.args.steps.now) at.result)
-    (sym (c.in-Sample.is ∙ ap (λ b. command.Sample c.in-Sample.file c.in-Sample.x c.in-Sample.tape c.in-Sample.limits c.in-Sample.fraction b) c.if-fast.true)) (at.ensures.ends c.args.steps.now)
