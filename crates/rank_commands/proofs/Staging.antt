@@ -1,0 +1,90 @@
+-- Stages: what ends a call before anything is printed, and what follows where a stage goes on.
+use Rattle.std.proofs.Common.{◌≡◌, ◌≢◌, ℕ, ◌<◌, ◌≤◌, List, refl}
+use Rattle.std.specs.Prelude.{Option, Some}
+use Rattle.bz_model.specs.Spec.{Spec, Mode}
+use Rattle.object_store.specs.declared.token.Token.{Token}
+use Rattle.object_store.specs.Tokens.{IsOf, size_of}
+use Rattle.object_text.specs.Reading.{IsRead}
+use Rattle.rank_tables.specs.Refusals.{IsFirstRanged, HasPlainRanges}
+use Rattle.rank_tables.specs.Tables.{TellsFault}
+use Rattle.rank_tables.specs.declared.rank_tables.RankFault.{RankFault}
+use Rattle.rank_tables.specs.declared.rank_tables.RankFault.TheVariants.{Labelled, Ranged, TooMany, OutOfMemory}
+use Rattle.call_stages.specs.Outcomes.{Outcome, Never, Says}
+use Rattle.call_stages.specs.Reports.{refusal_status, refusal_text}
+use Rattle.call_stages.specs.declared.report.Refusal.{Refusal}
+use Rattle.call_stages.specs.declared.report.Refusal.TheVariants as refusal
+use Rattle.call_stages.specs.declared.status.Status.{Status}
+use Rattle.call_stages.proofs.Staging.{says-nothing}
+use Rattle.object_stage.specs.ObjectStage.{IsObjectIn}
+use Rattle.rank_commands.specs.Faults.{fault_line}
+use Rattle.rank_commands.specs.RankStages.{Rankable, Counted, SizeJudged}
+use Rattle.rank_commands.specs.RankStages as stages
+
+-- tables are refused for labels, for a range, or for a count that is too great
+pub tables_refused : (s : Spec) (most : ℕ) (fault : RankFault) (status : Status) (text : List ℕ) → fault ≢ OutOfMemory → TellsFault s most fault → Says Status.RankRefused (fault_line fault) 0 status text 0 → Rankable s (Counted s most Never) status text 0
+tables_refused s most Labelled status text memory tells says = stages.labelled tells says
+tables_refused s most (Ranged e) status text memory tells says = stages.ranged e.0 tells.0 tells.1 says
+tables_refused s most (TooMany e n) status text memory tells says = stages.plain tells.0 tells.1 (stages.too_many e.0 n tells.2 says)
+tables_refused s most OutOfMemory status text memory tells says = absurd (memory refl)
+
+pub tables_lack_memory : (s : Spec) (most : ℕ) (e : Refusal) → e ≡ refusal.OutOfMemory → Rankable s (Counted s most Never) (refusal_status e) (refusal_text e) 0
+tables_lack_memory s most e is = stages.no_memory (says-nothing 0 e is)
+
+-- what concerns no count is refused for labels or for a range
+pub form_refused : (s : Spec) (fault : RankFault) (status : Status) (text : List ℕ) → ((e n : ℕ) → ¬ (fault ≡ TooMany (record { 0 = e }) n)) → fault ≢ OutOfMemory → TellsFault s 0 fault → Says Status.RankRefused (fault_line fault) 0 status text 0 → Rankable s Never status text 0
+form_refused s Labelled status text counts memory tells says = stages.labelled tells says
+form_refused s (Ranged e) status text counts memory tells says = stages.ranged e.0 tells.0 tells.1 says
+form_refused s (TooMany e n) status text counts memory tells says = absurd (counts e.0 n refl)
+form_refused s OutOfMemory status text counts memory tells says = absurd (memory refl)
+
+pub form_lacks_memory : (s : Spec) (e : Refusal) → e ≡ refusal.OutOfMemory → Rankable s Never (refusal_status e) (refusal_text e) 0
+form_lacks_memory s e is = stages.no_memory (says-nothing 0 e is)
+
+-- the size is refused
+pub size_lacks_memory : (tokens : List Token) (e : Refusal) → e ≡ refusal.OutOfMemory → SizeJudged tokens Never (refusal_status e) (refusal_text e) 0
+size_lacks_memory tokens e is = stages.no_memory (says-nothing 0 e is)
+
+module _ (s : Spec) (status : Status) (text : List ℕ) (ticks : ℕ) where
+  -- what comes next may be said otherwise
+  pub rankable-as : (P Q : Outcome) → (s.mode ≡ Mode.Unlabelled → HasPlainRanges s → P status text ticks → Q status text ticks) → Rankable s P status text ticks → Rankable s Q status text ticks
+  rankable-as P Q on (stages.labelled mode says) = stages.labelled mode says
+  rankable-as P Q on (stages.ranged e mode first says) = stages.ranged e mode first says
+  rankable-as P Q on (stages.no_memory says) = stages.no_memory says
+  rankable-as P Q on (stages.plain mode plain p) = stages.plain mode plain (on mode plain p)
+
+  pub counted-as : (most : ℕ) (P Q : Outcome) → (P status text ticks → Q status text ticks) → Counted s most P status text ticks → Counted s most Q status text ticks
+  counted-as most P Q on (stages.too_many e n many says) = stages.too_many e n many says
+  counted-as most P Q on (stages.no_memory says) = stages.no_memory says
+  counted-as most P Q on (stages.counted small p) = stages.counted small (on p)
+
+  pub size-as : (tokens : List Token) (P Q : Outcome) → (P status text ticks → Q status text ticks) → SizeJudged tokens P status text ticks → SizeJudged tokens Q status text ticks
+  size-as tokens P Q on (stages.too_large large says) = stages.too_large large says
+  size-as tokens P Q on (stages.no_memory says) = stages.no_memory says
+  size-as tokens P Q on (stages.fits fits p) = stages.fits fits (on p)
+
+  -- what ended the call at a stage
+  pub ended_at_form : (next : Outcome) → Rankable s Never status text ticks → Rankable s next status text ticks
+  ended_at_form next h = rankable-as Never next (λ mode plain never. absurd never) h
+
+  pub ended_at_tables : (most : ℕ) (next : Outcome) → Rankable s (Counted s most Never) status text ticks → Rankable s (Counted s most next) status text ticks
+  ended_at_tables most next h = rankable-as (Counted s most Never) (Counted s most next) (λ mode plain p. counted-as most Never next (λ never. absurd never) p) h
+
+  pub ended_at_size : (tokens : List Token) (next : Outcome) → SizeJudged tokens Never status text ticks → SizeJudged tokens next status text ticks
+  ended_at_size tokens next h = size-as tokens Never next (λ never. absurd never) h
+
+  -- the specification is known to be unlabelled, with plain ranges alone
+  ranged-not : {P : Type 0} (e : ℕ) → HasPlainRanges s → IsFirstRanged s e → P
+  ranged-not e plain first = absurd (first.ranged.ranged (plain.plain e first.ranged.node first.ranged.is_node))
+
+  pub ended_at_counts : (most : ℕ) (next : Outcome) → s.mode ≡ Mode.Unlabelled → HasPlainRanges s → Rankable s (Counted s most Never) status text ticks → Counted s most next status text ticks
+  ended_at_counts most next mode plain (stages.labelled labelled says) = absurd (cc)
+  ended_at_counts most next mode plain (stages.ranged e unlabelled first says) = ranged-not e plain first
+  ended_at_counts most next mode plain (stages.no_memory says) = stages.no_memory says
+  ended_at_counts most next mode plain (stages.plain unlabelled ranges p) = counted-as most Never next (λ never. absurd never) p
+
+-- an object that was read is one of the first class
+pub read_object : (s : Spec) (text : List ℕ) (tokens : List Token) (labels : Option (List ℕ)) → IsRead s 0 text tokens labels → IsOf s 0 tokens
+read_object s text tokens labels is = record { body = is.body; is_body = is.is_body; object = is.object; belongs = is.canonical.read.belongs; spelled = is.spelled }
+
+pub object_in : (content : List ℕ → Option (List ℕ)) (s : Spec) (file : List ℕ) (tokens : List Token) (labels : Option (List ℕ)) → IsObjectIn content s file tokens labels → IsOf s 0 tokens
+object_in content s file tokens labels h = read_object s _ tokens labels h.is_read

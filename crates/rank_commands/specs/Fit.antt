@@ -1,0 +1,31 @@
+-- When the answer is certain: what is read of the files, and which specifications can be counted.
+use Rattle.std.specs.Prelude.{◌≡◌, ℕ, ◌≤◌, List, [], length, Option, Some}
+use Rattle.bz_model.specs.Spec.{Spec, Mode}
+use Rattle.bz_model.specs.Object.{Object, Belongs}
+use Rattle.bz_model.specs.ObjectText.{object_text}
+use Rattle.bz_model.specs.WellFounded.{IsWellFounded}
+use Rattle.rank_tables.specs.Refusals.{HasPlainRanges, HasSmallCounts}
+use Rattle.call_stages.specs.Stages.{Files, HasFailedRead, IsAccepted}
+use Rattle.object_stage.specs.ObjectStage.{without_feed}
+
+-- The file is known to have bytes that stand for this specification, which is within the limits and well founded, and no read of it failed in the call.
+pub record IsFit (f : Files) (file : List ℕ) (s : Spec) : Type 0 where
+  pub bytes : List ℕ
+  pub is_known : f.content file ≡ Some bytes
+  pub no_fault : ¬ (HasFailedRead f file)
+  pub accepted : IsAccepted bytes s
+  pub founded : IsWellFounded s
+
+-- The specification is unlabelled and has plain ranges alone, and no count for a size up to the greatest passes 2^128 - 1.
+pub record CanBeCounted (s : Spec) (most : ℕ) : Type 0 where
+  pub unlabelled : s.mode ≡ Mode.Unlabelled
+  pub plain : HasPlainRanges s
+  pub small : HasSmallCounts s most
+
+-- The file is known to have the text of this object, with or without a line feed at its end, and no read of it failed in the call.
+pub record IsTextIn (f : Files) (file : List ℕ) (s : Spec) (body : ℕ) (o : Object) (belongs : Belongs s body o) : Type 0 where
+  pub bytes : List ℕ
+  pub is_known : f.content file ≡ Some bytes
+  pub no_fault : ¬ (HasFailedRead f file)
+  pub few : length bytes ≤ 16777216
+  pub is_text : without_feed bytes ≡ object_text s body o belongs []
