@@ -25,14 +25,13 @@ use Rattle.chance_law.specs.declared.scaled.ChanceBounds.{ChanceBounds}
 use Rattle.chance_law.specs.Chance.{IsEnclosed}
 use Rattle.call_stages.specs.Outcomes.{Outcome, Says}
 use Rattle.call_stages.specs.Refusals.{no_upper_text}
-use Rattle.call_stages.specs.Stages.{Files, AreRead, IsAccepted, FileRead, Judged, Specified, IsSpecified, Based}
+use Rattle.call_stages.specs.Stages.{Files, IsCalm, AreRead, IsAccepted, FileRead, Judged, Specified, IsSpecified, Based}
 use Rattle.call_stages.specs.Stages as stages
 use Rattle.call_stages.specs.declared.status.Status.{Status}
 use Rattle.call_stages.proofs.OneReading.{read-only, judged-only, based-only, baseless-only}
 use Rattle.chance_command.specs.ChanceCommand.{chance_text, AreBoundsOver, Weighed, WeighedAt, ReadAndWeighed, CarriesChance}
 use Rattle.chance_command.specs.ChanceCommand as chance
 use Rattle.chance_command.specs.Completeness.{HasSpecification, HasObject, LacksObject, EnclosesChance}
-use Rattle.chance_command.proofs.FewTokens.{read-of}
 
 -- the first bytes of a short list are all of it
 take-all : (n : ℕ) (xs : List ℕ) → length xs ≤ n → take n xs ≡ xs
@@ -53,7 +52,7 @@ accepted-sound : (bytes : List ℕ) (s : Spec) → IsAccepted bytes s → IsSoun
 accepted-sound bytes s a = stands_sound (tokens_of bytes) s (are_lexical bytes) a.stands.stand_for
 
 -- the bytes of a short file are judged
-judged-file : (f : Files) (file : List ℕ) (s : Spec) (next : List Token → Option (List ℕ) → Outcome) (calm : stages.IsCalm f file) → length calm.bytes ≤ 16777216 → (status : Status) (text : List ℕ) (ticks : ℕ) → status ≢ Status.OutOfMemory → ObjectRead f s file next status text ticks → ObjectJudged s next calm.bytes status text ticks
+judged-file : (f : Files) (file : List ℕ) (s : Spec) (next : List Token → Option (List ℕ) → Outcome) (calm : IsCalm f file) → length calm.bytes ≤ 16777216 → (status : Status) (text : List ℕ) (ticks : ℕ) → status ≢ Status.OutOfMemory → ObjectRead f s file next status text ticks → ObjectJudged s next calm.bytes status text ticks
 judged-file f file s next calm few status text ticks memory h =
     let read = read-only f file 16777217 (ObjectJudged s next) calm status text ticks memory h in
     let all : take 16777217 calm.bytes ≡ calm.bytes = take-all 16777217 calm.bytes (omega (arith, few)) in
@@ -136,7 +135,7 @@ done-weighed t tokens status text ticks done (stages.based base more is p sum) =
 -- bounds of the object with some tokens enclose the chance of the object that was read
 read-enclosed : (t : Setting) (base : List ℕ) (bytes : List ℕ) (tokens : List Token) (labels : Option (List ℕ)) (b : ChanceBounds) → AreBoundsOver t base tokens b → (is : IsRead t.spec 0 bytes tokens labels) → IsEnclosed t.spec (ratio t.num t.den) is.body is.object b
 read-enclosed t base bytes tokens labels b over is =
-    let own = read-of t.spec 0 bytes tokens labels is in
+    let own : IsOf t.spec 0 tokens = record { body = is.body; is_body = is.is_body; object = is.object; belongs = is.canonical.read.belongs; spelled = is.spelled } in
     let object : over.of.object ≡ is.object = one-of-class t.spec 0 tokens over.of own in
     let body : over.of.body ≡ is.body = let p = over.of.is_body in let q = is.is_body in cc in
     subst (λ e. IsEnclosed t.spec (ratio t.num t.den) e is.object b) body (subst (λ o. IsEnclosed t.spec (ratio t.num t.den) over.of.body o b) object over.enclose)

@@ -1,15 +1,19 @@
 -- An object has no more tokens than its text has bytes.
-use Rattle.std.proofs.Common.{◌≡◌, ℕ, zero, suc, ◌+◌, ◌<◌, ◌≤◌, ◌^◌, List, [], ◌∷◌, ◌++◌, length, map, arith, refl, sym, ap, subst, length-append, Option, Some, None, slice_get}
-use Rattle.std.specs.Prelude.{decimal, codes}
+use Rattle.std.proofs.Common.{◌≡◌, ℕ, zero, suc, ◌+◌, ◌<◌, ◌≤◌, ◌^◌, List, [], ◌∷◌, ◌++◌, length, take, drop, map, true, false, Bool, arith, refl, sym, ap, subst, length-append, Option, Some, None, slice_get}
+use Rattle.std.specs.Prelude.{decimal, codes, nat_eq, if◌then◌else◌}
 use Rattle.bz_model.specs.Spec.{Spec, Node, Range, node_at, range_at, node_of, range_of, body_of}
 use Rattle.bz_model.specs.Object.{Object, Objects, none, more, Has, HaveEach, HaveAll, ClassHas}
 use Rattle.bz_model.specs.Object.Object.{Unit_, Dot, Pick, Tuple, SeqOf, SetOf, CycOf}
 use Rattle.bz_model.specs.Measures.{size}
-use Rattle.bz_model.specs.ObjectText.{Arrangement, PartText, spaced, leaf_text, label_text, text_by, texts_of_each, texts_of_all, class_text}
+use Rattle.bz_model.specs.ObjectText.{Arrangement, PartText, least_label, spaced, leaf_text, label_text, text_by, texts_of_each, texts_of_all, class_text}
 use Rattle.object_store.specs.declared.token.Token.{Token}
 use Rattle.object_store.specs.Tokens.{tokens_of, tokens_all, IsOf}
 use Rattle.object_text.specs.Reading.{IsRead}
 use Rattle.object_stage.specs.ObjectStage.{without_feed}
+
+-- one byte is at least one
+some-byte : (b : ℕ) → 1 ≤ length (b ∷ [])
+some-byte b = omega arith
 
 -- a leaf has at least one byte
 leaf-some : (letter word : List ℕ) → 1 ≤ length letter → 1 ≤ length (leaf_text letter word)
@@ -26,7 +30,8 @@ pick-more : (i : ℕ) (text : List ℕ) → 1 + length text ≤ length (decimal 
 pick-more i text =
     let a = length-append (decimal i ++ codes ".") text in
     let b = length-append (decimal i) (codes ".") in
-    omega (arith, a, b)
+    let one : length (codes ".") ≡ 1 = refl in
+    omega (arith, a, b, one)
 
 -- texts between two brackets
 between-more : (open_ inner shut : List ℕ) → 1 ≤ length open_ → 1 + length inner ≤ length (open_ ++ inner ++ shut)
@@ -45,13 +50,17 @@ tokens-more o os p parts h k =
 abbrev as_it_stands : Arrangement
 as_it_stands = Arrangement.AsItStands
 
+-- the text of a part, which takes as many of the labels as it has atoms
+abbrev part-text : Spec → (ℕ → Object → List ℕ → List ℕ) → Option Node → Object → List ℕ → PartText
+part-text s of_class n o labels = record { least = least_label (take (size o) labels); text = text_by as_it_stands s of_class n o (take (size o) labels) }
+
 module _ (s : Spec) (R : ℕ → Object → Type 0) (of_class : ℕ → Object → List ℕ → List ℕ) (classes : (c : ℕ) (o : Object) (labels : List ℕ) → R c o → length (tokens_of o) ≤ length (of_class c o labels)) where
   mutual
     few-of : (n : Option Node) (r : Option Range) (o : Object) (labels : List ℕ) → Has s R n r o → length (tokens_of o) ≤ length (text_by as_it_stands s of_class n o labels)
     few-of (Some (Node.Class c)) r o labels h = classes c o labels h
-    few-of (Some (Node.Empty w)) r Unit_ labels h = leaf-some (codes "E") w (omega arith)
+    few-of (Some (Node.Empty w)) r Unit_ labels h = leaf-some (codes "E") w (some-byte 69)
     few-of (Some (Node.Atom w)) r Dot labels h =
-        let a = leaf-some (codes "Z") w (omega arith) in
+        let a = leaf-some (codes "Z") w (some-byte 90) in
         let l = length-append (leaf_text (codes "Z") w) (label_text s.mode labels) in
         omega (arith, a, l)
     few-of (Some (Node.Union parts)) r (Pick i o) labels h =
@@ -60,30 +69,30 @@ module _ (s : Spec) (R : ℕ → Object → Type 0) (of_class : ℕ → Object �
         omega (arith, a, l)
     few-of (Some (Node.Product parts)) r (Tuple os) labels h =
         let a = few-each parts os labels h in
-        let l = between-more (codes "(") (spaced (texts_of_each as_it_stands s of_class parts os labels)) (codes ")") (omega arith) in
+        let l = between-more (codes "(") (spaced (texts_of_each as_it_stands s of_class parts os labels)) (codes ")") (some-byte 40) in
         omega (arith, a, l)
     few-of (Some (Node.Seq part)) r (SeqOf os) labels h =
         let a = few-all part os labels h.1 in
-        let l = between-more (codes "[") (spaced (texts_of_all as_it_stands s of_class part os labels)) (codes "]") (omega arith) in
+        let l = between-more (codes "[") (spaced (texts_of_all as_it_stands s of_class part os labels)) (codes "]") (some-byte 91) in
         omega (arith, a, l)
     few-of (Some (Node.Set part)) r (SetOf os) labels h =
         let a = few-all part os labels h.1 in
-        let l = between-more (codes "{") (spaced (texts_of_all as_it_stands s of_class part os labels)) (codes "}") (omega arith) in
+        let l = between-more (codes "{") (spaced (texts_of_all as_it_stands s of_class part os labels)) (codes "}") (some-byte 123) in
         omega (arith, a, l)
     few-of (Some (Node.Cyc part)) r (CycOf os) labels h =
         let a = few-all part os labels h.1 in
-        let l = between-more (codes "<") (spaced (texts_of_all as_it_stands s of_class part os labels)) (codes ">") (omega arith) in
+        let l = between-more (codes "<") (spaced (texts_of_all as_it_stands s of_class part os labels)) (codes ">") (some-byte 60) in
         omega (arith, a, l)
     few-of _ r _ labels h = elim h [ ]
 
     few-each : (parts : List ℕ) (os : Objects) (labels : List ℕ) → HaveEach s R parts os → length (tokens_all os) ≤ length (spaced (texts_of_each as_it_stands s of_class parts os labels))
     few-each [] none labels h = omega arith
-    few-each (p ∷ parts) (more o os) labels h = tokens-more o os _ _ (few-of (node_at s p) (range_at s p) o _ h.0) (few-each parts os _ h.1)
+    few-each (p ∷ parts) (more o os) labels h = tokens-more o os (part-text s of_class (node_at s p) o labels) (texts_of_each as_it_stands s of_class parts os (drop (size o) labels)) (few-of (node_at s p) (range_at s p) o (take (size o) labels) h.0) (few-each parts os (drop (size o) labels) h.1)
     few-each _ _ labels h = elim h [ ]
 
     few-all : (part : ℕ) (os : Objects) (labels : List ℕ) → HaveAll s R part os → length (tokens_all os) ≤ length (spaced (texts_of_all as_it_stands s of_class part os labels))
     few-all part none labels h = omega arith
-    few-all part (more o os) labels h = tokens-more o os _ _ (few-of (node_at s part) (range_at s part) o _ h.0) (few-all part os _ h.1)
+    few-all part (more o os) labels h = tokens-more o os (part-text s of_class (node_at s part) o labels) (texts_of_all as_it_stands s of_class part os (drop (size o) labels)) (few-of (node_at s part) (range_at s part) o (take (size o) labels) h.0) (few-all part os (drop (size o) labels) h.1)
 
 class-few : (s : Spec) (h c : ℕ) (o : Object) (labels : List ℕ) → ClassHas s h c o → length (tokens_of o) ≤ length (class_text as_it_stands s h c o labels)
 class-few s zero c o labels k = elim k [ ]
@@ -96,10 +105,14 @@ few-tokens s c text tokens labels is =
     let few = few-of s (ClassHas s read.belongs.0) (class_text as_it_stands s read.belongs.0) (class-few s read.belongs.0) (node_at s is.body) (range_at s is.body) is.object is.labels read.belongs.1 in
     subst (λ (ts : List Token). length ts ≤ length text) is.spelled (subst (λ (t : List ℕ). length (tokens_of is.object) ≤ length t) (sym read.spelled) few)
 
+feed-one : (c : Bool) (b : ℕ) → length (if c then [] else b ∷ []) ≤ length (b ∷ [])
+feed-one true b = omega arith
+feed-one false b = omega arith
+
 -- a text without the line feed at its end is no longer
 pub feed-less : (bytes : List ℕ) → length (without_feed bytes) ≤ length bytes
 feed-less [] = omega arith
-feed-less (b ∷ []) = grind arith
+feed-less (b ∷ []) = feed-one (nat_eq b 10) b
 feed-less (b ∷ c ∷ bytes) = let r = feed-less (c ∷ bytes) in omega (arith, r)
 
 -- an object that is read from a file has fewer than 2^32 tokens

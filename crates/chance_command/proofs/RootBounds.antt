@@ -24,7 +24,7 @@ table-is t base m now e made raised =
 
 -- the level is raised
 pub is-raised : (t : Setting) (base : List ℕ) (m now : Memory) → m ≡ made_of t base → now ≡ record m { raised = max m.raised 6 } → now.raised ≡ 6
-is-raised t base m now made raised = ap (λ (k : Memory). k.raised) raised ∙ ap (λ (k : Memory). max k.raised 6) made
+is-raised t base m now made raised = let six : max 0 6 ≡ 6 = omega arith in ap (λ (k : Memory). k.raised) raised ∙ ap (λ (k : Memory). max k.raised 6) made ∙ six
 
 pub spec-is : (t : Setting) (base : List ℕ) (m now : Memory) → m ≡ made_of t base → now ≡ record m { raised = max m.raised 6 } → now.spec ≡ t.spec
 spec-is t base m now made raised = ap (λ (k : Memory). k.spec) raised ∙ ap (λ (k : Memory). k.spec) made
@@ -33,7 +33,8 @@ spec-is t base m now made raised = ap (λ (k : Memory). k.spec) raised ∙ ap (�
 pub root-ticks : (t : Setting) (base : List ℕ) (m : Memory) (before after : ℕ) → m ≡ made_of t base → after + cost_at m.raised ≡ before + cost_at (max m.raised 6) → after ≤ before + cost_at 6
 root-ticks t base m before after made ticks =
     let none : cost_at m.raised ≡ 0 = ap (λ (k : Memory). cost_at k.raised) made in
-    let last : cost_at (max m.raised 6) ≡ cost_at 6 = ap (λ (k : Memory). cost_at (max k.raised 6)) made in
+    let six : max 0 6 ≡ 6 = omega arith in
+    let last : cost_at (max m.raised 6) ≡ cost_at 6 = ap (λ (k : Memory). cost_at (max k.raised 6)) made ∙ ap cost_at six in
     omega (arith, ticks, none, last)
 
 -- the table encloses the body

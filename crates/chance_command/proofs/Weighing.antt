@@ -1,6 +1,6 @@
 -- Weighing an object: what follows its bounds, and that the call has one outcome.
 use Rattle.std.proofs.Common.{◌≡◌, ◌≢◌, ℕ, ◌+◌, ◌<◌, ◌≤◌, ◌⊎◌, List, [], ◌∷◌, ◌++◌, arith, refl, sym, ap, subst, ◌∙◌}
-use Rattle.std.specs.Prelude.{Option, Some}
+use Rattle.std.specs.Prelude.{Option, Some, Result, Ok, Err, IfOk}
 use Rattle.bz_model.specs.declared.cell.Bounds.{Bounds}
 use Rattle.bz_model.specs.Fraction.{ratio}
 use Rattle.bz_model.specs.Oracle.{Encloses}
@@ -41,9 +41,14 @@ are-over t base tokens root b of is encloses bounds enclosed = record {
   enclose = enclosed of (encloses of.body of.is_body);
 }
 
+-- what the bounds of the weights give, where memory sufficed
+pub bounds-over : {E : Type 0} (t : Setting) (base : List ℕ) (tokens : List Token) (root : Bounds) (r : Result ChanceBounds E) → IsOf t.spec 0 tokens → ((body : ℕ) → body_of t.spec 0 ≡ Some body → root ≡ level_bounds t base 6 body) → ((body : ℕ) → body_of t.spec 0 ≡ Some body → Encloses t.spec (ratio t.num t.den) t.bits body root) → IfOk r (λ b. (of : IsOf t.spec 0 tokens) → AreChanceBounds t.bits (ratio t.num t.den) root of.object b) → IfOk r (λ b. (of : IsOf t.spec 0 tokens) → Encloses t.spec (ratio t.num t.den) t.bits of.body root → IsEnclosed t.spec (ratio t.num t.den) of.body of.object b) → IfOk r (AreBoundsOver t base tokens)
+bounds-over t base tokens root (Ok b) of is encloses bounds enclosed = are-over t base tokens root b of is encloses bounds enclosed
+bounds-over t base tokens root (Err e) of is encloses bounds enclosed = tt
+
 -- the bounds are printed
 pub printed-bounds : (t : Setting) (tokens : List Token) (base : List ℕ) (b : ChanceBounds) (o a : Option (List ℕ)) (fb fa tb ta : ℕ) (result : Status) → AreBoundsOver t base tokens b → ta ≤ tb + cost_at 6 → EndsBy (MaySay Status.Done (chance_text b) 0) (output o a fb fa 0 0) result → EndsBy (Weighed t tokens base) (output o a fb fa tb ta) result
-printed-bounds t tokens base b o a fb fa tb ta result over few h = ends_on (MaySay Status.Done (chance_text b) 0) (Weighed t tokens base) o a fb fa 0 0 tb ta result (λ status text ticks p. (cost_at 6, go status text ticks p, λ none. few)) h
+printed-bounds t tokens base b o a fb fa tb ta result over few h = ends_on (MaySay Status.Done (chance_text b) 0) (Weighed t tokens base) o a fb fa 0 0 tb ta result (λ status text ticks p. (cost_at 6, go status text ticks p, λ start. few)) h
   where
     go : (status : Status) (text : List ℕ) (ticks : ℕ) → MaySay Status.Done (chance_text b) 0 status text ticks → Weighed t tokens base status text (cost_at 6)
     go status text ticks (outcomes.says says) = chance.bounded b over (record { status_is = says.status_is; text_is = says.text_is; ticks_are = refl })

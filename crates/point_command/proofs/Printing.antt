@@ -27,17 +27,17 @@ use Rattle.point_command.specs.PointCommand as point
 use Rattle.point_command.proofs.OneFault.{one-fault, no-fault}
 
 -- a specification whose first class has an atom and whose pointed one is within the limits can be pointed
-pub can-be : (s : Spec) → IsPointable s → answer_at (atomic_classes s) 0 ≡ true → AreAtomic s (atomic_classes s) → IsWithinLimits (pointed_spec s) → CanBePointed s
-can-be s able has right within =
+pub can_be : (s : Spec) → IsPointable s → answer_at (atomic_classes s) 0 ≡ true → AreAtomic s (atomic_classes s) → IsWithinLimits (pointed_spec s) → CanBePointed s
+can_be s able has right within =
     let b = has_body s able.sound 0 able.sound.a_class in
     record { able = able; body = b.0; is_body = b.1; an_atom = right.right 0 b.0 b.1 has; within = within }
 
 -- a specification can't be pointed, or memory ran out
-pub point-refused : (s : Spec) (fault : PointFault) (status : Status) (text : List ℕ) → fault ≢ PointFault.OutOfMemory → TellsFault s fault → Says Status.PointRefused (point_line fault) 0 status text 0 → Pointed s status text 0
-point-refused s fault status text memory tells says = point.refused fault memory tells says
+pub point_refused : (s : Spec) (fault : PointFault) (status : Status) (text : List ℕ) → fault ≢ PointFault.OutOfMemory → TellsFault s fault → Says Status.PointRefused (point_line fault) 0 status text 0 → Pointed s status text 0
+point_refused s fault status text memory tells says = point.refused fault memory tells says
 
-pub pointing-lacks-memory : (s : Spec) (e : Refusal) → e ≡ refusal.OutOfMemory → Pointed s (refusal_status e) (refusal_text e) 0
-pointing-lacks-memory s e is = point.no_memory (says-nothing 0 e is)
+pub pointing_lacks_memory : (s : Spec) (e : Refusal) → e ≡ refusal.OutOfMemory → Pointed s (refusal_status e) (refusal_text e) 0
+pointing_lacks_memory s e is = point.no_memory (says-nothing 0 e is)
 
 -- the pointed specification is printed
 pub form-printed : (s : Spec) (text : List ℕ) (b a : Option (List ℕ)) (fb fa ticks : ℕ) (result : Status) → CanBePointed s → text ≡ form_text (pointed_spec s) → EndsBy (Says Status.Done text 0) (output b a fb fa 0 0) result → EndsBy (Pointed s) (output b a fb fa ticks ticks) result

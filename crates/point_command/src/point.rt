@@ -60,6 +60,7 @@ fn printed<K: Sink>(alloc: Global, founded: &Founded, out: &mut K) -> Status
 }
 
 /// The pointed specification as it is printed, or why there is none.
+#[tactic(auto, using(crate::proofs::Printing::point_refused, crate::proofs::Printing::pointing_lacks_memory))]
 fn pointed_lines(alloc: Global, founded: &Founded) -> Result<Vec<u8>, Refusal>
     ensures text { IfOk result (λ text. text.items ≡ form_text (pointed_spec founded.now)) }
     ensures can { OnOk result (CanBePointed founded.now) }
