@@ -9,6 +9,11 @@ ghost use Rattle.call_stages.specs.declared.status.Status.{Status};
 
 use crate::oracle::oracle;
 use bulk_command::bulk::bulk;
+use chance_command::chance::chance;
+use point_command::point::point;
+use rank_commands::count::count;
+use rank_commands::rank::rank;
+use rank_commands::unrank::unrank;
 use call_stages::refusals::{not_yet_refusal, words_refusal};
 use call_stages::report::written;
 use sample_command::sample::sample;
@@ -85,11 +90,16 @@ fn carried_out<S: Shelf, K: Sink, L: Ledger>(
         Command::Verify { .. } => not_yet(alloc, out),
         Command::Migrate { .. } => not_yet(alloc, out),
         Command::Bulk { n, fraction } => bulk(alloc, *n, *fraction, out, steps),
-        Command::Point { .. } => not_yet(alloc, out),
-        Command::Chance { .. } => not_yet(alloc, out),
-        Command::Count { .. } => not_yet(alloc, out),
-        Command::Unrank { .. } => not_yet(alloc, out),
-        Command::Rank { .. } => not_yet(alloc, out),
+        Command::Point { file } => point(alloc, file, shelf, out),
+        Command::Chance {
+            file,
+            x,
+            object,
+            fraction,
+        } => chance(alloc, file, *x, object, *fraction, shelf, out, steps),
+        Command::Count { file, n } => count(alloc, file, *n, shelf, out),
+        Command::Unrank { file, n, number } => unrank(alloc, file, *n, *number, shelf, out),
+        Command::Rank { file, object } => rank(alloc, file, object, shelf, out),
     }
 }
 

@@ -5,7 +5,7 @@ use Rattle.boltz.specs.Answers.{Carries}
 use Rattle.boltz.specs.Commands.{IsStoodFor}
 use Rattle.call_stages.specs.Ends.{EndsBy, output}
 use Rattle.call_stages.specs.Stages.{files}
-use Rattle.boltz.proofs.Commands.{sample_limits, bulk_limits}
+use Rattle.boltz.proofs.Commands.{sample_limits, bulk_limits, count_limit, unrank_limit}
 use Rattle.boltz.proofs.run.carried_out.Goals as goal
 
 -- the limits of a sample are within those of a drawing
@@ -22,6 +22,29 @@ bulk-requires-greatest g c = (bulk_limits c.in-Bulk.n c.in-Bulk.fraction (subst 
 -- a specification is printed
 pub returns-in-Spec-clause-ends : goal.returns-in-Spec-clause-ends
 returns-in-Spec-clause-ends g c = subst (λ (k : Command). EndsBy (Carries (files (g.S.Shelf.content c.args.shelf.now) (g.S.Shelf.faults c.args.shelf.now) (g.S.Shelf.faults c.spec.new.shelf)) k) (output (g.K.Sink.written c.args.out.now) (g.K.Sink.written c.spec.new.out) (g.K.Sink.faults c.args.out.now) (g.K.Sink.faults c.spec.new.out) c.args.steps.now c.args.steps.now) c.spec.result) (sym c.in-Spec.is) (c.spec.ensures.ends c.args.steps.now)
+
+-- the size is within the limits
+pub count-requires-greatest : goal.count-requires-greatest
+count-requires-greatest g c = count_limit c.in-Count.file c.in-Count.n (subst IsStoodFor c.in-Count.is c.requires.stood_for)
+
+pub unrank-requires-greatest : goal.unrank-requires-greatest
+unrank-requires-greatest g c = unrank_limit c.in-Unrank.file c.in-Unrank.n c.in-Unrank.number (subst IsStoodFor c.in-Unrank.is c.requires.stood_for)
+
+-- the command's outcome is one of the call
+pub returns-in-Point-clause-ends : goal.returns-in-Point-clause-ends
+returns-in-Point-clause-ends g c = subst (λ (k : Command). EndsBy (Carries (files (g.S.Shelf.content c.args.shelf.now) (g.S.Shelf.faults c.args.shelf.now) (g.S.Shelf.faults c.point.new.shelf)) k) (output (g.K.Sink.written c.args.out.now) (g.K.Sink.written c.point.new.out) (g.K.Sink.faults c.args.out.now) (g.K.Sink.faults c.point.new.out) c.args.steps.now c.args.steps.now) c.point.result) (sym c.in-Point.is) (c.point.ensures.ends c.args.steps.now)
+
+-- the command's outcome is one of the call
+pub returns-in-Count-clause-ends : goal.returns-in-Count-clause-ends
+returns-in-Count-clause-ends g c = subst (λ (k : Command). EndsBy (Carries (files (g.S.Shelf.content c.args.shelf.now) (g.S.Shelf.faults c.args.shelf.now) (g.S.Shelf.faults c.count.new.shelf)) k) (output (g.K.Sink.written c.args.out.now) (g.K.Sink.written c.count.new.out) (g.K.Sink.faults c.args.out.now) (g.K.Sink.faults c.count.new.out) c.args.steps.now c.args.steps.now) c.count.result) (sym c.in-Count.is) (c.count.ensures.ends c.args.steps.now)
+
+-- the command's outcome is one of the call
+pub returns-in-Unrank-clause-ends : goal.returns-in-Unrank-clause-ends
+returns-in-Unrank-clause-ends g c = subst (λ (k : Command). EndsBy (Carries (files (g.S.Shelf.content c.args.shelf.now) (g.S.Shelf.faults c.args.shelf.now) (g.S.Shelf.faults c.unrank.new.shelf)) k) (output (g.K.Sink.written c.args.out.now) (g.K.Sink.written c.unrank.new.out) (g.K.Sink.faults c.args.out.now) (g.K.Sink.faults c.unrank.new.out) c.args.steps.now c.args.steps.now) c.unrank.result) (sym c.in-Unrank.is) (c.unrank.ensures.ends c.args.steps.now)
+
+-- the command's outcome is one of the call
+pub returns-in-Rank-clause-ends : goal.returns-in-Rank-clause-ends
+returns-in-Rank-clause-ends g c = subst (λ (k : Command). EndsBy (Carries (files (g.S.Shelf.content c.args.shelf.now) (g.S.Shelf.faults c.args.shelf.now) (g.S.Shelf.faults c.rank.new.shelf)) k) (output (g.K.Sink.written c.args.out.now) (g.K.Sink.written c.rank.new.out) (g.K.Sink.faults c.args.out.now) (g.K.Sink.faults c.rank.new.out) c.args.steps.now c.args.steps.now) c.rank.result) (sym c.in-Rank.is) (c.rank.ensures.ends c.args.steps.now)
 
 -- the command isn't built yet
 pub returns-in-Pool-clause-ends : goal.returns-in-Pool-clause-ends
@@ -41,32 +64,3 @@ returns-in-Migrate-clause-ends g c =
     let at = c.not_yet-in-Migrate in
     subst (λ (k : Command). EndsBy (Carries (files (g.S.Shelf.content c.args.shelf.now) (g.S.Shelf.faults c.args.shelf.now) (g.S.Shelf.faults c.args.shelf.now)) k) (output (g.K.Sink.written c.args.out.now) (g.K.Sink.written at.new.out) (g.K.Sink.faults c.args.out.now) (g.K.Sink.faults at.new.out) c.args.steps.now c.args.steps.now) at.result) (sym c.in-Migrate.is) (at.ensures.ends c.args.steps.now)
 
--- the command isn't built yet
-pub returns-in-Point-clause-ends : goal.returns-in-Point-clause-ends
-returns-in-Point-clause-ends g c =
-    let at = c.not_yet-in-Point in
-    subst (λ (k : Command). EndsBy (Carries (files (g.S.Shelf.content c.args.shelf.now) (g.S.Shelf.faults c.args.shelf.now) (g.S.Shelf.faults c.args.shelf.now)) k) (output (g.K.Sink.written c.args.out.now) (g.K.Sink.written at.new.out) (g.K.Sink.faults c.args.out.now) (g.K.Sink.faults at.new.out) c.args.steps.now c.args.steps.now) at.result) (sym c.in-Point.is) (at.ensures.ends c.args.steps.now)
-
--- the command isn't built yet
-pub returns-in-Chance-clause-ends : goal.returns-in-Chance-clause-ends
-returns-in-Chance-clause-ends g c =
-    let at = c.not_yet-in-Chance in
-    subst (λ (k : Command). EndsBy (Carries (files (g.S.Shelf.content c.args.shelf.now) (g.S.Shelf.faults c.args.shelf.now) (g.S.Shelf.faults c.args.shelf.now)) k) (output (g.K.Sink.written c.args.out.now) (g.K.Sink.written at.new.out) (g.K.Sink.faults c.args.out.now) (g.K.Sink.faults at.new.out) c.args.steps.now c.args.steps.now) at.result) (sym c.in-Chance.is) (at.ensures.ends c.args.steps.now)
-
--- the command isn't built yet
-pub returns-in-Count-clause-ends : goal.returns-in-Count-clause-ends
-returns-in-Count-clause-ends g c =
-    let at = c.not_yet-in-Count in
-    subst (λ (k : Command). EndsBy (Carries (files (g.S.Shelf.content c.args.shelf.now) (g.S.Shelf.faults c.args.shelf.now) (g.S.Shelf.faults c.args.shelf.now)) k) (output (g.K.Sink.written c.args.out.now) (g.K.Sink.written at.new.out) (g.K.Sink.faults c.args.out.now) (g.K.Sink.faults at.new.out) c.args.steps.now c.args.steps.now) at.result) (sym c.in-Count.is) (at.ensures.ends c.args.steps.now)
-
--- the command isn't built yet
-pub returns-in-Unrank-clause-ends : goal.returns-in-Unrank-clause-ends
-returns-in-Unrank-clause-ends g c =
-    let at = c.not_yet-in-Unrank in
-    subst (λ (k : Command). EndsBy (Carries (files (g.S.Shelf.content c.args.shelf.now) (g.S.Shelf.faults c.args.shelf.now) (g.S.Shelf.faults c.args.shelf.now)) k) (output (g.K.Sink.written c.args.out.now) (g.K.Sink.written at.new.out) (g.K.Sink.faults c.args.out.now) (g.K.Sink.faults at.new.out) c.args.steps.now c.args.steps.now) at.result) (sym c.in-Unrank.is) (at.ensures.ends c.args.steps.now)
-
--- the command isn't built yet
-pub returns-in-Rank-clause-ends : goal.returns-in-Rank-clause-ends
-returns-in-Rank-clause-ends g c =
-    let at = c.not_yet-in-Rank in
-    subst (λ (k : Command). EndsBy (Carries (files (g.S.Shelf.content c.args.shelf.now) (g.S.Shelf.faults c.args.shelf.now) (g.S.Shelf.faults c.args.shelf.now)) k) (output (g.K.Sink.written c.args.out.now) (g.K.Sink.written at.new.out) (g.K.Sink.faults c.args.out.now) (g.K.Sink.faults at.new.out) c.args.steps.now c.args.steps.now) at.result) (sym c.in-Rank.is) (at.ensures.ends c.args.steps.now)
