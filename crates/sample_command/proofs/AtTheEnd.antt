@@ -1,5 +1,5 @@
 -- Drawings that begin, and what one that has come to its end or was broken off reports.
-use Rattle.std.proofs.Common.{◌≡◌, ℕ, ◌+◌, ◌≤◌, max, Bool, List, [], ◌++◌, refl, sym, ◌∙◌, ap, subst, arith, append-nil, append_assoc}
+use Rattle.std.proofs.Common.{◌≡◌, ℕ, ◌+◌, ◌≤◌, Bool, List, [], ◌++◌, refl, sym, ◌∙◌, ap, subst, arith, append-nil, append_assoc}
 use Rattle.std.specs.Prelude.{Option, Some, None, IfSome, option_map}
 use Rattle.bz_model.specs.declared.cell.Bounds.{Bounds}
 use Rattle.bz_model.specs.Fraction.{Fraction}
@@ -10,7 +10,7 @@ use Rattle.choice_draw.specs.Decision.{level_for}
 use Rattle.class_system.specs.Sound.{IsSound}
 use Rattle.size_window.specs.declared.ending.Ending.{Ending as Told}
 use Rattle.size_window.specs.declared.ending.Ending.TheVariants as told
-use Rattle.size_window.specs.RunByBits.{Limits, State, Course, Entry, Ending, start, at_start}
+use Rattle.size_window.specs.RunByBits.{Limits, State, Course, Ending, start, at_start}
 use Rattle.size_window.specs.Drawing.{DrawingState, DrawingBelongs, state_of, ending_of}
 use Rattle.size_window.proofs.Turning.{attempt-used}
 use Rattle.size_window.proofs.Going.{goes-start}
@@ -30,7 +30,7 @@ use Rattle.call_stages.specs.declared.report.Stop.{Stop}
 use Rattle.call_stages.specs.declared.report.Stop.TheVariants as stop
 use Rattle.call_stages.specs.declared.status.Status.{Status}
 use Rattle.call_stages.proofs.Endings.{no_front}
-use Rattle.call_stages.proofs.Held.{appends-both, front-both, front-more, front-whole, held-start, held-front}
+use Rattle.call_stages.proofs.Held.{appends-both, front-both, front-more, front-whole, held-start}
 use Rattle.sample_command.proofs.SpelledTurns.{spells_bits}
 
 -- a drawing that starts hasn't ended

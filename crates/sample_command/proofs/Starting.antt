@@ -1,16 +1,15 @@
 -- The search for a start: what ends a call, what follows a start, and that a command has one outcome.
-use Rattle.std.proofs.Common.{◌≡◌, ◌≢◌, ℕ, ◌+◌, ◌≤◌, List, [], arith, refl, sym, ap, subst, ◌∙◌}
-use Rattle.std.specs.Prelude.{Bool, true, false, Option, Some, None}
+use Rattle.std.proofs.Common.{◌≡◌, ◌≢◌, ℕ, ◌+◌, ◌≤◌, List, [], arith, refl, sym, subst, ◌∙◌}
+use Rattle.std.specs.Prelude.{Bool, Option, Some, None}
 use Rattle.bz_model.specs.Fraction.{ratio}
 use Rattle.bit_tape.specs.Tape.{bits_of}
-use Rattle.fast_lower.specs.FastVector.{fast_vector}
 use Rattle.oracle_memo.specs.Levels.{level_bounds_from, cost_at}
 use Rattle.oracle_memo.specs.Memos.{Memory}
 use Rattle.rounded_map.specs.RoundedMap.{Setting, setting}
 use Rattle.size_window.specs.RunByBits.{Limits}
 use Rattle.call_stages.specs.Ends.{Output, output, EndsBy}
 use Rattle.call_stages.specs.Ends as ends
-use Rattle.call_stages.specs.Outcomes.{Outcome, Never, Says, IsOne}
+use Rattle.call_stages.specs.Outcomes.{Outcome, Never, IsOne}
 use Rattle.call_stages.specs.Refusals.{no_fast_line}
 use Rattle.call_stages.specs.Reports.{refusal_status, refusal_text}
 use Rattle.call_stages.specs.declared.report.Refusal.{Refusal}
@@ -23,10 +22,6 @@ use Rattle.sample_command.specs.SampleCommand.{DrawnFrom, DrawnOver}
 use Rattle.sample_command.specs.Starts.{start_of, format_of, start_ticks, Started}
 use Rattle.sample_command.specs.Starts as starts
 use Rattle.sample_command.proofs.OneDrawing.{one-drawn}
-
--- there is no fast vector, and the line says so
-pub no_start : (t : Setting) (base : List ℕ) (status : Status) (text : List ℕ) → fast_vector t base ≡ None → Says Status.NoFast (no_fast_line t.bits) 0 status text 0 → Started true t base (λ start. Never) status text (start_ticks true t.bits)
-no_start t base status text none says = starts.no_fast none (record { status_is = says.status_is; text_is = says.text_is; ticks_are = refl })
 
 -- memory ran out in the search
 pub start_lacks_memory : (fast : Bool) (t : Setting) (base : List ℕ) (e : Refusal) → e ≡ refusal.OutOfMemory → Started fast t base (λ start. Never) (refusal_status e) (refusal_text e) (start_ticks fast t.bits)

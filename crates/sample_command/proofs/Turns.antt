@@ -1,6 +1,6 @@
 -- Drawings under way, with one turn more.
-use Rattle.std.proofs.Common.{◌≡◌, ℕ, ◌+◌, ◌-◌, ◌≤◌, max, List, [], ◌++◌, refl, sym, ◌∙◌, ap, subst, arith, append_assoc}
-use Rattle.std.specs.Prelude.{Option, Some, None, option_to_list, slice_index}
+use Rattle.std.proofs.Common.{◌≡◌, ℕ, ◌+◌, ◌-◌, ◌≤◌, max, List, ◌++◌, sym, ◌∙◌, ap, subst, arith, append_assoc}
+use Rattle.std.specs.Prelude.{Option, option_to_list, slice_index}
 use Rattle.bz_model.specs.declared.cell.Bounds.{Bounds}
 use Rattle.bz_model.specs.Fraction.{Fraction}
 use Rattle.bz_model.specs.Spec.{Spec}
@@ -10,7 +10,7 @@ use Rattle.choice_draw.specs.Decision.{level_for}
 use Rattle.size_window.specs.declared.ending.Ending.{Ending as Told}
 use Rattle.size_window.specs.declared.turned.Turned.{Turned as Answer}
 use Rattle.size_window.specs.declared.turned.Turned.TheVariants as answer
-use Rattle.size_window.specs.RunByBits.{Limits, Entry}
+use Rattle.size_window.specs.RunByBits.{Limits}
 use Rattle.size_window.specs.Drawing.{DrawingState}
 use Rattle.size_window.specs.Turn.{IsCounted, TellsOpen, told_entry, node_bits as bits_given}
 use Rattle.size_window.specs.declared.ending.Ending.TheVariants as told
@@ -19,7 +19,7 @@ use Rattle.bz_model.specs.Oracle.{AreCosts, cost_between}
 use Rattle.oracle_memo.specs.Levels.{cost_at, costs}
 use Rattle.oracle_memo.proofs.Raising.{costs-at}
 use Rattle.sample_command.specs.Drawn.{TapeMet}
-use Rattle.sample_command.specs.UnderWay.{met, IsSoFar, IsAtEnd, IsUnderWay, IsOver, IsBroken}
+use Rattle.sample_command.specs.UnderWay.{met, IsUnderWay, IsOver, IsBroken}
 use Rattle.sample_command.proofs.AtTheEnd.{course-of, broken-off}
 use Rattle.call_stages.proofs.Held.{held-more, held-front}
 use Rattle.sample_command.proofs.OneTurn.{Appended, TellsTurn, course-so-far-on, entries-on, so-far-on, at-end}

@@ -1,4 +1,4 @@
-use Rattle.std.proofs.Common.{◌≡◌, ◌≤◌, ℕ, List, ◌∙◌, subst, arith}
+use Rattle.std.proofs.Common.{◌≤◌, ℕ, List, ◌∙◌, subst, arith}
 use Rattle.sample_command.specs.UnderWay.{met, CanTurn, IsUnderWay, IsOver, IsBroken, AfterTurn, GoesOn}
 use Rattle.sample_command.proofs.Turns.{moved-five, costs-on, sent-on, cut-on}
 use Rattle.sample_command.proofs.drawing.draw_to_the_end.Goals as goal

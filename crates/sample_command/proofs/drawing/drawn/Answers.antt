@@ -1,6 +1,5 @@
-use Rattle.std.proofs.Common.{◌≡◌, ◌≤◌, ◌+◌, ◌++◌, List, ℕ, refl, sym, ◌∙◌, ap, subst}
+use Rattle.std.proofs.Common.{◌≤◌, ◌+◌, ◌++◌, List, ℕ, refl, subst}
 use Rattle.bz_model.specs.Oracle.{cost_between}
-use Rattle.bz_model.specs.Spec.{Spec}
 use Rattle.class_system.specs.Sound.{IsSound}
 use Rattle.oracle_memo.specs.Levels.{cost_at}
 use Rattle.size_window.specs.Drawing.{ending_of, limits_of}

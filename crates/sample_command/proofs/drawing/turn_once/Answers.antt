@@ -3,7 +3,7 @@ use Rattle.bit_tape.specs.Tape.{Belongs}
 use Rattle.size_window.specs.Turn.{entry_of}
 use Rattle.size_window.specs.declared.turned.Turned.TheVariants as answer
 use Rattle.sample_command.specs.UnderWay.{met, IsUnderWay}
-use Rattle.sample_command.proofs.OneTurn.{TellsTurn, entry-is-of, can-turn-on}
+use Rattle.sample_command.proofs.OneTurn.{entry-is-of, can-turn-on}
 use Rattle.sample_command.proofs.Turns.{under-way-on, over-on, broken-on, broken-still}
 use Rattle.sample_command.proofs.drawing.turn_once.Goals as goal
 
