@@ -41,8 +41,8 @@ use well_founded::examination::Founded;
 /// The level whose bounds are taken, the last one.
 const LEVEL: u8 = 6;
 
-/// Reads a specification and judges it, reads an object of its first class, searches a base at `x`, and
-/// prints bounds of the chance of the object.
+/// Reads a specification and judges it, reads an object of its first class, searches a base at `x`,
+/// and prints bounds of the chance of the object.
 pub fn chance<S: Shelf, K: Sink, L: Ledger>(
     alloc: Global,
     file: &Word,

@@ -14,18 +14,18 @@ ghost use Rattle.call_stages.specs.Stages.{Files, AreCalm};
 ghost use Rattle.call_stages.specs.declared.status.Status.{Status};
 ghost use Rattle.object_stage.specs.ObjectStage.{object_line};
 ghost use Rattle.chance_command.specs.ChanceCommand.{chance_text, AreBoundsOver, CarriesChance};
-ghost use Rattle.chance_command.specs.Completeness.{HasSpecification, HasObject, LacksObject, EnclosesChance};
+ghost use Rattle.chance_command.specs.Completeness.{HasSpecification, HasObjectText, LacksObjectText, EnclosesChance};
 
-/// But for want of memory the command has one status with one text, where its files are known and no
-/// read of them failed.
+/// But for want of memory the command has one status with one text, where its files are known and
+/// no read of them failed.
 pub fn the_command_has_one_outcome()
     ensures one { (f : Files) (file : List ℕ) (x : Fraction) (object : List ℕ) (F : ℕ)
         → AreCalm f (file ∷ object ∷ []) → IsOne (CarriesChance f file x object F) }
 {}
 
-/// The printed numbers enclose the chance of the object in the file: the lower one times the total of
-/// any list of distinct objects of the class is at most the object's weight; and the upper one is 1, or
-/// times the total of some such list at least the weight.
+/// The printed numbers enclose the chance of the object in the file: the lower one times the total
+/// of any list of distinct objects of the class is at most the object's weight; and the upper one
+/// is 1, or times the total of some such list at least the weight.
 pub fn printed_numbers_enclose_the_chance()
     ensures enclose { (f : Files) (file : List ℕ) (x : Fraction) (object : List ℕ) (F : ℕ)
         (status : Status) (text : List ℕ) (ticks : ℕ) → status ≡ Status.Done
@@ -33,13 +33,13 @@ pub fn printed_numbers_enclose_the_chance()
         → EnclosesChance f file x object text }
 {}
 
-/// What has a base has no other answer than the lines of the bounds over it, and what has none no other
-/// than the text of the proposals.
+/// What has a base has no other answer than the lines of the bounds over it, and what has none no
+/// other than the text of the proposals.
 pub fn what_can_be_weighed_is_weighed()
     ensures weighed { (f : Files) (file : List ℕ) (x : Fraction) (object : List ℕ) (F : ℕ) (s : Spec)
         (tokens : List Token) (labels : Option (List ℕ)) (base : List ℕ)
         (status : Status) (text : List ℕ) (ticks : ℕ)
-        → HasSpecification f file s → HasObject f object s tokens labels
+        → HasSpecification f file s → HasObjectText f object s tokens labels
         → base_of (setting s x.num x.den F) ≡ Some base → status ≢ Status.OutOfMemory
         → CarriesChance f file x object F status text ticks
         → (b : ChanceBounds) × AreBoundsOver (setting s x.num x.den F) base tokens b
@@ -47,19 +47,19 @@ pub fn what_can_be_weighed_is_weighed()
     ensures baseless { (f : Files) (file : List ℕ) (x : Fraction) (object : List ℕ) (F : ℕ) (s : Spec)
         (tokens : List Token) (labels : Option (List ℕ))
         (status : Status) (text : List ℕ) (ticks : ℕ)
-        → HasSpecification f file s → HasObject f object s tokens labels
+        → HasSpecification f file s → HasObjectText f object s tokens labels
         → base_of (setting s x.num x.den F) ≡ None → status ≢ Status.OutOfMemory
         → CarriesChance f file x object F status text ticks
         → (trials : List Trial) × HasNoUpper (setting s x.num x.den F) trials
         × (status ≡ Status.NoUpper) × (text ≡ no_upper_text s F trials) }
 {}
 
-/// A text that is no canonical text of an object of the first class has no other answer than the line of
-/// its fault.
+/// A text that is no canonical text of an object of the first class has no other answer than the
+/// line of its fault.
 pub fn what_is_no_object_is_refused()
     ensures refused { (f : Files) (file : List ℕ) (x : Fraction) (object : List ℕ) (F : ℕ) (s : Spec)
         (fault : TextFault) (status : Status) (text : List ℕ) (ticks : ℕ)
-        → HasSpecification f file s → LacksObject f object s fault → fault ≢ TextFault.OutOfMemory
+        → HasSpecification f file s → LacksObjectText f object s fault → fault ≢ TextFault.OutOfMemory
         → status ≢ Status.OutOfMemory → CarriesChance f file x object F status text ticks
         → (status ≡ Status.ObjectRefused) × (text ≡ object_line fault) }
 {}
