@@ -93,7 +93,7 @@ one-fault s fault.Labelled (fault.Ranged e) m n t u = absurd (two-modes s t u.un
 one-fault s fault.Labelled fault.NoAtom m n t u = absurd (two-modes s t u.is_plain.unlabelled)
 one-fault s fault.Labelled (fault.Limit f) m n t u = absurd (two-modes s t u.is_plain.unlabelled)
 one-fault s (fault.Ranged e) fault.Labelled m n t u = absurd (two-modes s u t.unlabelled)
-one-fault s (fault.Ranged e) (fault.Ranged f) m n t u = let same : e.0 ≡ f.0 = one-first (IsRanged s) e.0 f.0 t.here u.here t.before u.before in cc
+one-fault s (fault.Ranged e) (fault.Ranged f) m n t u = let same : e.0 ≡ f.0 = one-first (IsRanged s) e.0 f.0 t.here u.here t.before u.before in ap (λ (k : ℕ). fault.Ranged (record { 0 = k })) same
 one-fault s (fault.Ranged e) fault.NoAtom m n t u = absurd (no-ranged s e.0 t.here u.is_plain)
 one-fault s (fault.Ranged e) (fault.Limit f) m n t u = absurd (no-ranged s e.0 t.here u.is_plain)
 one-fault s fault.NoAtom fault.Labelled m n t u = absurd (two-modes s u t.is_plain.unlabelled)

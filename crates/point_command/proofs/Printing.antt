@@ -1,15 +1,17 @@
 -- Pointing: what follows a specification, and that the command has one outcome.
-use Rattle.std.proofs.Common.{◌≡◌, ◌≢◌, ℕ, ◌+◌, ◌≤◌, ◌⊎◌, List, [], ◌∷◌, ◌++◌, refl, sym, ap, subst, ◌∙◌, arith}
+use Rattle.std.proofs.Common.{◌≡◌, ◌≢◌, ℕ, ◌+◌, ◌<◌, ◌≤◌, length, ◌⊎◌, List, [], ◌∷◌, ◌++◌, refl, sym, ap, subst, ◌∙◌, arith}
 use Rattle.std.specs.Prelude.{true, Option}
+use Rattle.bz_model.specs.Object.{Object, Belongs}
 use Rattle.bz_model.specs.Spec.{Spec, body_of}
 use Rattle.bz_outside.specs.Outside.{Rose, Appends}
 use Rattle.class_system.specs.Limits.{IsWithinLimits}
+use Rattle.class_system.specs.Sound.{IsSound}
 use Rattle.class_system.proofs.Soundness.{has_body}
 use Rattle.well_founded.specs.EmptyObjects.{answer_at}
 use Rattle.pointing.specs.Atoms.{AreAtomic, atomic_classes}
 use Rattle.pointing.specs.Calls.{TellsFault}
 use Rattle.pointing.specs.Correspondence.{IsPointable}
-use Rattle.pointing.specs.PointedSpec.{pointed_spec}
+use Rattle.pointing.specs.PointedSpec.{IsPlain, pointed_spec}
 use Rattle.pointing.specs.declared.fault.PointFault.{PointFault}
 use Rattle.call_stages.specs.Ends.{output, EndsBy}
 use Rattle.call_stages.specs.Outcomes.{Outcome, Never, Says, IsOne}
@@ -31,6 +33,15 @@ pub can_be : (s : Spec) → IsPointable s → answer_at (atomic_classes s) 0 ≡
 can_be s able has right within =
     let b = has_body s able.sound 0 able.sound.a_class in
     record { able = able; body = b.0; is_body = b.1; an_atom = right.right 0 b.0 b.1 has; within = within }
+
+-- the tables of a founded specification can be pointed where they are plain
+pub pointable : (s system : Spec) → system ≡ s → IsSound system → IsWithinLimits system → IsPlain s → ((e : ℕ) → e < length s.nodes → (o : Object) × Belongs s e o) → IsPointable s
+pointable s system same sound within is_plain inhabited = record {
+  sound = subst IsSound same sound;
+  few = (subst IsWithinLimits same within).classes;
+  is_plain = is_plain;
+  inhabited = inhabited;
+}
 
 -- a specification can't be pointed, or memory ran out
 pub point_refused : (s : Spec) (fault : PointFault) (status : Status) (text : List ℕ) → fault ≢ PointFault.OutOfMemory → TellsFault s fault → Says Status.PointRefused (point_line fault) 0 status text 0 → PointedPrinted s status text 0
