@@ -1,8 +1,8 @@
 -- Pointing: what follows a specification, and that the command has one outcome.
-use Rattle.std.proofs.Common.{◌≡◌, ◌≢◌, ℕ, ◌+◌, ◌<◌, ◌≤◌, length, ◌⊎◌, List, [], ◌∷◌, ◌++◌, refl, sym, ap, subst, ◌∙◌, arith}
+use Rattle.std.proofs.Common.{◌≡◌, ◌≢◌, ℕ, ◌<◌, length, ◌⊎◌, List, [], ◌∷◌, refl, sym, ap, subst, ◌∙◌, arith}
 use Rattle.std.specs.Prelude.{true, Option}
 use Rattle.bz_model.specs.Object.{Object, Belongs}
-use Rattle.bz_model.specs.Spec.{Spec, body_of}
+use Rattle.bz_model.specs.Spec.{Spec}
 use Rattle.bz_outside.specs.Outside.{Rose, Appends}
 use Rattle.class_system.specs.Limits.{IsWithinLimits}
 use Rattle.class_system.specs.Sound.{IsSound}
@@ -14,9 +14,9 @@ use Rattle.pointing.specs.Correspondence.{IsPointable}
 use Rattle.pointing.specs.PointedSpec.{IsPlain, pointed_spec}
 use Rattle.pointing.specs.declared.fault.PointFault.{PointFault}
 use Rattle.call_stages.specs.Ends.{output, EndsBy}
-use Rattle.call_stages.specs.Outcomes.{Outcome, Never, Says, IsOne}
+use Rattle.call_stages.specs.Outcomes.{Never, Says, IsOne}
 use Rattle.call_stages.specs.Reports.{refusal_status, refusal_text}
-use Rattle.call_stages.specs.Stages.{Files, files, AreCalm, Specified, IsSpecified}
+use Rattle.call_stages.specs.Stages.{Files, AreCalm, Specified, IsSpecified}
 use Rattle.call_stages.specs.declared.report.Refusal.{Refusal}
 use Rattle.call_stages.specs.declared.report.Refusal.TheVariants as refusal
 use Rattle.call_stages.specs.declared.status.Status.{Status}

@@ -2,7 +2,6 @@
 use Rattle.std.specs.Prelude.{◌≡◌, ℕ, List, ◌++◌, length, Some}
 use Rattle.bz_model.specs.Spec.{Spec, body_of}
 use Rattle.bz_model.specs.WellFounded.{IsWellFounded}
-use Rattle.class_system.specs.CanonicalText.{canonical_text}
 use Rattle.pointing.specs.Atoms.{is_atomic_node}
 use Rattle.pointing.specs.Correspondence.{Corresponds}
 use Rattle.pointing.specs.PointedSpec.{pointed_spec}

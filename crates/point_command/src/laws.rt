@@ -18,9 +18,7 @@ use pointing::laws::{
     a_pointed_specification_is_sound_and_founded, pointing_marks_one_atom,
     the_classes_with_an_atom_are_found, worked_specifications_are_pointed,
 };
-use spec_reader::laws::{
-    a_canonical_text_is_short, a_canonical_text_stands_for_its_specification,
-};
+use spec_reader::laws::{a_canonical_text_is_short, a_canonical_text_stands_for_its_specification};
 
 /// But for want of memory the command has one status with one text, where its file is known and no
 /// read of it failed.
