@@ -17,7 +17,7 @@ use Rattle.object_store.proofs.OneToOne.{one-of-class}
 use Rattle.object_text.specs.Reading.{IsRead, TellsFault}
 use Rattle.object_text.specs.declared.fault.TextFault.{TextFault}
 use Rattle.object_text.proofs.Agreeing.{one-object-read, no-fault-read, one-fault-told}
-use Rattle.object_stage.specs.ObjectStage.{without_feed, object_line, ObjectJudged, ObjectRead, IsObjectIn}
+use Rattle.object_stage.specs.ObjectStage.{without_feed, too_long_line, object_line, ObjectJudged, ObjectRead, IsObjectIn}
 use Rattle.object_stage.specs.ObjectStage as stage
 use Rattle.object_stage.proofs.OneObject.{object-only}
 use Rattle.rounded_map.specs.RoundedMap.{Setting, setting}
@@ -96,6 +96,26 @@ refused f file x object F s fault status text ticks has lacks n memory h =
     let next = λ (others : List Token) (told : Option (List ℕ)). WeighedAt (setting s x.num x.den F) others in
     fault-only s next lacks.calm.bytes fault (accepted-sound has.calm.bytes s has.accepted) has.accepted.within lacks.few n lacks.tells status text ticks memory
     (judged-file f object s next lacks.calm lacks.few status text ticks memory (specified-only f file s has (λ (r : Spec). ReadAndWeighed f object (setting r x.num x.den F)) status text ticks memory h))
+
+-- the first bytes of a long list are as many
+length-taken : (n : ℕ) (xs : List ℕ) → n ≤ length xs → length (take n xs) ≡ n
+length-taken zero xs h = refl
+length-taken (suc n) [] h = absurd (omega arith)
+length-taken (suc n) (x ∷ xs) h = ap suc (length-taken n xs (omega arith))
+
+-- a file that is too long is refused
+long-only : (s : Spec) (next : List Token → Option (List ℕ) → Outcome) (bytes : List ℕ) → 16777216 < length bytes → (status : Status) (text : List ℕ) (ticks : ℕ) → status ≢ Status.OutOfMemory → ObjectJudged s next bytes status text ticks → (status ≡ Status.ObjectRefused) × (text ≡ too_long_line)
+long-only s next bytes long status text ticks memory (stage.too_long longer says) = (says.status_is, says.text_is)
+long-only s next bytes long status text ticks memory (stage.no_memory says) = absurd (memory says.status_is)
+long-only s next bytes long status text ticks memory (stage.read tokens labels few is p) = absurd (omega (arith, few, long))
+long-only s next bytes long status text ticks memory (stage.refused fault few m tells says) = absurd (omega (arith, few, long))
+
+pub refused-long : (f : Files) (file : List ℕ) (x : Fraction) (object : List ℕ) (F : ℕ) (s : Spec) (calm : IsCalm f object) (status : Status) (text : List ℕ) (ticks : ℕ) → HasSpecification f file s → 16777216 < length calm.bytes → status ≢ Status.OutOfMemory → CarriesChance f file x object F status text ticks → (status ≡ Status.ObjectRefused) × (text ≡ too_long_line)
+refused-long f file x object F s calm status text ticks has long memory h =
+    let next = λ (others : List Token) (told : Option (List ℕ)). WeighedAt (setting s x.num x.den F) others in
+    let read = read-only f object 16777217 (ObjectJudged s next) calm status text ticks memory (specified-only f file s has (λ (r : Spec). ReadAndWeighed f object (setting r x.num x.den F)) status text ticks memory h) in
+    let taken : length (take 16777217 calm.bytes) ≡ 16777217 = length-taken 16777217 calm.bytes (omega (arith, long)) in
+    long-only s next (take 16777217 calm.bytes) (omega (arith, taken)) status text ticks memory read
 
 -- a call that is done read a specification and an object, and found a base
 not-done : {P : Type 0} (said status : Status) (line text : List ℕ) (most ticks : ℕ) → said ≢ Status.Done → status ≡ Status.Done → Says said line most status text ticks → P

@@ -47,6 +47,7 @@ ReadAndWeighed f object t = ObjectRead f t.spec object (λ tokens labels. Weighe
 
 -- `chance FILE X OBJ`: a specification is read and judged, then an object of its first class, then
 -- a base is searched, and the object is weighed over it.
-abbrev pub CarriesChance : Files → (file : List ℕ) → Fraction → (object : List ℕ) → (F : ℕ) → Outcome
+abbrev pub CarriesChance : Files → (file : List ℕ) → Fraction → (object : List ℕ) → (F : ℕ)
+    → Outcome
 CarriesChance f file x object F =
     Specified f file (λ s. ReadAndWeighed f object (setting s x.num x.den F))

@@ -92,8 +92,8 @@ fn read_and_weighed<S: Shelf, K: Sink, L: Ledger>(
 ) -> Status
     ensures ends { (before : List ℕ → ℕ)
         → ((name : List ℕ) → before name ≤ S.faults shelf.old name)
-        → EndsBy (ReadAndWeighed (files (S.content shelf.old) before (S.faults shelf.new)) object.now
-        (setting founded.now x.num x.den (fraction_bits fraction)))
+        → EndsBy (ReadAndWeighed (files (S.content shelf.old) before (S.faults shelf.new))
+        object.now (setting founded.now x.num x.den (fraction_bits fraction)))
         (output (K.written out.old) (K.written out.new) (K.faults out.old) (K.faults out.new)
         steps.old steps.new) result }
     ensures content { S.content shelf.new ≡ S.content shelf.old }
