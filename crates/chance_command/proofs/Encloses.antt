@@ -17,7 +17,7 @@ use Rattle.object_store.proofs.OneToOne.{one-of-class}
 use Rattle.object_text.specs.Reading.{IsRead, TellsFault}
 use Rattle.object_text.specs.declared.fault.TextFault.{TextFault}
 use Rattle.object_text.proofs.Agreeing.{one-object-read, no-fault-read, one-fault-told}
-use Rattle.object_stage.specs.ObjectStage.{without_feed, object_line, ObjectJudged, ObjectRead, IsObjectIn}
+use Rattle.object_stage.specs.ObjectStage.{without_feed, too_long_line, object_line, ObjectJudged, ObjectRead, IsObjectIn}
 use Rattle.object_stage.specs.ObjectStage as stage
 use Rattle.object_stage.proofs.OneObject.{object-only}
 use Rattle.rounded_map.specs.RoundedMap.{Setting, setting}
@@ -31,7 +31,7 @@ use Rattle.call_stages.specs.declared.status.Status.{Status}
 use Rattle.call_stages.proofs.OneReading.{read-only, judged-only, based-only, baseless-only}
 use Rattle.chance_command.specs.ChanceCommand.{chance_text, AreBoundsOver, Weighed, WeighedAt, ReadAndWeighed, CarriesChance}
 use Rattle.chance_command.specs.ChanceCommand as chance
-use Rattle.chance_command.specs.Completeness.{HasSpecification, HasObject, LacksObject, EnclosesChance}
+use Rattle.chance_command.specs.Completeness.{HasSpecification, HasObjectText, LacksObjectText, EnclosesChance}
 
 -- the first bytes of a short list are all of it
 take-all : (n : ℕ) (xs : List ℕ) → length xs ≤ n → take n xs ≡ xs
@@ -59,7 +59,7 @@ judged-file f file s next calm few status text ticks memory h =
     subst (λ b. ObjectJudged s next b status text ticks) all read
 
 -- an object that is in the file goes on
-object-in-only : (f : Files) (file : List ℕ) (s : Spec) (next : List Token → Option (List ℕ) → Outcome) (tokens : List Token) (labels : Option (List ℕ)) → IsSound s → IsWithinLimits s → HasObject f file s tokens labels → (status : Status) (text : List ℕ) (ticks : ℕ) → status ≢ Status.OutOfMemory → ObjectRead f s file next status text ticks → next tokens labels status text ticks
+object-in-only : (f : Files) (file : List ℕ) (s : Spec) (next : List Token → Option (List ℕ) → Outcome) (tokens : List Token) (labels : Option (List ℕ)) → IsSound s → IsWithinLimits s → HasObjectText f file s tokens labels → (status : Status) (text : List ℕ) (ticks : ℕ) → status ≢ Status.OutOfMemory → ObjectRead f s file next status text ticks → next tokens labels status text ticks
 object-in-only f file s next tokens labels sound within has status text ticks memory h = object-only s sound within next has.calm.bytes tokens labels has.few has.is_read status text ticks memory (judged-file f file s next has.calm has.few status text ticks memory h)
 
 weighed-only : (t : Setting) (tokens : List Token) (base : List ℕ) (status : Status) (text : List ℕ) (ticks : ℕ) → status ≢ Status.OutOfMemory → Weighed t tokens base status text ticks → (b : ChanceBounds) × AreBoundsOver t base tokens b × (status ≡ Status.Done) × (text ≡ chance_text b)
@@ -67,19 +67,19 @@ weighed-only t tokens base status text ticks memory (chance.bounded b over says)
 weighed-only t tokens base status text ticks memory (chance.no_memory says) = absurd (memory says.status_is)
 
 -- a specification and an object of it are known, and a base is searched
-searched-only : (f : Files) (file : List ℕ) (x : Fraction) (object : List ℕ) (F : ℕ) (s : Spec) (tokens : List Token) (labels : Option (List ℕ)) (status : Status) (text : List ℕ) (ticks : ℕ) → HasSpecification f file s → HasObject f object s tokens labels → status ≢ Status.OutOfMemory → CarriesChance f file x object F status text ticks → WeighedAt (setting s x.num x.den F) tokens status text ticks
+searched-only : (f : Files) (file : List ℕ) (x : Fraction) (object : List ℕ) (F : ℕ) (s : Spec) (tokens : List Token) (labels : Option (List ℕ)) (status : Status) (text : List ℕ) (ticks : ℕ) → HasSpecification f file s → HasObjectText f object s tokens labels → status ≢ Status.OutOfMemory → CarriesChance f file x object F status text ticks → WeighedAt (setting s x.num x.den F) tokens status text ticks
 searched-only f file x object F s tokens labels status text ticks has found memory h =
     let sound = accepted-sound has.calm.bytes s has.accepted in
     object-in-only f object s (λ others told. WeighedAt (setting s x.num x.den F) others) tokens labels sound has.accepted.within found status text ticks memory
     (specified-only f file s has (λ (r : Spec). ReadAndWeighed f object (setting r x.num x.den F)) status text ticks memory h)
 
-pub weighed : (f : Files) (file : List ℕ) (x : Fraction) (object : List ℕ) (F : ℕ) (s : Spec) (tokens : List Token) (labels : Option (List ℕ)) (base : List ℕ) (status : Status) (text : List ℕ) (ticks : ℕ) → HasSpecification f file s → HasObject f object s tokens labels → base_of (setting s x.num x.den F) ≡ Some base → status ≢ Status.OutOfMemory → CarriesChance f file x object F status text ticks → (b : ChanceBounds) × AreBoundsOver (setting s x.num x.den F) base tokens b × (status ≡ Status.Done) × (text ≡ chance_text b)
+pub weighed : (f : Files) (file : List ℕ) (x : Fraction) (object : List ℕ) (F : ℕ) (s : Spec) (tokens : List Token) (labels : Option (List ℕ)) (base : List ℕ) (status : Status) (text : List ℕ) (ticks : ℕ) → HasSpecification f file s → HasObjectText f object s tokens labels → base_of (setting s x.num x.den F) ≡ Some base → status ≢ Status.OutOfMemory → CarriesChance f file x object F status text ticks → (b : ChanceBounds) × AreBoundsOver (setting s x.num x.den F) base tokens b × (status ≡ Status.Done) × (text ≡ chance_text b)
 weighed f file x object F s tokens labels base status text ticks has found is memory h =
     let t = setting s x.num x.den F in
     let over = based-only t (Weighed t tokens) base is status text ticks memory (searched-only f file x object F s tokens labels status text ticks has found memory h) in
     weighed-only t tokens base status text over.0 memory over.1
 
-pub baseless : (f : Files) (file : List ℕ) (x : Fraction) (object : List ℕ) (F : ℕ) (s : Spec) (tokens : List Token) (labels : Option (List ℕ)) (status : Status) (text : List ℕ) (ticks : ℕ) → HasSpecification f file s → HasObject f object s tokens labels → base_of (setting s x.num x.den F) ≡ None → status ≢ Status.OutOfMemory → CarriesChance f file x object F status text ticks → (trials : List Trial) × HasNoUpper (setting s x.num x.den F) trials × (status ≡ Status.NoUpper) × (text ≡ no_upper_text s F trials)
+pub baseless : (f : Files) (file : List ℕ) (x : Fraction) (object : List ℕ) (F : ℕ) (s : Spec) (tokens : List Token) (labels : Option (List ℕ)) (status : Status) (text : List ℕ) (ticks : ℕ) → HasSpecification f file s → HasObjectText f object s tokens labels → base_of (setting s x.num x.den F) ≡ None → status ≢ Status.OutOfMemory → CarriesChance f file x object F status text ticks → (trials : List Trial) × HasNoUpper (setting s x.num x.den F) trials × (status ≡ Status.NoUpper) × (text ≡ no_upper_text s F trials)
 baseless f file x object F s tokens labels status text ticks has found none memory h =
     let t = setting s x.num x.den F in
     baseless-only t (Weighed t tokens) none status text ticks memory (searched-only f file x object F s tokens labels status text ticks has found memory h)
@@ -91,11 +91,31 @@ fault-only s next bytes fault sound within few n tells status text ticks memory 
 fault-only s next bytes fault sound within few n tells status text ticks memory (stage.read tokens labels f is p) = absurd (n (no-fault-read s sound within 0 (without_feed bytes) tokens labels fault is tells))
 fault-only s next bytes fault sound within few n tells status text ticks memory (stage.refused other f m tells_too says) = (says.status_is, says.text_is ∙ ap object_line (one-fault-told s sound within 0 (without_feed bytes) other fault tells_too tells m n))
 
-pub refused : (f : Files) (file : List ℕ) (x : Fraction) (object : List ℕ) (F : ℕ) (s : Spec) (fault : TextFault) (status : Status) (text : List ℕ) (ticks : ℕ) → HasSpecification f file s → LacksObject f object s fault → fault ≢ TextFault.OutOfMemory → status ≢ Status.OutOfMemory → CarriesChance f file x object F status text ticks → (status ≡ Status.ObjectRefused) × (text ≡ object_line fault)
+pub refused : (f : Files) (file : List ℕ) (x : Fraction) (object : List ℕ) (F : ℕ) (s : Spec) (fault : TextFault) (status : Status) (text : List ℕ) (ticks : ℕ) → HasSpecification f file s → LacksObjectText f object s fault → fault ≢ TextFault.OutOfMemory → status ≢ Status.OutOfMemory → CarriesChance f file x object F status text ticks → (status ≡ Status.ObjectRefused) × (text ≡ object_line fault)
 refused f file x object F s fault status text ticks has lacks n memory h =
     let next = λ (others : List Token) (told : Option (List ℕ)). WeighedAt (setting s x.num x.den F) others in
     fault-only s next lacks.calm.bytes fault (accepted-sound has.calm.bytes s has.accepted) has.accepted.within lacks.few n lacks.tells status text ticks memory
     (judged-file f object s next lacks.calm lacks.few status text ticks memory (specified-only f file s has (λ (r : Spec). ReadAndWeighed f object (setting r x.num x.den F)) status text ticks memory h))
+
+-- the first bytes of a long list are as many
+length-taken : (n : ℕ) (xs : List ℕ) → n ≤ length xs → length (take n xs) ≡ n
+length-taken zero xs h = refl
+length-taken (suc n) [] h = absurd (omega arith)
+length-taken (suc n) (x ∷ xs) h = ap suc (length-taken n xs (omega arith))
+
+-- a file that is too long is refused
+long-only : (s : Spec) (next : List Token → Option (List ℕ) → Outcome) (bytes : List ℕ) → 16777216 < length bytes → (status : Status) (text : List ℕ) (ticks : ℕ) → status ≢ Status.OutOfMemory → ObjectJudged s next bytes status text ticks → (status ≡ Status.ObjectRefused) × (text ≡ too_long_line)
+long-only s next bytes long status text ticks memory (stage.too_long longer says) = (says.status_is, says.text_is)
+long-only s next bytes long status text ticks memory (stage.no_memory says) = absurd (memory says.status_is)
+long-only s next bytes long status text ticks memory (stage.read tokens labels few is p) = absurd (omega (arith, few, long))
+long-only s next bytes long status text ticks memory (stage.refused fault few m tells says) = absurd (omega (arith, few, long))
+
+pub refused-long : (f : Files) (file : List ℕ) (x : Fraction) (object : List ℕ) (F : ℕ) (s : Spec) (calm : IsCalm f object) (status : Status) (text : List ℕ) (ticks : ℕ) → HasSpecification f file s → 16777216 < length calm.bytes → status ≢ Status.OutOfMemory → CarriesChance f file x object F status text ticks → (status ≡ Status.ObjectRefused) × (text ≡ too_long_line)
+refused-long f file x object F s calm status text ticks has long memory h =
+    let next = λ (others : List Token) (told : Option (List ℕ)). WeighedAt (setting s x.num x.den F) others in
+    let read = read-only f object 16777217 (ObjectJudged s next) calm status text ticks memory (specified-only f file s has (λ (r : Spec). ReadAndWeighed f object (setting r x.num x.den F)) status text ticks memory h) in
+    let taken : length (take 16777217 calm.bytes) ≡ 16777217 = length-taken 16777217 calm.bytes (omega (arith, long)) in
+    long-only s next (take 16777217 calm.bytes) (omega (arith, taken)) status text ticks memory read
 
 -- a call that is done read a specification and an object, and found a base
 not-done : {P : Type 0} (said status : Status) (line text : List ℕ) (most ticks : ℕ) → said ≢ Status.Done → status ≡ Status.Done → Says said line most status text ticks → P

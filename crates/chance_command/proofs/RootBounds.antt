@@ -5,7 +5,9 @@ use Rattle.bz_model.specs.declared.cell.Bounds.{Bounds}
 use Rattle.bz_model.specs.Fraction.{Fraction, ratio}
 use Rattle.bz_model.specs.Oracle.{Encloses, IsSound}
 use Rattle.bz_model.specs.Spec.{Spec, body_of}
-use Rattle.bz_model.specs.Object.{Belongs}
+use Rattle.bz_model.specs.Object.{Object, Belongs}
+use Rattle.class_system.specs.Sound.{IsSound as IsSoundSpec}
+use Rattle.class_system.proofs.Soundness.{body_in_range}
 use Rattle.bz_laws.proofs.Weights.{bound-pos}
 use Rattle.kleene_lower.specs.Lower.{zeros}
 use Rattle.oracle_memo.specs.Levels.{level_bounds, level_bounds_from, cost_at}
@@ -37,15 +39,38 @@ root-ticks t base m before after made ticks =
     let last : cost_at (max m.raised 6) ≡ cost_at 6 = ap (λ (k : Memory). cost_at (max k.raised 6)) made ∙ ap cost_at six in
     omega (arith, ticks, none, last)
 
--- the table encloses the body
-pub root-encloses : (t : Setting) (base : List ℕ) (m now : Memory) (e : ℕ) (root : Bounds) → m ≡ made_of t base → now ≡ record m { raised = max m.raised 6 } → IsSound now.spec (ratio now.num now.den) t.bits (λ level node. level_bounds_from (setting now.spec now.num now.den t.bits) now.start now.base level node) → e < length t.spec.nodes → root ≡ level_bounds t base 6 e → Encloses t.spec (ratio t.num t.den) t.bits e root
-root-encloses t base m now e root made raised sound within is =
-    let same : now ≡ record (made_of t base) { raised = max 0 6 } = raised ∙ ap (λ (k : Memory). record k { raised = max k.raised 6 }) made in
-    let there : e < length now.spec.nodes = subst (λ (s : Spec). e < length s.nodes) (sym (ap (λ (k : Memory). k.spec) same)) within in
-    let here = sound.enclosed 6 e (omega arith) (omega arith) there in
-    subst (λ (b : Bounds). Encloses t.spec (ratio t.num t.den) t.bits e b) (sym is)
-    (subst (λ (k : Memory). Encloses k.spec (ratio k.num k.den) t.bits e (level_bounds_from (setting k.spec k.num k.den t.bits) k.start k.base 6 e)) same here)
+-- the node of a body is one of the memo's
+pub node-within : (t : Setting) (base : List ℕ) (system : Spec) (m now : Memory) (e : ℕ) → system ≡ t.spec → IsSoundSpec system → body_of system 0 ≡ Some e → m ≡ made_of t base → now ≡ record m { raised = max m.raised 6 } → e < length now.spec.nodes
+node-within t base system m now e same sound at made raised = subst (λ (s : Spec). e < length s.nodes) (same ∙ sym (spec-is t base m now made raised)) (body_in_range system sound 0 e at)
 
--- an upper bound of a node that has an object is above 0
-pub root-some : (s : Spec) (x : Fraction) (F e : ℕ) (table : (level node : ℕ) → Bounds) (root : Bounds) → IsSound s x F table → e < length s.nodes → Encloses s x F e root → 0 < root.hi
-root-some s x F e table root sound within encloses = let o = sound.inhabited e within in bound-pos x F root.hi (Belongs s e) o.0 sound.positive o.1 encloses.above
+-- what is known of bounds of a body: they are those of level 6, enclose the body, and the upper one is above 0
+pub record IsRoot (t : Setting) (base : List ℕ) (root : Bounds) : Type 0 where
+  pub bounds : (body : ℕ) → body_of t.spec 0 ≡ Some body → root ≡ level_bounds t base 6 body
+  pub encloses : (body : ℕ) → body_of t.spec 0 ≡ Some body → Encloses t.spec (ratio t.num t.den) t.bits body root
+  pub some : 0 < root.hi
+
+module _ (t : Setting) (base : List ℕ) (system : Spec) (m now : Memory) (e : ℕ) (root : Bounds) (same : system ≡ t.spec) (at : body_of system 0 ≡ Some e) (made : m ≡ made_of t base) (raised : now ≡ record m { raised = max m.raised 6 }) (within : e < length now.spec.nodes) (sound : IsSound now.spec (ratio now.num now.den) t.bits (λ level node. level_bounds_from (setting now.spec now.num now.den t.bits) now.start now.base level node)) (is : root ≡ level_bounds_from (setting now.spec now.num now.den t.bits) now.start now.base 6 e) where
+  now-is : now ≡ record (made_of t base) { raised = max 0 6 }
+  now-is = raised ∙ ap (λ (k : Memory). record k { raised = max k.raised 6 }) made
+
+  here : Encloses t.spec (ratio t.num t.den) t.bits e root
+  here =
+      let told = sound.enclosed 6 e (omega arith) (omega arith) within in
+      subst (λ (b : Bounds). Encloses t.spec (ratio t.num t.den) t.bits e b) (sym (is ∙ table-is t base m now e made raised))
+      (subst (λ (k : Memory). Encloses k.spec (ratio k.num k.den) t.bits e (level_bounds_from (setting k.spec k.num k.den t.bits) k.start k.base 6 e)) now-is told)
+
+  one-body : (body : ℕ) → body_of t.spec 0 ≡ Some body → e ≡ body
+  one-body body there = let first = subst (λ (s : Spec). body_of s 0 ≡ Some e) same at in cc
+
+  above-zero : 0 < root.hi
+  above-zero =
+      let o = subst (λ (k : Memory). (o : Object) × Belongs k.spec e o) now-is (sound.inhabited e within) in
+      let positive = subst (λ (k : Memory). 0 < k.num) now-is sound.positive in
+      bound-pos (ratio t.num t.den) t.bits root.hi (Belongs t.spec e) o.0 positive o.1 here.above
+
+  pub is-root : IsRoot t base root
+  is-root = record {
+    bounds = λ body there. is ∙ table-is t base m now e made raised ∙ ap (level_bounds t base 6) (one-body body there);
+    encloses = λ body there. subst (λ b. Encloses t.spec (ratio t.num t.den) t.bits b root) (one-body body there) here;
+    some = above-zero;
+  }

@@ -100,3 +100,8 @@ one-carried f file x object F calm = one-specified-founded f file (λ s. ReadAnd
 
 pub exact : (f : Files) (file : List ℕ) (x : Fraction) (object : List ℕ) (F : ℕ) (b a : Option (List ℕ)) (fb fa tb ta : ℕ) (result : Status) → EndsBy (CarriesChance f file x object F) (output b a fb fa tb ta) result → (status : Status) (text : List ℕ) (ticks : ℕ) → AreCalm f (file ∷ object ∷ []) → CarriesChance f file x object F status text ticks → status ≢ Status.OutOfMemory → ¬ (Rose fb fa) → (result ≡ Status.OutOfMemory) ⊎ ((result ≡ status) × Appends b a text)
 exact f file x object F b a fb fa tb ta result h status text ticks calm p memory fine = endings.exact (CarriesChance f file x object F) (output b a fb fa tb ta) result status text ticks (one-carried f file x object F calm) h p memory fine
+
+-- no weighing ends a call with the status of refused words
+pub weighed-no-words : (t : Setting) (tokens : List Token) (base : List ℕ) (status : Status) (text : List ℕ) (ticks : ℕ) → Weighed t tokens base status text ticks → status ≡ Status.WordsRefused → ⊥
+weighed-no-words t tokens base status text ticks (chance.bounded b over says) is = let e : Status.Done ≡ Status.WordsRefused = sym says.status_is ∙ is in absurd (cc)
+weighed-no-words t tokens base status text ticks (chance.no_memory says) is = let e : Status.OutOfMemory ≡ Status.WordsRefused = sym says.status_is ∙ is in absurd (cc)

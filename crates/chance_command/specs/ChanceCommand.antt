@@ -19,16 +19,16 @@ use Rattle.object_stage.specs.ObjectStage.{ObjectRead}
 abbrev pub chance_text : ChanceBounds → List ℕ
 chance_text b = chance_line b ++ (codes "end done" ++ feed)
 
--- These are the bounds of the chance of the object of class 0 with these tokens, where the class's body
--- has the bounds of level 6 over the base; and they enclose it.
+-- These are the bounds of the chance of the object of class 0 with these tokens, where the class's
+-- body has the bounds of level 6 over the base; and they enclose it.
 pub record AreBoundsOver (t : Setting) (base : List ℕ) (tokens : List Token)
     (b : ChanceBounds) : Type 0 where
   pub of : IsOf t.spec 0 tokens
   pub are : AreChanceBounds t.bits (ratio t.num t.den) (level_bounds t base 6 of.body) of.object b
   pub enclose : IsEnclosed t.spec (ratio t.num t.den) of.body of.object b
 
--- An object is weighed over a base: the bounds of its chance are printed, or memory runs out. All six
--- levels are raised.
+-- An object is weighed over a base: the bounds of its chance are printed, or memory runs out. All
+-- six levels are raised.
 pub data Weighed (t : Setting) (tokens : List Token) (base : List ℕ)
     (status : Status) (text : List ℕ) (ticks : ℕ) : Type 0 where
   bounded : (b : ChanceBounds) → AreBoundsOver t base tokens b
@@ -45,8 +45,9 @@ WeighedAt t tokens = Based t (Weighed t tokens)
 abbrev pub ReadAndWeighed : Files → (object : List ℕ) → Setting → Outcome
 ReadAndWeighed f object t = ObjectRead f t.spec object (λ tokens labels. WeighedAt t tokens)
 
--- `chance FILE X OBJ`: a specification is read and judged, then an object of its first class, then a
--- base is searched, and the object is weighed over it.
-abbrev pub CarriesChance : Files → (file : List ℕ) → Fraction → (object : List ℕ) → (F : ℕ) → Outcome
+-- `chance FILE X OBJ`: a specification is read and judged, then an object of its first class, then
+-- a base is searched, and the object is weighed over it.
+abbrev pub CarriesChance : Files → (file : List ℕ) → Fraction → (object : List ℕ) → (F : ℕ)
+    → Outcome
 CarriesChance f file x object F =
     Specified f file (λ s. ReadAndWeighed f object (setting s x.num x.den F))

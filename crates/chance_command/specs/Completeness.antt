@@ -20,23 +20,24 @@ pub record HasSpecification (f : Files) (file : List ℕ) (s : Spec) : Type 0 wh
   pub accepted : IsAccepted calm.bytes s
   pub founded : IsWellFounded s
 
--- The file's bytes are known and no read of it failed; with or without a line feed at their end they
--- are the canonical text of an object of the first class, with these tokens and labels.
-pub record HasObject (f : Files) (file : List ℕ) (s : Spec) (tokens : List Token)
+-- The file's bytes are known and no read of it failed; with or without a line feed at their end
+-- they are the canonical text of an object of the first class, with these tokens and labels.
+pub record HasObjectText (f : Files) (file : List ℕ) (s : Spec) (tokens : List Token)
     (labels : Option (List ℕ)) : Type 0 where
   pub calm : IsCalm f file
   pub few : length calm.bytes ≤ 16777216
   pub is_read : IsRead s 0 (without_feed calm.bytes) tokens labels
 
--- The file's bytes are known and no read of it failed; with or without a line feed at their end they
--- are no canonical text of an object of the first class, for this cause.
-pub record LacksObject (f : Files) (file : List ℕ) (s : Spec) (fault : TextFault) : Type 0 where
+-- The file's bytes are known and no read of it failed; with or without a line feed at their end
+-- they are no canonical text of an object of the first class, for this cause.
+pub record LacksObjectText (f : Files) (file : List ℕ) (s : Spec) (fault : TextFault) : Type 0 where
   pub calm : IsCalm f file
   pub few : length calm.bytes ≤ 16777216
   pub tells : TellsFault s 0 (without_feed calm.bytes) fault
 
--- The text is the lines of bounds that enclose the chance of the object in the second file, an object of
--- the first class of the specification in the first file: its weight at x over the value of the class.
+-- The text is the lines of bounds that enclose the chance of the object in the second file, an
+-- object of the first class of the specification in the first file: its weight at x over the value
+-- of the class.
 pub record EnclosesChance (f : Files) (file : List ℕ) (x : Fraction) (object : List ℕ)
     (text : List ℕ) : Type 0 where
   pub spec : Spec

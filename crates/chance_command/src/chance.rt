@@ -41,8 +41,8 @@ use well_founded::examination::Founded;
 /// The level whose bounds are taken, the last one.
 const LEVEL: u8 = 6;
 
-/// Reads a specification and judges it, reads an object of its first class, searches a base at `x`, and
-/// prints bounds of the chance of the object.
+/// Reads a specification and judges it, reads an object of its first class, searches a base at `x`,
+/// and prints bounds of the chance of the object.
 pub fn chance<S: Shelf, K: Sink, L: Ledger>(
     alloc: Global,
     file: &Word,
@@ -92,8 +92,8 @@ fn read_and_weighed<S: Shelf, K: Sink, L: Ledger>(
 ) -> Status
     ensures ends { (before : List ℕ → ℕ)
         → ((name : List ℕ) → before name ≤ S.faults shelf.old name)
-        → EndsBy (ReadAndWeighed (files (S.content shelf.old) before (S.faults shelf.new)) object.now
-        (setting founded.now x.num x.den (fraction_bits fraction)))
+        → EndsBy (ReadAndWeighed (files (S.content shelf.old) before (S.faults shelf.new))
+        object.now (setting founded.now x.num x.den (fraction_bits fraction)))
         (output (K.written out.old) (K.written out.new) (K.faults out.old) (K.faults out.new)
         steps.old steps.new) result }
     ensures content { S.content shelf.new ≡ S.content shelf.old }

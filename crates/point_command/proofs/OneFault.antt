@@ -1,5 +1,5 @@
 -- A specification that can't be pointed has one fault, and one that can has none.
-use Rattle.std.proofs.Common.{◌≡◌, ◌≢◌, ℕ, ◌<◌, ◌≤◌, ◌⊎◌, inl, inr, List, refl, sym, ap, subst, ◌∙◌, arith}
+use Rattle.std.proofs.Common.{◌≡◌, ◌≢◌, ℕ, ◌<◌, ◌≤◌, List, refl, sym, ap, ◌∙◌, arith}
 use Rattle.std.specs.Prelude.{length, Some, slice_get}
 use Rattle.std.proofs.Math.Decide.{dec_lt}
 use Rattle.bz_model.specs.Spec.{Spec, Mode, Node, body_of}
@@ -8,7 +8,7 @@ use Rattle.class_system.specs.NodeOrder.{parts_of}
 use Rattle.class_system.specs.declared.limits.BuildFault.{BuildFault}
 use Rattle.class_system.specs.declared.limits.BuildFault.TheVariants as limit
 use Rattle.pointing.specs.Atoms.{HasAtom}
-use Rattle.pointing.specs.Calls.{IsRanged, IsFirstRanged, LacksAtom, BreaksLimit, TellsFault}
+use Rattle.pointing.specs.Calls.{IsRanged, LacksAtom, TellsFault}
 use Rattle.pointing.specs.PointedSpec.{IsPlain, pointed_spec}
 use Rattle.pointing.specs.declared.fault.PointFault.{PointFault}
 use Rattle.pointing.specs.declared.fault.PointFault.TheVariants as fault
@@ -27,8 +27,8 @@ one-first P i j p q before before_too = go (dec_lt i j) (dec_lt j i)
 one-excess : (nodes : List Node) (a b : ℕ) → IsFirstExcess nodes a → IsFirstExcess nodes b → a ≡ b
 one-excess nodes a b h k =
     let place = one-first (λ i. (n : Node) × (slice_get nodes i ≡ Some n) × (64 < length (parts_of n))) h.place k.place (h.node, h.is_there, let c = h.counted in let e = h.excess in omega arith) (k.node, k.is_there, let c = k.counted in let e = k.excess in omega arith)
-        (λ i less has. let few = (h.before i has.0 less has.1).few in let e = has.2 in absurd (omega (arith, few, e)))
-        (λ i less has. let few = (k.before i has.0 less has.1).few in let e = has.2 in absurd (omega (arith, few, e))) in
+    (λ i less has. let few = (h.before i has.0 less has.1).few in let e = has.2 in absurd (omega (arith, few, e)))
+    (λ i less has. let few = (k.before i has.0 less has.1).few in let e = has.2 in absurd (omega (arith, few, e))) in
     let nodes_same : Some h.node ≡ Some k.node = sym h.is_there ∙ ap (λ i. slice_get nodes i) place ∙ k.is_there in
     let node : h.node ≡ k.node = cc in
     h.counted ∙ ap (λ n. length (parts_of n)) node ∙ sym k.counted
@@ -93,7 +93,7 @@ one-fault s fault.Labelled (fault.Ranged e) m n t u = absurd (two-modes s t u.un
 one-fault s fault.Labelled fault.NoAtom m n t u = absurd (two-modes s t u.is_plain.unlabelled)
 one-fault s fault.Labelled (fault.Limit f) m n t u = absurd (two-modes s t u.is_plain.unlabelled)
 one-fault s (fault.Ranged e) fault.Labelled m n t u = absurd (two-modes s u t.unlabelled)
-one-fault s (fault.Ranged e) (fault.Ranged f) m n t u = let same : e.0 ≡ f.0 = one-first (IsRanged s) e.0 f.0 t.here u.here t.before u.before in cc
+one-fault s (fault.Ranged e) (fault.Ranged f) m n t u = let same : e.0 ≡ f.0 = one-first (IsRanged s) e.0 f.0 t.here u.here t.before u.before in ap (λ (k : ℕ). fault.Ranged (record { 0 = k })) same
 one-fault s (fault.Ranged e) fault.NoAtom m n t u = absurd (no-ranged s e.0 t.here u.is_plain)
 one-fault s (fault.Ranged e) (fault.Limit f) m n t u = absurd (no-ranged s e.0 t.here u.is_plain)
 one-fault s fault.NoAtom fault.Labelled m n t u = absurd (two-modes s u t.is_plain.unlabelled)

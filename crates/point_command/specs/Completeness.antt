@@ -2,7 +2,6 @@
 use Rattle.std.specs.Prelude.{◌≡◌, ℕ, List, ◌++◌, length, Some}
 use Rattle.bz_model.specs.Spec.{Spec, body_of}
 use Rattle.bz_model.specs.WellFounded.{IsWellFounded}
-use Rattle.class_system.specs.CanonicalText.{canonical_text}
 use Rattle.pointing.specs.Atoms.{is_atomic_node}
 use Rattle.pointing.specs.Correspondence.{Corresponds}
 use Rattle.pointing.specs.PointedSpec.{pointed_spec}
@@ -16,10 +15,10 @@ pub record HasSpecification (f : Files) (file : List ℕ) (s : Spec) : Type 0 wh
   pub accepted : IsAccepted calm.bytes s
   pub founded : IsWellFounded s
 
--- The text is that of the pointed specification of the one in the file, and a last line with its numbers
--- of classes and nodes. As a file, the text before that line stands for the pointed specification,
--- which is within the limits and well founded, and whose first class has the objects of the file's
--- first class with one atom marked.
+-- The text is that of the pointed specification of the one in the file, and a last line with its
+-- numbers of classes and nodes. As a file, the text before that line stands for the pointed
+-- specification, which is within the limits and well founded, and whose first class has the objects
+-- of the file's first class with one atom marked.
 pub record PrintsPointed (f : Files) (file : List ℕ) (text : List ℕ) : Type 0 where
   pub spec : Spec
   pub specified : IsSpecified f.content file spec

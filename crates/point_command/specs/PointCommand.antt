@@ -43,16 +43,16 @@ pub record CanBePointed (s : Spec) : Type 0 where
   pub an_atom : HasAtom s body
   pub within : IsWithinLimits (pointed_spec s)
 
--- A specification is pointed: it has no pointed one, for a cause, or the pointed one is printed in its
--- canonical form. Memory may run out instead.
-pub data Pointed (s : Spec) (status : Status) (text : List ℕ) (ticks : ℕ) : Type 0 where
+-- A specification is pointed: it has no pointed one, for a cause, or the pointed one is printed in
+-- its canonical form. Memory may run out instead.
+pub data PointedPrinted (s : Spec) (status : Status) (text : List ℕ) (ticks : ℕ) : Type 0 where
   refused : (fault : PointFault) → fault ≢ PointFault.OutOfMemory → TellsFault s fault
       → Says Status.PointRefused (point_line fault) 0 status text ticks
-      → Pointed s status text ticks
+      → PointedPrinted s status text ticks
   printed : CanBePointed s → Says Status.Done (form_text (pointed_spec s)) 0 status text ticks
-      → Pointed s status text ticks
-  no_memory : Says Status.OutOfMemory [] 0 status text ticks → Pointed s status text ticks
+      → PointedPrinted s status text ticks
+  no_memory : Says Status.OutOfMemory [] 0 status text ticks → PointedPrinted s status text ticks
 
 -- `point FILE`: a specification is read, judged and pointed.
 abbrev pub CarriesPoint : Files → (file : List ℕ) → Outcome
-CarriesPoint f file = Specified f file Pointed
+CarriesPoint f file = Specified f file PointedPrinted

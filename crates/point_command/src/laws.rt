@@ -18,19 +18,17 @@ use pointing::laws::{
     a_pointed_specification_is_sound_and_founded, pointing_marks_one_atom,
     the_classes_with_an_atom_are_found, worked_specifications_are_pointed,
 };
-use spec_reader::laws::{
-    a_canonical_text_is_short, a_canonical_text_stands_for_its_specification,
-};
+use spec_reader::laws::{a_canonical_text_is_short, a_canonical_text_stands_for_its_specification};
 
-/// But for want of memory the command has one status with one text, where its file is known and no read
-/// of it failed.
+/// But for want of memory the command has one status with one text, where its file is known and no
+/// read of it failed.
 pub fn the_command_has_one_outcome()
     ensures one { (f : Files) (file : List ℕ) → AreCalm f (file ∷ [])
         → IsOne (CarriesPoint f file) }
 {}
 
-/// What can be pointed has no other answer than the text of the pointed specification, and what can't
-/// no other than the line of its fault.
+/// What can be pointed has no other answer than the text of the pointed specification, and what
+/// can't no other than the line of its fault.
 pub fn what_can_be_pointed_is_printed()
     ensures printed { (f : Files) (file : List ℕ) (s : Spec) (status : Status) (text : List ℕ) (ticks : ℕ)
         → HasSpecification f file s → CanBePointed s → status ≢ Status.OutOfMemory
@@ -42,9 +40,9 @@ pub fn what_can_be_pointed_is_printed()
         → (status ≡ Status.PointRefused) × (text ≡ point_line fault) }
 {}
 
-/// What is printed, read as a file, stands for the pointed specification of the one in the file, which is
-/// well founded; and the objects of its first class are those of the file's first class with one atom
-/// marked.
+/// What is printed, read as a file, stands for the pointed specification of the one in the file,
+/// which is well founded; and the objects of its first class are those of the file's first class
+/// with one atom marked.
 pub fn what_is_printed_is_the_pointed_specification()
     ensures prints { (f : Files) (file : List ℕ) (status : Status) (text : List ℕ) (ticks : ℕ)
         → status ≡ Status.Done → CarriesPoint f file status text ticks

@@ -6,7 +6,7 @@ ghost use Rattle.call_stages.specs.Reports.{refusal_status, refusal_text};
 ghost use Rattle.call_stages.specs.Stages.{files, AreCalm};
 ghost use Rattle.call_stages.specs.declared.status.Status.{Status};
 ghost use Rattle.pointing.specs.PointedSpec.{pointed_spec};
-ghost use Rattle.point_command.specs.PointCommand.{form_text, CanBePointed, Pointed, CarriesPoint};
+ghost use Rattle.point_command.specs.PointCommand.{form_text, CanBePointed, PointedPrinted, CarriesPoint};
 
 use crate::refusals::point_refusal;
 use bz_outside::shelf::Shelf;
@@ -48,7 +48,7 @@ pub fn point<S: Shelf, K: Sink>(alloc: Global, file: &Word, shelf: &mut S, out: 
 
 /// Points a specification, and prints the pointed one.
 fn printed<K: Sink>(alloc: Global, founded: &Founded, out: &mut K) -> Status
-    ensures ends { (ticks : ℕ) → EndsBy (Pointed founded.now)
+    ensures ends { (ticks : ℕ) → EndsBy (PointedPrinted founded.now)
         (output (K.written out.old) (K.written out.new) (K.faults out.old) (K.faults out.new)
         ticks ticks) result }
     ensures writes { K.faults out.old ≤ K.faults out.new }
@@ -65,7 +65,7 @@ fn pointed_lines(alloc: Global, founded: &Founded) -> Result<Vec<u8>, Refusal>
     ensures text { IfOk result (λ text. text.items ≡ form_text (pointed_spec founded.now)) }
     ensures can { OnOk result (CanBePointed founded.now) }
     ensures err { IfErr result (λ e.
-        Pointed founded.now (refusal_status e) (refusal_text e) 0) }
+        PointedPrinted founded.now (refusal_status e) (refusal_text e) 0) }
 {
     match pointed_of(alloc, founded) {
         Ok(pointed) => {

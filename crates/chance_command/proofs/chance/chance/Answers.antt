@@ -21,4 +21,4 @@ returns-in-Err-clause-ends g c =
 pub returns-in-Err-clause-exact : goal.returns-in-Err-clause-exact
 returns-in-Err-clause-exact g c =
     let f = files (g.S.Shelf.content c.args.shelf.now) (g.S.Shelf.faults c.args.shelf.now) (g.S.Shelf.faults c.specified.new.shelf) in
-    exact f c.args.file.now c.args.x c.args.object.now (fraction_bits c.args.fraction) _ _ _ _ _ _ _ (ended-there f c.args.file.now c.args.x c.args.object.now (fraction_bits c.args.fraction) _ _ _ _ _ _ _ _ c.refused.ensures.ends c.in-Err.ensures.err)
+    exact f c.args.file.now c.args.x c.args.object.now (fraction_bits c.args.fraction) _ _ _ _ c.args.steps.now c.args.steps.now _ (ended-there f c.args.file.now c.args.x c.args.object.now (fraction_bits c.args.fraction) _ _ _ _ c.args.steps.now _ _ _ c.refused.ensures.ends c.in-Err.ensures.err)
