@@ -11,7 +11,7 @@ use Rattle.object_store.specs.declared.token.Token.{Token}
 use Rattle.object_store.proofs.Sizes.{size_of-tokens}
 use Rattle.object_text.specs.Reading.{IsRead}
 use Rattle.rank_tables.specs.RankOrder.{IsCount, IsRank, IsRanked}
-use Rattle.rank_tables.specs.Refusals.{HasPlainRanges, HasSmallCounts}
+use Rattle.rank_tables.specs.Refusals.{IsFirstRanged, HasPlainRanges, IsTooMany, HasSmallCounts}
 use Rattle.rank_tables.specs.Shapes.{IsRankOf}
 use Rattle.call_stages.specs.Outcomes.{Outcome, Says}
 use Rattle.call_stages.specs.Stages.{Files, IsCalm, AreRead, FileRead, Judged, Specified}
@@ -20,7 +20,7 @@ use Rattle.call_stages.specs.declared.status.Status.{Status}
 use Rattle.call_stages.proofs.OneReading.{read-only, judged-only}
 use Rattle.object_stage.specs.ObjectStage.{without_feed, ObjectRead}
 use Rattle.object_stage.specs.ObjectStage as objects
-use Rattle.rank_commands.specs.RankStages.{too_large_line, Rankable, Counted, SizeJudged}
+use Rattle.rank_commands.specs.RankStages.{labelled_line, range_line, too_many_line, too_large_line, Rankable, Counted, SizeJudged}
 use Rattle.rank_commands.specs.RankStages as stages
 use Rattle.rank_commands.specs.CountCommand.{counts_text, AreCountsTo, CountsPrinted, CountedTo, CarriesCount}
 use Rattle.rank_commands.specs.CountCommand as counts
@@ -28,7 +28,9 @@ use Rattle.rank_commands.specs.UnrankCommand.{number_line, object_page, ObjectOf
 use Rattle.rank_commands.specs.UnrankCommand as unranking
 use Rattle.rank_commands.specs.RankCommand.{rank_text, RankPrinted, ObjectRanked, RankedIn, CarriesRank}
 use Rattle.rank_commands.specs.RankCommand as ranking
-use Rattle.rank_commands.specs.Fit.{IsFit, CanBeCounted, IsTextIn}
+use Rattle.rank_commands.specs.Fit.{IsFit, CanBeCounted, IsTextIn, ComesOf}
+use Rattle.rank_commands.specs.Fit as fits
+use Rattle.rank_commands.proofs.OneStage.{labelled-only, ranged-only, plain-only, many-only, fits-only}
 use Rattle.rank_commands.proofs.OneOutcome.{one-count, one-unrank, one-rank}
 
 -- a file that is known and short is read whole
@@ -101,3 +103,26 @@ module _ (f : Files) (file object : List ℕ) (s : Spec) (body : ℕ) (o : Objec
       let same : size_of (tokens_of o) ≡ size o = size_of-tokens o in
       let r = ranked-as Status.ObjectRefused (too_large_line (size_of (tokens_of o))) (λ e. absurd (cc)) (stages.too_large (omega (arith, same, large)) (said Status.ObjectRefused (too_large_line (size_of (tokens_of o))))) in
       (r.0, r.1 ∙ ap too_large_line same)
+
+-- labels are refused
+pub labelled_refused : (f : Files) (s : Spec) (status : Status) (text : List ℕ) (ticks : ℕ) → s.mode ≡ Mode.Labelled → status ≢ Status.OutOfMemory → ComesOf f s status text ticks → (status ≡ Status.RankRefused) × (text ≡ labelled_line)
+labelled_refused f s status text ticks mode memory (fits.of_count most h) = labelled-only s (Counted s most (CountsPrinted s most)) status text ticks memory mode h
+labelled_refused f s status text ticks mode memory (fits.of_unrank n r h) = labelled-only s (Counted s n (ObjectOfRank s n r)) status text ticks memory mode h
+labelled_refused f s status text ticks mode memory (fits.of_rank object h) = labelled-only s (ObjectRead f s object (ObjectRanked s)) status text ticks memory mode h
+
+-- so is a range that isn't plain
+pub range_refused : (f : Files) (s : Spec) (e : ℕ) (status : Status) (text : List ℕ) (ticks : ℕ) → s.mode ≡ Mode.Unlabelled → IsFirstRanged s e → status ≢ Status.OutOfMemory → ComesOf f s status text ticks → (status ≡ Status.RankRefused) × (text ≡ range_line e)
+range_refused f s e status text ticks mode first memory (fits.of_count most h) = ranged-only s (Counted s most (CountsPrinted s most)) status text ticks memory e mode first h
+range_refused f s e status text ticks mode first memory (fits.of_unrank n r h) = ranged-only s (Counted s n (ObjectOfRank s n r)) status text ticks memory e mode first h
+range_refused f s e status text ticks mode first memory (fits.of_rank object h) = ranged-only s (ObjectRead f s object (ObjectRanked s)) status text ticks memory e mode first h
+
+module _ (s : Spec) (status : Status) (text : List ℕ) (ticks : ℕ) (memory : status ≢ Status.OutOfMemory) where
+  -- and a count that is too great
+  pub count_refused : (most e n : ℕ) → s.mode ≡ Mode.Unlabelled → HasPlainRanges s → IsTooMany s most e n → CountedTo most s status text ticks → (status ≡ Status.RankRefused) × (text ≡ too_many_line e n)
+  count_refused most e n mode plain many h = many-only s (CountsPrinted s most) status text ticks memory most e n many (plain-only s (Counted s most (CountsPrinted s most)) status text ticks memory mode plain h)
+
+  pub unrank_refused : (n r e m : ℕ) → s.mode ≡ Mode.Unlabelled → HasPlainRanges s → IsTooMany s n e m → Unranked n r s status text ticks → (status ≡ Status.RankRefused) × (text ≡ too_many_line e m)
+  unrank_refused n r e m mode plain many h = many-only s (ObjectOfRank s n r) status text ticks memory n e m many (plain-only s (Counted s n (ObjectOfRank s n r)) status text ticks memory mode plain h)
+
+  pub rank_refused : (tokens : List Token) (labels : Option (List ℕ)) (e n : ℕ) → size_of tokens ≤ 500 → IsTooMany s (size_of tokens) e n → ObjectRanked s tokens labels status text ticks → (status ≡ Status.RankRefused) × (text ≡ too_many_line e n)
+  rank_refused tokens labels e n few many h = many-only s (RankPrinted s tokens) status text ticks memory (size_of tokens) e n many (fits-only s (Counted s (size_of tokens) (RankPrinted s tokens)) status text ticks memory tokens few h)

@@ -1,4 +1,5 @@
 pub mod Staging
+pub mod Pages
 pub mod OneStage
 pub mod OneOutcome
 pub mod Complete

@@ -1,5 +1,5 @@
 -- Stages: what ends a call before anything is printed, and what follows where a stage goes on.
-use Rattle.std.proofs.Common.{◌≡◌, ◌≢◌, ℕ, ◌<◌, ◌≤◌, List, refl}
+use Rattle.std.proofs.Common.{◌≡◌, ◌≢◌, ℕ, ◌<◌, ◌≤◌, arith, List, refl, sym, subst}
 use Rattle.std.specs.Prelude.{Option, Some}
 use Rattle.bz_model.specs.Spec.{Spec, Mode}
 use Rattle.object_store.specs.declared.token.Token.{Token}
@@ -14,10 +14,12 @@ use Rattle.call_stages.specs.Reports.{refusal_status, refusal_text}
 use Rattle.call_stages.specs.declared.report.Refusal.{Refusal}
 use Rattle.call_stages.specs.declared.report.Refusal.TheVariants as refusal
 use Rattle.call_stages.specs.declared.status.Status.{Status}
+use Rattle.call_stages.specs.Ends.{output, EndsBy}
+use Rattle.call_stages.proofs.Endings.{written_on}
 use Rattle.call_stages.proofs.Staging.{says-nothing}
 use Rattle.object_stage.specs.ObjectStage.{IsObjectIn}
 use Rattle.rank_commands.specs.Faults.{fault_line}
-use Rattle.rank_commands.specs.RankStages.{Rankable, Counted, SizeJudged}
+use Rattle.rank_commands.specs.RankStages.{too_large_line, Rankable, Counted, SizeJudged}
 use Rattle.rank_commands.specs.RankStages as stages
 
 -- tables are refused for labels, for a range, or for a count that is too great
@@ -88,3 +90,15 @@ read_object s text tokens labels is = record { body = is.body; is_body = is.is_b
 
 pub object_in : (content : List ℕ → Option (List ℕ)) (s : Spec) (file : List ℕ) (tokens : List Token) (labels : Option (List ℕ)) → IsObjectIn content s file tokens labels → IsOf s 0 tokens
 object_in content s file tokens labels h = read_object s _ tokens labels h.is_read
+
+-- a page is written at the end
+pub page_written : (P : Outcome) (b a : Option (List ℕ)) (fb fa ticks : ℕ) (result : Status) (page text : List ℕ) → text ≡ page → P Status.Done page 0 → EndsBy (Says Status.Done text 0) (output b a fb fa 0 0) result → EndsBy P (output b a fb fa ticks ticks) result
+page_written P b a fb fa ticks result page text same p h = written_on P b a fb fa ticks ticks result Status.Done text 0 h (subst (λ t. P Status.Done t 0) (sym same) p) (omega arith)
+
+-- or a refusal
+pub refusal_written : (P : Outcome) (b a : Option (List ℕ)) (fb fa ticks : ℕ) (result : Status) (e : Refusal) → P (refusal_status e) (refusal_text e) 0 → EndsBy (Says (refusal_status e) (refusal_text e) 0) (output b a fb fa 0 0) result → EndsBy P (output b a fb fa ticks ticks) result
+refusal_written P b a fb fa ticks result e p h = written_on P b a fb fa ticks ticks result (refusal_status e) (refusal_text e) 0 h p (omega arith)
+
+-- an object that is too large is refused
+pub size_refused : (tokens : List Token) (size : ℕ) (status : Status) (text : List ℕ) → size ≡ size_of tokens → 500 < size → Says Status.ObjectRefused (too_large_line size) 0 status text 0 → SizeJudged tokens Never status text 0
+size_refused tokens size status text same large says = stages.too_large (omega (arith, same, large)) (subst (λ n. Says Status.ObjectRefused (too_large_line n) 0 status text 0) same says)

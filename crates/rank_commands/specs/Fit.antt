@@ -6,7 +6,11 @@ use Rattle.bz_model.specs.ObjectText.{object_text}
 use Rattle.bz_model.specs.WellFounded.{IsWellFounded}
 use Rattle.rank_tables.specs.Refusals.{HasPlainRanges, HasSmallCounts}
 use Rattle.call_stages.specs.Stages.{Files, HasFailedRead, IsAccepted}
+use Rattle.call_stages.specs.declared.status.Status.{Status}
 use Rattle.object_stage.specs.ObjectStage.{without_feed}
+use Rattle.rank_commands.specs.CountCommand.{CountedTo}
+use Rattle.rank_commands.specs.UnrankCommand.{Unranked}
+use Rattle.rank_commands.specs.RankCommand.{RankedIn}
 
 -- The file is known to have bytes that stand for this specification, which is within the limits and well founded, and no read of it failed in the call.
 pub record IsFit (f : Files) (file : List ℕ) (s : Spec) : Type 0 where
@@ -29,3 +33,9 @@ pub record IsTextIn (f : Files) (file : List ℕ) (s : Spec) (body : ℕ) (o : O
   pub no_fault : ¬ (HasFailedRead f file)
   pub few : length bytes ≤ 16777216
   pub is_text : without_feed bytes ≡ object_text s body o belongs []
+
+-- What comes of one of the commands once the specification is judged.
+pub data ComesOf (f : Files) (s : Spec) (status : Status) (text : List ℕ) (ticks : ℕ) : Type 0 where
+  of_count : (most : ℕ) → CountedTo most s status text ticks → ComesOf f s status text ticks
+  of_unrank : (n r : ℕ) → Unranked n r s status text ticks → ComesOf f s status text ticks
+  of_rank : (object : List ℕ) → RankedIn f object s status text ticks → ComesOf f s status text ticks

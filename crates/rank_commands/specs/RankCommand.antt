@@ -15,7 +15,7 @@ use Rattle.rank_commands.specs.RankStages.{done_line, Rankable, Counted, SizeJud
 -- The rank of an object among those of its size, and the last line.
 abbrev pub rank_text : (r count : ℕ) → List ℕ
 rank_text r count =
-    (codes "rank " ++ (decimal r ++ (codes " of " ++ (decimal count ++ feed)))) ++ done_line
+    codes "rank " ++ (decimal r ++ (codes " of " ++ (decimal count ++ (feed ++ done_line))))
 
 -- The rank of the object with these tokens is printed, and how many objects of its size the first class has.
 pub data RankPrinted (s : Spec) (tokens : List Token) (status : Status) (text : List ℕ) (ticks : ℕ) : Type 0 where

@@ -1,5 +1,5 @@
 //! The command `count`: how many objects of each size there are.
-ghost use Rattle.std.specs.Prelude.{◌≡◌, ℕ, suc, ◌≤◌, ◌++◌, List, Some, IfOk, IfErr, OnOk, string_bytes};
+ghost use Rattle.std.specs.Prelude.{◌≡◌, ℕ, ◌<◌, ◌≤◌, ◌++◌, List, Some, IfOk, IfErr, OnOk, string_bytes};
 ghost use Rattle.bz_model.specs.Spec.{body_of};
 ghost use Rattle.rank_tables.specs.Tables.{AreCounts, told};
 ghost use Rattle.call_stages.specs.Ends.{EndsBy, output};

@@ -1,18 +1,20 @@
 //! Laws of what comes of the commands. Each function's contract is a law, and its body calls only laws.
-ghost use Rattle.std.specs.Prelude.{◌≡◌, ◌≢◌, ℕ, ◌<◌, ◌≤◌, List, Some};
+ghost use Rattle.std.specs.Prelude.{◌≡◌, ◌≢◌, ℕ, ◌<◌, ◌≤◌, List, Option, Some};
 ghost use Rattle.bz_model.specs.Spec.{Spec, Mode, body_of};
 ghost use Rattle.bz_model.specs.Object.{Object, Belongs};
 ghost use Rattle.bz_model.specs.Measures.{size};
+ghost use Rattle.object_store.specs.Tokens.{size_of};
+ghost use Rattle.object_store.specs.declared.token.Token.{Token};
 ghost use Rattle.rank_tables.specs.RankOrder.{IsCount, IsRank, IsRanked};
 ghost use Rattle.rank_tables.specs.Refusals.{IsFirstRanged, HasPlainRanges, IsTooMany};
-ghost use Rattle.call_stages.specs.Outcomes.{Outcome, IsOne};
-ghost use Rattle.call_stages.specs.Stages.{Files, IsCalm, Specified};
+ghost use Rattle.call_stages.specs.Outcomes.{IsOne};
+ghost use Rattle.call_stages.specs.Stages.{Files, IsCalm};
 ghost use Rattle.call_stages.specs.declared.status.Status.{Status};
-ghost use Rattle.rank_commands.specs.RankStages.{labelled_line, range_line, too_many_line, too_large_line, Rankable, Counted};
-ghost use Rattle.rank_commands.specs.CountCommand.{counts_text, AreCountsTo, CarriesCount};
-ghost use Rattle.rank_commands.specs.UnrankCommand.{number_line, object_page, CarriesUnrank};
-ghost use Rattle.rank_commands.specs.RankCommand.{rank_text, CarriesRank};
-ghost use Rattle.rank_commands.specs.Fit.{IsFit, CanBeCounted, IsTextIn};
+ghost use Rattle.rank_commands.specs.RankStages.{labelled_line, range_line, too_many_line, too_large_line};
+ghost use Rattle.rank_commands.specs.CountCommand.{counts_text, AreCountsTo, CountedTo, CarriesCount};
+ghost use Rattle.rank_commands.specs.UnrankCommand.{number_line, object_page, Unranked, CarriesUnrank};
+ghost use Rattle.rank_commands.specs.RankCommand.{rank_text, ObjectRanked, RankedIn, CarriesRank};
+ghost use Rattle.rank_commands.specs.Fit.{IsFit, CanBeCounted, IsTextIn, ComesOf};
 
 use object_text::laws::what_was_printed_is_read;
 
@@ -27,28 +29,42 @@ pub fn each_command_has_one_outcome()
         → IsOne (CarriesRank f file object) }
 {}
 
-/// A specification that is fit goes on to the stages of its command, but for out of memory.
+/// A specification that is fit goes on to the command's own stages, but for out of memory.
 pub fn a_fit_specification_goes_on()
-    ensures goes_on { (f : Files) (file : List ℕ) (s : Spec) (next : Spec → Outcome) (status : Status)
-        (text : List ℕ) (ticks : ℕ) → IsFit f file s → status ≢ Status.OutOfMemory
-        → Specified f file next status text ticks → next s status text ticks }
+    ensures count { (f : Files) (file : List ℕ) (s : Spec) (most : ℕ) (status : Status) (text : List ℕ)
+        (ticks : ℕ) → IsFit f file s → status ≢ Status.OutOfMemory
+        → CarriesCount f file most status text ticks → CountedTo most s status text ticks }
+    ensures unrank { (f : Files) (file : List ℕ) (s : Spec) (n r : ℕ) (status : Status) (text : List ℕ)
+        (ticks : ℕ) → IsFit f file s → status ≢ Status.OutOfMemory
+        → CarriesUnrank f file n r status text ticks → Unranked n r s status text ticks }
+    ensures rank { (f : Files) (file object : List ℕ) (s : Spec) (status : Status) (text : List ℕ)
+        (ticks : ℕ) → IsFit f file s → status ≢ Status.OutOfMemory
+        → CarriesRank f file object status text ticks → RankedIn f object s status text ticks }
 {}
 
-/// Labels, a range that isn't plain, and a count above `2^128 - 1` are refused by their lines, in this
-/// order; of any other specification the next stage follows. All three commands come to these stages.
-pub fn what_cannot_be_counted_is_refused()
-    ensures labelled { (s : Spec) (next : Outcome) (status : Status) (text : List ℕ) (ticks : ℕ)
-        → s.mode ≡ Mode.Labelled → status ≢ Status.OutOfMemory → Rankable s next status text ticks
+/// Labels, or else a range that isn't plain, are refused by their lines, before anything else is.
+pub fn what_cannot_be_ranked_is_refused()
+    ensures labelled { (f : Files) (s : Spec) (status : Status) (text : List ℕ) (ticks : ℕ)
+        → s.mode ≡ Mode.Labelled → status ≢ Status.OutOfMemory → ComesOf f s status text ticks
         → (status ≡ Status.RankRefused) × (text ≡ labelled_line) }
-    ensures ranged { (s : Spec) (e : ℕ) (next : Outcome) (status : Status) (text : List ℕ) (ticks : ℕ)
+    ensures ranged { (f : Files) (s : Spec) (e : ℕ) (status : Status) (text : List ℕ) (ticks : ℕ)
         → s.mode ≡ Mode.Unlabelled → IsFirstRanged s e → status ≢ Status.OutOfMemory
-        → Rankable s next status text ticks
-        → (status ≡ Status.RankRefused) × (text ≡ range_line e) }
-    ensures plain { (s : Spec) (next : Outcome) (status : Status) (text : List ℕ) (ticks : ℕ)
-        → s.mode ≡ Mode.Unlabelled → HasPlainRanges s → status ≢ Status.OutOfMemory
-        → Rankable s next status text ticks → next status text ticks }
-    ensures too_many { (s : Spec) (most e n : ℕ) (next : Outcome) (status : Status) (text : List ℕ) (ticks : ℕ)
-        → IsTooMany s most e n → status ≢ Status.OutOfMemory → Counted s most next status text ticks
+        → ComesOf f s status text ticks → (status ≡ Status.RankRefused) × (text ≡ range_line e) }
+{}
+
+/// Where a count passes `2^128 - 1`, the first such one is refused by its line.
+pub fn what_cannot_be_counted_is_refused()
+    ensures count { (s : Spec) (most e n : ℕ) (status : Status) (text : List ℕ) (ticks : ℕ)
+        → s.mode ≡ Mode.Unlabelled → HasPlainRanges s → IsTooMany s most e n
+        → status ≢ Status.OutOfMemory → CountedTo most s status text ticks
+        → (status ≡ Status.RankRefused) × (text ≡ too_many_line e n) }
+    ensures unrank { (s : Spec) (n r e m : ℕ) (status : Status) (text : List ℕ) (ticks : ℕ)
+        → s.mode ≡ Mode.Unlabelled → HasPlainRanges s → IsTooMany s n e m
+        → status ≢ Status.OutOfMemory → Unranked n r s status text ticks
+        → (status ≡ Status.RankRefused) × (text ≡ too_many_line e m) }
+    ensures rank { (s : Spec) (tokens : List Token) (labels : Option (List ℕ)) (e n : ℕ) (status : Status)
+        (text : List ℕ) (ticks : ℕ) → size_of tokens ≤ 500 → IsTooMany s (size_of tokens) e n
+        → status ≢ Status.OutOfMemory → ObjectRanked s tokens labels status text ticks
         → (status ≡ Status.RankRefused) × (text ≡ too_many_line e n) }
 {}
 

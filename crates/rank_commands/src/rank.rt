@@ -70,6 +70,7 @@ fn page<S: Shelf>(
 }
 
 /// The size of an object, where it is counted.
+#[tactic(auto, using(crate::proofs::Staging::size_refused, crate::proofs::Staging::size_lacks_memory))]
 fn judged_size(alloc: Global, shape: &Shape) -> Result<u64, Refusal>
     ensures size { IfOk result (λ size. size ≡ size_of shape.now.items) }
     ensures small { IfOk result (λ size. size ≤ 500) }

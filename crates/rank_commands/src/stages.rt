@@ -16,6 +16,7 @@ use well_founded::examination::Founded;
 /// Refuses a specification that is labelled, or has a range that isn't plain.
 ///
 /// Every table asks for both first, so that of size 0 tells them. Counts are none of its concern.
+#[tactic(auto, using(crate::proofs::Staging::form_refused, crate::proofs::Staging::form_lacks_memory))]
 pub(crate) fn rankable(alloc: Global, founded: &Founded) -> Result<(), Refusal>
     ensures unlabelled { OnOk result (founded.now.mode ≡ model.Mode.Unlabelled) }
     ensures plain { OnOk result (HasPlainRanges founded.now) }
@@ -30,7 +31,12 @@ pub(crate) fn rankable(alloc: Global, founded: &Founded) -> Result<(), Refusal>
 }
 
 /// The counts of all nodes for the sizes up to `most`.
-pub(crate) fn tables_up_to(alloc: Global, founded: &Founded, most: u64) -> Result<RankTables, Refusal>
+#[tactic(auto, using(crate::proofs::Staging::tables_refused, crate::proofs::Staging::tables_lack_memory))]
+pub(crate) fn tables_up_to(
+    alloc: Global,
+    founded: &Founded,
+    most: u64,
+) -> Result<RankTables, Refusal>
     requires small { most ≤ 500 }
     ensures counts { IfOk result (AreCounts founded.now most) }
     ensures unlabelled { OnOk result (founded.now.mode ≡ model.Mode.Unlabelled) }

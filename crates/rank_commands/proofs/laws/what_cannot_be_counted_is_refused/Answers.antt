@@ -1,10 +1,9 @@
-use Rattle.rank_commands.proofs.OneStage.{labelled-only, ranged-only, plain-only, many-only}
+use Rattle.rank_commands.proofs.Complete.{count_refused, unrank_refused, rank_refused}
 use Rattle.rank_commands.proofs.laws.what_cannot_be_counted_is_refused.Goals as goal
 
 pub returns : goal.returns
 returns c = record {
-  labelled = λ s next status text ticks mode memory h. labelled-only s next status text ticks memory mode h;
-  ranged = λ s e next status text ticks mode first memory h. ranged-only s next status text ticks memory e mode first h;
-  plain = λ s next status text ticks mode plain memory h. plain-only s next status text ticks memory mode plain h;
-  too_many = λ s most e n next status text ticks many memory h. many-only s next status text ticks memory most e n many h;
+  count = λ s most e n status text ticks mode plain many memory h. count_refused s status text ticks memory most e n mode plain many h;
+  unrank = λ s n r e m status text ticks mode plain many memory h. unrank_refused s status text ticks memory n r e m mode plain many h;
+  rank = λ s tokens labels e n status text ticks few many memory h. rank_refused s status text ticks memory tokens labels e n few many h;
 }
