@@ -53,7 +53,7 @@ returns-in-Rank-clause-ends g c = subst (λ (k : Command). EndsBy (Carries (file
 -- the command isn't built yet
 pub returns-in-Pool-clause-ends : goal.returns-in-Pool-clause-ends
 returns-in-Pool-clause-ends g c =
-    let at = c.not_yet-in-Pool in
+    let at = c.not_yet in
     subst (λ (k : Command). EndsBy (Carries (files (g.S.Shelf.content c.args.shelf.now) (g.S.Shelf.faults c.args.shelf.now) (g.S.Shelf.faults c.args.shelf.now)) k) (output (g.K.Sink.written c.args.out.now) (g.K.Sink.written at.new.out) (g.K.Sink.faults c.args.out.now) (g.K.Sink.faults at.new.out) c.args.steps.now c.args.steps.now) at.result) (sym c.in-Pool.is) (at.ensures.ends c.args.steps.now)
 
 -- the command isn't built yet
