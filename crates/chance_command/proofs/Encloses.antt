@@ -1,8 +1,8 @@
 -- What the command prints, and when its answer is certain.
-use Rattle.std.proofs.Common.{◌≡◌, ◌≢◌, ℕ, zero, suc, ◌+◌, ◌<◌, ◌≤◌, List, [], ◌∷◌, ◌++◌, length, take, refl, sym, ap, subst, ◌∙◌, arith}
+use Rattle.std.proofs.Common.{◌≡◌, ◌≢◌, ℕ, zero, suc, ◌<◌, ◌≤◌, List, [], ◌∷◌, length, take, refl, sym, ap, subst, ◌∙◌, arith}
 use Rattle.std.specs.Prelude.{Option, Some, None}
 use Rattle.bz_model.specs.Fraction.{ratio}
-use Rattle.bz_model.specs.Spec.{Spec, body_of}
+use Rattle.bz_model.specs.Spec.{Spec}
 use Rattle.bz_model.specs.declared.fraction.Fraction.{Fraction}
 use Rattle.class_system.specs.Limits.{IsWithinLimits}
 use Rattle.class_system.specs.Sound.{IsSound}
@@ -16,7 +16,7 @@ use Rattle.object_store.specs.Tokens.{IsOf}
 use Rattle.object_store.proofs.OneToOne.{one-of-class}
 use Rattle.object_text.specs.Reading.{IsRead, TellsFault}
 use Rattle.object_text.specs.declared.fault.TextFault.{TextFault}
-use Rattle.object_text.proofs.Agreeing.{one-object-read, no-fault-read, one-fault-told}
+use Rattle.object_text.proofs.Agreeing.{no-fault-read, one-fault-told}
 use Rattle.object_stage.specs.ObjectStage.{without_feed, too_long_line, object_line, ObjectJudged, ObjectRead, IsObjectIn}
 use Rattle.object_stage.specs.ObjectStage as stage
 use Rattle.object_stage.proofs.OneObject.{object-only}

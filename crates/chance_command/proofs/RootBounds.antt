@@ -1,8 +1,8 @@
 -- The bounds of the first class's body over a memo that is raised to the last level.
-use Rattle.std.proofs.Common.{◌≡◌, ℕ, ◌+◌, ◌<◌, ◌≤◌, max, List, length, refl, sym, ap, subst, ◌∙◌, arith}
+use Rattle.std.proofs.Common.{◌≡◌, ℕ, ◌+◌, ◌<◌, ◌≤◌, max, List, length, sym, ap, subst, ◌∙◌, arith}
 use Rattle.std.specs.Prelude.{Some}
 use Rattle.bz_model.specs.declared.cell.Bounds.{Bounds}
-use Rattle.bz_model.specs.Fraction.{Fraction, ratio}
+use Rattle.bz_model.specs.Fraction.{ratio}
 use Rattle.bz_model.specs.Oracle.{Encloses, IsSound}
 use Rattle.bz_model.specs.Spec.{Spec, body_of}
 use Rattle.bz_model.specs.Object.{Object, Belongs}

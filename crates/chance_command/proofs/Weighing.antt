@@ -1,5 +1,5 @@
 -- Weighing an object: what follows its bounds, and that the call has one outcome.
-use Rattle.std.proofs.Common.{◌≡◌, ◌≢◌, ℕ, ◌+◌, ◌<◌, ◌≤◌, ◌⊎◌, List, [], ◌∷◌, ◌++◌, arith, refl, sym, ap, subst, ◌∙◌}
+use Rattle.std.proofs.Common.{◌≡◌, ◌≢◌, ℕ, ◌+◌, ◌≤◌, ◌⊎◌, List, [], ◌∷◌, arith, refl, sym, ap, subst, ◌∙◌}
 use Rattle.std.specs.Prelude.{Option, Some, Result, Ok, Err, IfOk}
 use Rattle.bz_model.specs.declared.cell.Bounds.{Bounds}
 use Rattle.bz_model.specs.Fraction.{ratio}
@@ -7,8 +7,6 @@ use Rattle.bz_model.specs.Oracle.{Encloses}
 use Rattle.bz_model.specs.Spec.{Spec, body_of}
 use Rattle.bz_model.specs.declared.fraction.Fraction.{Fraction}
 use Rattle.bz_outside.specs.Outside.{Rose, Appends}
-use Rattle.class_system.specs.Limits.{IsWithinLimits}
-use Rattle.class_system.specs.Sound.{IsSound}
 use Rattle.object_store.specs.declared.token.Token.{Token}
 use Rattle.object_store.specs.Tokens.{IsOf}
 use Rattle.object_store.proofs.OneToOne.{one-of-class}
@@ -24,7 +22,7 @@ use Rattle.call_stages.specs.Ends.{output, EndsBy}
 use Rattle.call_stages.specs.Ends as ends
 use Rattle.call_stages.specs.Outcomes.{Outcome, Never, Says, MaySay, IsOne}
 use Rattle.call_stages.specs.Outcomes as outcomes
-use Rattle.call_stages.specs.Stages.{Files, files, AreCalm, Specified, IsSpecified, Based}
+use Rattle.call_stages.specs.Stages.{Files, files, AreCalm, Specified, IsSpecified}
 use Rattle.call_stages.specs.declared.status.Status.{Status}
 use Rattle.call_stages.proofs.Endings as endings
 use Rattle.call_stages.proofs.Endings.{ends_on, ends_as, no_front, written_on}

@@ -1,5 +1,5 @@
 -- Files of which the answer is certain, and what the answer says.
-use Rattle.std.specs.Prelude.{◌≡◌, ℕ, ◌≤◌, List, length, Option, Some}
+use Rattle.std.specs.Prelude.{◌≡◌, ℕ, ◌≤◌, List, length, Option}
 use Rattle.bz_model.specs.Fraction.{ratio}
 use Rattle.bz_model.specs.Spec.{Spec}
 use Rattle.bz_model.specs.WellFounded.{IsWellFounded}

@@ -70,9 +70,7 @@ pub fn chance<S: Shelf, K: Sink, L: Ledger>(
     ensures writes { K.faults out.old ≤ K.faults out.new }
 {
     match specified(alloc, file, shelf) {
-        Ok(founded) => read_and_weighed(
-            alloc, &founded, x, object, fraction, shelf, out, steps,
-        ),
+        Ok(founded) => read_and_weighed(alloc, &founded, x, object, fraction, shelf, out, steps),
         Err(refusal) => refused(out, &refusal),
     }
 }
