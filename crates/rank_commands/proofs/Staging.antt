@@ -1,11 +1,12 @@
 -- Stages: what ends a call before anything is printed, and what follows where a stage goes on.
 use Rattle.std.proofs.Common.{◌≡◌, ◌≢◌, ℕ, ◌<◌, ◌≤◌, arith, List, refl, sym, subst}
-use Rattle.std.specs.Prelude.{Option, Some}
+use Rattle.std.specs.Prelude.{Option, Some, None, Result, Ok, Err, IfErr}
+use Rattle.std.specs.Result.{IsErrAnd}
 use Rattle.bz_model.specs.Spec.{Spec, Mode}
 use Rattle.object_store.specs.declared.token.Token.{Token}
 use Rattle.object_store.specs.Tokens.{IsOf, size_of}
 use Rattle.object_text.specs.Reading.{IsRead}
-use Rattle.rank_tables.specs.Refusals.{IsFirstRanged, HasPlainRanges}
+use Rattle.rank_tables.specs.Refusals.{IsFirstRanged, HasPlainRanges, HasSmallCounts}
 use Rattle.rank_tables.specs.Tables.{TellsFault}
 use Rattle.rank_tables.specs.declared.rank_tables.RankFault.{RankFault}
 use Rattle.rank_tables.specs.declared.rank_tables.RankFault.TheVariants.{Labelled, Ranged, TooMany, OutOfMemory}
@@ -16,8 +17,11 @@ use Rattle.call_stages.specs.declared.report.Refusal.TheVariants as refusal
 use Rattle.call_stages.specs.declared.status.Status.{Status}
 use Rattle.call_stages.specs.Ends.{output, EndsBy}
 use Rattle.call_stages.proofs.Endings.{written_on}
-use Rattle.call_stages.proofs.Staging.{says-nothing}
-use Rattle.object_stage.specs.ObjectStage.{IsObjectIn}
+use Rattle.call_stages.specs.Stages.{Files, files, Specified, IsSpecified}
+use Rattle.call_stages.proofs.Staging.{says-nothing, goes_on_with}
+use Rattle.object_stage.specs.ObjectStage.{ObjectRead, IsObjectIn}
+use Rattle.object_stage.proofs.Judging.{ended_at_object, goes_on_with_object}
+use Rattle.rank_commands.specs.RankCommand.{RankPrinted, ObjectRanked, RankedIn, CarriesRank}
 use Rattle.rank_commands.specs.Faults.{fault_line}
 use Rattle.rank_commands.specs.RankStages.{too_large_line, Rankable, Counted, SizeJudged}
 use Rattle.rank_commands.specs.RankStages as stages
@@ -102,3 +106,45 @@ refusal_written P b a fb fa ticks result e p h = written_on P b a fb fa ticks ti
 -- an object that is too large is refused
 pub size_refused : (tokens : List Token) (size : ℕ) (status : Status) (text : List ℕ) → size ≡ size_of tokens → 500 < size → Says Status.ObjectRefused (too_large_line size) 0 status text 0 → SizeJudged tokens Never status text 0
 size_refused tokens size status text same large says = stages.too_large (omega (arith, same, large)) (subst (λ n. Says Status.ObjectRefused (too_large_line n) 0 status text 0) same says)
+
+-- a refusal that a call answers is handed on
+pub handed_on : {T : Type 0} (P : Outcome) (r : Result T Refusal) (e : Refusal) → IsErrAnd r (λ f. f ≡ e) → P (refusal_status e) (refusal_text e) 0 → IfErr r (λ f. P (refusal_status f) (refusal_text f) 0)
+handed_on P (Ok x) e is h = absurd is
+handed_on P (Err f) e is h = subst (λ z. P (refusal_status z) (refusal_text z) 0) (sym is) h
+
+-- a specification was read, and what comes of it is known
+pub carried : (f : Files) (file : List ℕ) (next : Spec → Outcome) (s : Spec) (status : Status) (text : List ℕ) → IsSpecified f.content file s → next s status text 0 → Specified f file next status text 0
+carried f file next s status text is p = goes_on_with f file next s status text 0 is p
+
+-- the same where another file was read after it
+pub rank_carried : (content content_too : List ℕ → Option (List ℕ)) (before after : List ℕ → ℕ) (file object : List ℕ) (s : Spec) (status : Status) (text : List ℕ) → content_too ≡ content → IsSpecified content file s → RankedIn (files content_too before after) object s status text 0 → CarriesRank (files content before after) file object status text 0
+rank_carried content content_too before after file object s status text same is p = carried (files content before after) file (RankedIn (files content before after) object) s status text is (subst (λ k. RankedIn (files k before after) object s status text 0) same p)
+
+-- tables were made
+pub counts_go_on : (s : Spec) (most : ℕ) (next : Outcome) (status : Status) (text : List ℕ) → s.mode ≡ Mode.Unlabelled → HasPlainRanges s → HasSmallCounts s most → next status text 0 → Rankable s (Counted s most next) status text 0
+counts_go_on s most next status text mode plain small p = stages.plain mode plain (stages.counted small p)
+
+module _ (content : List ℕ → Option (List ℕ)) (before after : List ℕ → ℕ) (object : List ℕ) (s : Spec) (status : Status) (text : List ℕ) where
+  -- labels or a range are refused
+  pub stopped_at_form : Rankable s Never status text 0 → RankedIn (files content before after) object s status text 0
+  stopped_at_form h = ended_at_form s status text 0 (ObjectRead (files content before after) s object (ObjectRanked s)) h
+
+  -- the object is refused
+  pub stopped_at_object : s.mode ≡ Mode.Unlabelled → HasPlainRanges s → ObjectRead (files content before after) s object (λ tokens labels. Never) status text 0 → RankedIn (files content before after) object s status text 0
+  stopped_at_object mode plain h = stages.plain mode plain (ended_at_object content before after s object (ObjectRanked s) status text 0 h)
+
+  -- it is read
+  pub object_goes_on : s.mode ≡ Mode.Unlabelled → HasPlainRanges s → (tokens : List Token) (labels : Option (List ℕ)) → IsObjectIn content s object tokens labels → ObjectRanked s tokens None status text 0 → RankedIn (files content before after) object s status text 0
+  object_goes_on mode plain tokens labels is p = stages.plain mode plain (goes_on_with_object content before after s object (ObjectRanked s) tokens labels status text 0 is p)
+
+-- what comes of an object whose size is judged
+module _ (s : Spec) (tokens : List Token) (size : ℕ) (same : size ≡ size_of tokens) (small : size ≤ 500) (status : Status) (text : List ℕ) where
+  pub stopped_at_counts : s.mode ≡ Mode.Unlabelled → HasPlainRanges s → Rankable s (Counted s size Never) status text 0 → ObjectRanked s tokens None status text 0
+  stopped_at_counts mode plain h = stages.fits (omega (arith, same, small)) (ended_at_counts s status text 0 (size_of tokens) (RankPrinted s tokens) mode plain (subst (λ n. Rankable s (Counted s n Never) status text 0) same h))
+
+  pub size_goes_on : HasSmallCounts s size → RankPrinted s tokens status text 0 → ObjectRanked s tokens None status text 0
+  size_goes_on counts p = stages.fits (omega (arith, same, small)) (stages.counted (subst (HasSmallCounts s) same counts) p)
+
+-- the size is refused
+pub stopped_at_size : (s : Spec) (tokens : List Token) (status : Status) (text : List ℕ) → SizeJudged tokens Never status text 0 → ObjectRanked s tokens None status text 0
+stopped_at_size s tokens status text h = ended_at_size s status text 0 tokens (Counted s (size_of tokens) (RankPrinted s tokens)) h

@@ -1,13 +1,12 @@
 //! The command `count`: how many objects of each size there are.
-ghost use Rattle.std.specs.Prelude.{◌≡◌, ℕ, ◌<◌, ◌≤◌, ◌++◌, List, Some, IfOk, IfErr, OnOk, string_bytes};
-ghost use Rattle.bz_model.specs.Spec.{body_of};
+ghost use Rattle.std.specs.Prelude.{◌≡◌, ℕ, ◌<◌, ◌≤◌, ◌++◌, List, IfOk, IfErr, OnOk, string_bytes};
 ghost use Rattle.rank_tables.specs.Tables.{AreCounts, told};
 ghost use Rattle.call_stages.specs.Ends.{EndsBy, output};
 ghost use Rattle.call_stages.specs.Lines.{lines_below};
 ghost use Rattle.call_stages.specs.Reports.{refusal_status, refusal_text};
 ghost use Rattle.call_stages.specs.Stages.{files};
 ghost use Rattle.call_stages.specs.declared.status.Status.{Status};
-ghost use Rattle.rank_commands.specs.CountCommand.{size_line, counts_text, CarriesCount};
+ghost use Rattle.rank_commands.specs.CountCommand.{size_line, CountsPrinted, CountedTo, CarriesCount};
 
 use crate::stages::tables_up_to;
 use bz_outside::shelf::Shelf;
@@ -54,9 +53,21 @@ fn page<S: Shelf>(
     ensures content { S.content shelf.new ≡ S.content shelf.old }
     ensures counts { (name : List ℕ) → S.faults shelf.old name ≤ S.faults shelf.new name }
 {
-    let founded = specified(alloc, file, shelf)?;
-    let tables = tables_up_to(alloc, &founded, n)?;
-    Ok(counts(alloc, &founded, &tables, n)?)
+    match specified(alloc, file, shelf) {
+        Ok(founded) => counted(alloc, &founded, n),
+        Err(refusal) => Err(refusal),
+    }
+}
+
+/// What is printed of a specification: its tables are made, and the counts of its first class are taken.
+fn counted(alloc: Global, founded: &Founded, n: u64) -> Result<Vec<u8>, Refusal>
+    requires greatest { n ≤ 500 }
+    ensures ok { IfOk result (λ page. CountedTo n founded.now Status.Done page.items 0) }
+    ensures err { IfErr result (λ e.
+        CountedTo n founded.now (refusal_status e) (refusal_text e) 0) }
+{
+    let tables = tables_up_to(alloc, founded, n)?;
+    Ok(counts(alloc, founded, &tables, n)?)
 }
 
 /// The counts of the first class for the sizes up to `n`, and the last line.
@@ -68,8 +79,7 @@ fn counts(
 ) -> Result<Vec<u8>, AllocError>
     requires greatest { n ≤ 500 }
     requires tables { AreCounts founded.now n tables.now }
-    ensures { IfOk result (λ text. (body : ℕ) → body_of founded.now 0 ≡ Some body
-        → text.items ≡ counts_text (told tables.now body) n) }
+    ensures { IfOk result (λ text. CountsPrinted founded.now n Status.Done text.items 0) }
 {
     let system = founded.system();
     system.known();

@@ -1,6 +1,8 @@
 //! The command `rank`: the rank of an object among those of its size.
-ghost use Rattle.std.specs.Prelude.{◌≡◌, ◌<◌, ℕ, ◌≤◌, List, IfOk, IfErr, string_bytes};
+ghost use Rattle.std.specs.Prelude.{◌≡◌, ℕ, ◌≤◌, List, None, IfOk, IfErr, string_bytes};
+ghost use Rattle.bz_model.specs.Spec as model;
 ghost use Rattle.object_store.specs.Tokens.{size_of, IsOf};
+ghost use Rattle.rank_tables.specs.Refusals.{HasPlainRanges};
 ghost use Rattle.rank_tables.specs.Tables.{AreCounts};
 ghost use Rattle.call_stages.specs.Ends.{EndsBy, output};
 ghost use Rattle.call_stages.specs.Outcomes.{Never};
@@ -8,7 +10,7 @@ ghost use Rattle.call_stages.specs.Reports.{refusal_status, refusal_text};
 ghost use Rattle.call_stages.specs.Stages.{files};
 ghost use Rattle.call_stages.specs.declared.status.Status.{Status};
 ghost use Rattle.rank_commands.specs.RankStages.{SizeJudged};
-ghost use Rattle.rank_commands.specs.RankCommand.{rank_text, RankPrinted, CarriesRank};
+ghost use Rattle.rank_commands.specs.RankCommand.{rank_text, RankPrinted, ObjectRanked, RankedIn, CarriesRank};
 
 use crate::refusals::size_refusal;
 use crate::stages::{rankable, tables_up_to};
@@ -61,12 +63,56 @@ fn page<S: Shelf>(
     ensures content { S.content shelf.new ≡ S.content shelf.old }
     ensures counts { (name : List ℕ) → S.faults shelf.old name ≤ S.faults shelf.new name }
 {
-    let founded = specified(alloc, file, shelf)?;
-    rankable(alloc, &founded)?;
-    let read = object_read(alloc, &founded, object, shelf)?;
-    let size = judged_size(alloc, &read.shape)?;
-    let tables = tables_up_to(alloc, &founded, size)?;
-    Ok(rank_of(alloc, &founded, &tables, &read.shape)?)
+    match specified(alloc, file, shelf) {
+        Ok(founded) => ranked(alloc, &founded, object, shelf),
+        Err(refusal) => Err(refusal),
+    }
+}
+
+/// What is printed of a specification: labels and ranges are refused, and then the object is read.
+///
+/// The counts of failed reads before the call may be those of an earlier time.
+fn ranked<S: Shelf>(
+    alloc: Global,
+    founded: &Founded,
+    object: &Word,
+    shelf: &mut S,
+) -> Result<Vec<u8>, Refusal>
+    ensures ok { IfOk result (λ page. (before : List ℕ → ℕ)
+        → ((name : List ℕ) → before name ≤ S.faults shelf.old name)
+        → RankedIn (files (S.content shelf.old) before (S.faults shelf.new)) object.now founded.now
+        Status.Done page.items 0) }
+    ensures err { IfErr result (λ e. (before : List ℕ → ℕ)
+        → ((name : List ℕ) → before name ≤ S.faults shelf.old name)
+        → RankedIn (files (S.content shelf.old) before (S.faults shelf.new)) object.now founded.now
+        (refusal_status e) (refusal_text e) 0) }
+    ensures content { S.content shelf.new ≡ S.content shelf.old }
+    ensures counts { (name : List ℕ) → S.faults shelf.old name ≤ S.faults shelf.new name }
+{
+    rankable(alloc, founded)?;
+    match object_read(alloc, founded, object, shelf) {
+        Ok(read) => object_ranked(alloc, founded, &read.shape),
+        Err(refusal) => Err(refusal),
+    }
+}
+
+/// What is printed of an object: its size is judged, tables are made up to it, and its rank is taken.
+fn object_ranked(
+    alloc: Global,
+    founded: &Founded,
+    shape: &Shape,
+) -> Result<Vec<u8>, Refusal>
+    requires unlabelled { founded.now.mode ≡ model.Mode.Unlabelled }
+    requires plain { HasPlainRanges founded.now }
+    requires object { IsOf founded.now 0 shape.now.items }
+    ensures ok { IfOk result (λ page.
+        ObjectRanked founded.now shape.now.items None Status.Done page.items 0) }
+    ensures err { IfErr result (λ e.
+        ObjectRanked founded.now shape.now.items None (refusal_status e) (refusal_text e) 0) }
+{
+    let size = judged_size(alloc, shape)?;
+    let tables = tables_up_to(alloc, founded, size)?;
+    Ok(rank_of(alloc, founded, &tables, shape)?)
 }
 
 /// The size of an object, where it is counted.

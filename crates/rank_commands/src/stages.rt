@@ -2,7 +2,7 @@
 ghost use Rattle.std.specs.Prelude.{◌≡◌, ◌≤◌, IfOk, IfErr, OnOk, OnErr};
 ghost use Rattle.bz_model.specs.Spec as model;
 ghost use Rattle.rank_tables.specs.Refusals.{HasPlainRanges, HasSmallCounts};
-ghost use Rattle.rank_tables.specs.Tables.{AreCounts};
+ghost use Rattle.rank_tables.specs.Tables.{AreCounts, TellsFault};
 ghost use Rattle.call_stages.specs.Outcomes.{Never};
 ghost use Rattle.call_stages.specs.Reports.{refusal_status, refusal_text};
 ghost use Rattle.rank_commands.specs.RankStages.{Rankable, Counted};
@@ -16,7 +16,6 @@ use well_founded::examination::Founded;
 /// Refuses a specification that is labelled, or has a range that isn't plain.
 ///
 /// Every table asks for both first, so that of size 0 tells them. Counts are none of its concern.
-#[tactic(auto, using(crate::proofs::Staging::form_refused, crate::proofs::Staging::form_lacks_memory))]
 pub(crate) fn rankable(alloc: Global, founded: &Founded) -> Result<(), Refusal>
     ensures unlabelled { OnOk result (founded.now.mode ≡ model.Mode.Unlabelled) }
     ensures plain { OnOk result (HasPlainRanges founded.now) }
@@ -25,13 +24,28 @@ pub(crate) fn rankable(alloc: Global, founded: &Founded) -> Result<(), Refusal>
 {
     match RankTables::make(alloc, founded, 0) {
         Ok(_) => Ok(()),
-        Err(RankFault::TooMany { node: _, size: _ }) => Ok(()),
-        Err(fault) => Err(Refusal::Reported(fault_refusal(alloc, fault)?)),
+        Err(fault) => judged_form(alloc, founded, fault),
+    }
+}
+
+/// Refuses what a table of size 0 was refused for, but for a count.
+fn judged_form(alloc: Global, founded: &Founded, fault: RankFault) -> Result<(), Refusal>
+    requires told { TellsFault founded.now 0 fault }
+    ensures unlabelled { OnOk result (founded.now.mode ≡ model.Mode.Unlabelled) }
+    ensures plain { OnOk result (HasPlainRanges founded.now) }
+    ensures err { IfErr result (λ e.
+        Rankable founded.now Never (refusal_status e) (refusal_text e) 0) }
+{
+    founded.known();
+    match fault {
+        RankFault::Labelled => Err(Refusal::Reported(fault_refusal(alloc, fault)?)),
+        RankFault::Ranged(_) => Err(Refusal::Reported(fault_refusal(alloc, fault)?)),
+        RankFault::TooMany { node: _, size: _ } => Ok(()),
+        RankFault::OutOfMemory => Err(Refusal::OutOfMemory),
     }
 }
 
 /// The counts of all nodes for the sizes up to `most`.
-#[tactic(auto, using(crate::proofs::Staging::tables_refused, crate::proofs::Staging::tables_lack_memory))]
 pub(crate) fn tables_up_to(
     alloc: Global,
     founded: &Founded,

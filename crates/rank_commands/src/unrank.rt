@@ -7,7 +7,7 @@ ghost use Rattle.call_stages.specs.Ends.{EndsBy, output};
 ghost use Rattle.call_stages.specs.Reports.{refusal_status, refusal_text};
 ghost use Rattle.call_stages.specs.Stages.{files};
 ghost use Rattle.call_stages.specs.declared.status.Status.{Status};
-ghost use Rattle.rank_commands.specs.UnrankCommand.{object_page, ObjectOfRank, CarriesUnrank};
+ghost use Rattle.rank_commands.specs.UnrankCommand.{object_page, ObjectOfRank, Unranked, CarriesUnrank};
 
 use crate::refusals::number_refusal;
 use crate::stages::tables_up_to;
@@ -59,9 +59,26 @@ fn page<S: Shelf>(
     ensures content { S.content shelf.new ≡ S.content shelf.old }
     ensures counts { (name : List ℕ) → S.faults shelf.old name ≤ S.faults shelf.new name }
 {
-    let founded = specified(alloc, file, shelf)?;
-    let tables = tables_up_to(alloc, &founded, n)?;
-    object_of_rank(alloc, &founded, &tables, n, number)
+    match specified(alloc, file, shelf) {
+        Ok(founded) => unranked(alloc, &founded, n, number),
+        Err(refusal) => Err(refusal),
+    }
+}
+
+/// What is printed of a specification: its tables are made, and the object is made by them.
+fn unranked(
+    alloc: Global,
+    founded: &Founded,
+    n: u64,
+    number: u128,
+) -> Result<Vec<u8>, Refusal>
+    requires greatest { n ≤ 500 }
+    ensures ok { IfOk result (λ page. Unranked n number founded.now Status.Done page.items 0) }
+    ensures err { IfErr result (λ e.
+        Unranked n number founded.now (refusal_status e) (refusal_text e) 0) }
+{
+    let tables = tables_up_to(alloc, founded, n)?;
+    object_of_rank(alloc, founded, &tables, n, number)
 }
 
 /// The text of the object of the first class with this size and rank, and the last line.

@@ -1,19 +1,25 @@
+use Rattle.std.proofs.lemmas.Result.{IfOk-weaker, IfErr-weaker}
+use Rattle.call_stages.specs.Reports.{refusal_status, refusal_text}
+use Rattle.call_stages.specs.Stages.{files}
+use Rattle.call_stages.specs.declared.status.Status.{Status}
+use Rattle.call_stages.proofs.Staging.{ended_before}
+use Rattle.rank_commands.specs.RankCommand.{RankedIn}
+use Rattle.rank_commands.proofs.Staging.{rank_carried}
 use Rattle.rank_commands.proofs.rank.page.Goals as goal
 
-pub returns-in_err-founded-clause-err : goal.returns-in_err-founded-clause-err
-returns-in_err-founded-clause-err g c = let h = c.from_residual.ensures in let k = c.in_err-founded.ensures.err in ?
+-- the specification goes on
+pub returns-in-Ok-clause-ok : goal.returns-in-Ok-clause-ok
+returns-in-Ok-clause-ok g c =
+    let before = g.S.Shelf.faults c.args.shelf.now in
+    IfOk-weaker c.ranked.result _ _ (λ page p. rank_carried (g.S.Shelf.content c.args.shelf.now) (g.S.Shelf.content c.specified.new.shelf) before (g.S.Shelf.faults c.ranked.new.shelf) c.args.file.now c.args.object.now c.in-Ok.founded Status.Done page.items c.specified.ensures.content c.in-Ok.ensures.ok (p before c.specified.ensures.counts)) c.ranked.ensures.ok
 
-pub returns-in_err-rankable-clause-err : goal.returns-in_err-rankable-clause-err
-returns-in_err-rankable-clause-err g c = let h = c.from_residual-in_err-rankable.ensures in ?
+pub returns-in-Ok-clause-err : goal.returns-in-Ok-clause-err
+returns-in-Ok-clause-err g c =
+    let before = g.S.Shelf.faults c.args.shelf.now in
+    IfErr-weaker c.ranked.result _ _ (λ e p. rank_carried (g.S.Shelf.content c.args.shelf.now) (g.S.Shelf.content c.specified.new.shelf) before (g.S.Shelf.faults c.ranked.new.shelf) c.args.file.now c.args.object.now c.in-Ok.founded (refusal_status e) (refusal_text e) c.specified.ensures.content c.in-Ok.ensures.ok (p before c.specified.ensures.counts)) c.ranked.ensures.err
 
-pub returns-in_err-read-clause-err : goal.returns-in_err-read-clause-err
-returns-in_err-read-clause-err g c = ?
-
-pub returns-in_err-size-clause-err : goal.returns-in_err-size-clause-err
-returns-in_err-size-clause-err g c = ?
-
-pub returns-in_err-tables-clause-err : goal.returns-in_err-tables-clause-err
-returns-in_err-tables-clause-err g c = ?
-
-pub returns-clause-ok : goal.returns-clause-ok
-returns-clause-ok g c = ?
+-- it is refused
+pub returns-in-Err-clause-err : goal.returns-in-Err-clause-err
+returns-in-Err-clause-err g c =
+    let f = files (g.S.Shelf.content c.args.shelf.now) (g.S.Shelf.faults c.args.shelf.now) (g.S.Shelf.faults c.specified.new.shelf) in
+    ended_before f c.args.file.now (RankedIn f c.args.object.now) _ _ 0 c.in-Err.ensures.err
