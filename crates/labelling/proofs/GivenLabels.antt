@@ -34,10 +34,6 @@ given-nothing told n start = record {
   exact = λ bits have ends some_memory. absurd (some_memory refl);
 }
 
--- the same for an answer and bits used that are these
-pub no-memory : (told : Option (ℕ → Option Bool)) (n start used : ℕ) (answer : Labelled) → answer ≡ OutOfMemory → used ≡ start → IsLabelling told n start answer used
-no-memory told n start used answer is same = subst (λ a. IsLabelling told n start a used) (sym is) (subst (λ u. IsLabelling told n start OutOfMemory u) (sym same) (given-nothing told n start))
-
 module _ (told : Option (ℕ → Option Bool)) (n start : ℕ) where
   pub given-first : IsGivenSoFar told n start n (record { remaining = numbers_from 1 n; given = []; cells = [] }) start
   given-first = record { given = []; gave = gave-none told start; goes = λ bits have. labels-first bits n start }

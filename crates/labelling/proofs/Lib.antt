@@ -8,3 +8,4 @@ pub mod GivenLabels
 pub mod IdealByBits
 pub mod Ascending
 pub mod SpelledLabels
+pub mod DrawnAgain

@@ -100,4 +100,5 @@ module _ (bits : ℕ → Option Bool) (fault : Option ℕ) (start : ℕ) where
       (number-spells n remaining given cells place (draw (whole_decision (suc (suc n))) (bit_of bits fault) place) (from-spells (suc n)) h (draws_spell (whole_decision (suc (suc n))) bits fault place))
 
 pub labellings_spell : LabellingsSpell
+unfolding Rest
 labellings_spell bits fault n start = from-spells bits fault start n (numbers_from 1 n) [] [] start (spelled-none bits start)

@@ -1,5 +1,5 @@
 -- Which bits of a tape cells spell.
-use Rattle.std.specs.Prelude.{◌≡◌, ℕ, ◌+◌, ◌<◌, Bool, List, [], ◌++◌, length, Option}
+use Rattle.std.specs.Prelude.{◌≡◌, ℕ, ◌+◌, ◌<◌, Bool, List, [], ◌++◌, length, Option, None}
 use Rattle.bz_model.specs.declared.cell.Cell.{Cell}
 use Rattle.bz_model.specs.Cell.{AreCells, bits_of, spelled}
 use Rattle.bit_tape.specs.Given.{HasBits}
@@ -28,3 +28,7 @@ SpellsLabelling bits start (Labelling.Failed finished place) = AreCutShort bits 
 -- Every labelling over a tape used the bits that its cells spell, wherever the shelf may fail.
 abbrev pub LabellingsSpell : Type 0
 LabellingsSpell = (bits : ℕ → Option Bool) (fault : Option ℕ) (n start : ℕ) → SpellsLabelling bits start (labelling (bit_of bits fault) n start)
+
+-- Wherever a tape has the bits that the cells of a labelling spell, the labelling from there on gives the same labels with the same cells, and uses exactly these bits.
+abbrev pub LabelsAreDrawnAgain : Type 0
+LabelsAreDrawnAgain = (bits : ℕ → Option Bool) (fault : Option ℕ) (n start : ℕ) (labels : List ℕ) (cells : List Cell) (end : ℕ) → labelling (bit_of bits fault) n start ≡ Labelling.Given labels cells end → (other : ℕ → Option Bool) (place : ℕ) → HasBits other place (spelled cells) → labelling (bit_of other None) n place ≡ Labelling.Given labels cells (place + length (spelled cells))

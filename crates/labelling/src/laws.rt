@@ -4,7 +4,7 @@ ghost use Rattle.bz_model.specs.declared.cell.Cell.{Cell};
 ghost use Rattle.choice_draw.specs.Draw.{Bit};
 ghost use Rattle.labelling.specs.LabelsByBits.{Labelling, labelling};
 ghost use Rattle.labelling.specs.Answer.{AreIdealLabels};
-ghost use Rattle.labelling.specs.Spelled.{LabellingsSpell};
+ghost use Rattle.labelling.specs.Spelled.{LabellingsSpell, LabelsAreDrawnAgain};
 
 /// Labels that bits give are ideal: for every list of numbers in their cells ideal labelling gives
 /// them, and they are 1 to n in some order.
@@ -18,4 +18,9 @@ pub fn labels_by_bits_are_ideal()
 /// after them stand those of a number that was left open, where one was.
 pub fn a_labelling_spells_its_bits()
     ensures { LabellingsSpell }
+{}
+
+/// Labels are drawn again from the bits that their cells spell, wherever these are.
+pub fn labels_come_again_from_their_cells()
+    ensures { LabelsAreDrawnAgain }
 {}
