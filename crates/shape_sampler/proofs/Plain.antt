@@ -103,6 +103,10 @@ plain-by-bits s F table told before now answer start plain h = record {
   exact = λ bits have ends c by. record { same = λ ne. (h ne).same c (bit_of bits (fault_place answer start)) start by.same_spec };
 }
 
+-- out of memory nothing was given
+pub none-given : (s : Spec) (F : ℕ) (table : (level e : ℕ) → Bounds) (told : Option (ℕ → Option Bool)) (before now : SessionState) (start : ℕ) → IsVisitByBits s F table told before start OutOfMemory now start
+none-given s F table told before now start = plain-by-bits s F table told before now OutOfMemory start tt (λ ne. absurd (ne refl))
+
 -- a visit that takes no number draws no cell
 pub plain-draws : (answer : Stepped) (before now : SessionState) (start used : ℕ) → IsPlainAnswer answer → now.cells ≡ before.cells → Draws answer before now start used
 plain-draws Moved before now start used plain same = record { more = []; whole = same ∙ sym (append-nil before.cells) }

@@ -6,6 +6,7 @@ use Rattle.bit_tape.specs.Tape.{LeavesTape, bits_of}
 use Rattle.shape_sampler.specs.State.{SessionState}
 use Rattle.shape_sampler.specs.contracts.session.Session.{the_view}
 use Rattle.shape_sampler.proofs.CountVisits.{IsRoomFor, count-settle, counted-draws, counted-by-bits, counted-session, count-cell, over-cell, count-few, count-fault}
+use Rattle.shape_sampler.proofs.Plain.{none-given}
 use Rattle.shape_sampler.proofs.session.Session.visit_counted.Goals as goal
 
 pub room_for-room-requires-clause-in_range : goal.room_for-room-requires-clause-in_range
@@ -45,3 +46,6 @@ returns-clause-used g c = count-few c.draw_count_kept-drawn.result c.args.tape.n
 
 pub returns-clause-tape : goal.returns-clause-tape
 returns-clause-tape g c = subst (λ b. LeavesTape g.S.Shelf.content g.S.Shelf.faults b c.args.shelf.now c.draw_count_kept-drawn.new.shelf c.args.tape.now c.draw_count_kept-drawn.new.tape) (count-fault c.args.node c.put_counted.new.pending.items c.draw_count_kept-drawn.result c.answer_to_count-told.result c.args.self.now.stopped c.requires.running c.answer_to_count-told.ensures) c.draw_count_kept-drawn.ensures.tape
+
+pub returns-then-is_err-clause-exact : goal.returns-then-is_err-clause-exact
+returns-then-is_err-clause-exact g c = none-given c.args.founded.now g.row.F (g.O.Oracle.table c.args.oracle.now) (bits_of c.args.tape.now.source (g.S.Shelf.content c.args.shelf.now)) c.args.self.now _ c.args.tape.now.used

@@ -8,6 +8,7 @@ use Rattle.bit_tape.specs.Tape.{LeavesTape, bits_of}
 use Rattle.shape_sampler.specs.State.{SessionState}
 use Rattle.shape_sampler.specs.contracts.session.Session.{the_view}
 use Rattle.shape_sampler.proofs.Union.{settle, answer-leaves, answer-draws, answer-by-bits, answer-session, cell-of, draw-few, draw-fault}
+use Rattle.shape_sampler.proofs.Plain.{none-given}
 use Rattle.shape_sampler.proofs.session.Session.visit_union.Goals as goal
 
 pub returns-clause-leaves : goal.returns-clause-leaves
@@ -43,3 +44,6 @@ returns-clause-used g c = draw-few c.draw_union-drawn.result c.args.tape.now.use
 
 pub returns-clause-tape : goal.returns-clause-tape
 returns-clause-tape g c = subst (λ b. LeavesTape g.S.Shelf.content g.S.Shelf.faults b c.args.shelf.now c.draw_union-drawn.new.shelf c.args.tape.now c.draw_union-drawn.new.tape) (draw-fault c.args.node c.draw_union-drawn.result c.answer_to-answer.result c.args.self.now.stopped c.requires.running c.answer_to-answer.ensures) c.draw_union-drawn.ensures.tape
+
+pub returns-then-is_err-clause-exact : goal.returns-then-is_err-clause-exact
+returns-then-is_err-clause-exact g c = none-given c.args.system.now g.row.F (g.O.Oracle.table c.args.oracle.now) (bits_of c.args.tape.now.source (g.S.Shelf.content c.args.shelf.now)) c.args.self.now _ c.args.tape.now.used
