@@ -17,6 +17,7 @@ use Rattle.labelling.specs.declared.labelled.Labelled.TheVariants as labelled
 use Rattle.labelling.specs.LabelsByBits.{labelling, bits_in}
 use Rattle.labelling.specs.Answer.{told_labelling, IsLabelling, AreIdealLabels, AreCellsOf, OnLabels, StraddlesAt}
 use Rattle.labelling.specs.Answer as told
+use Rattle.labelling.proofs.GivenLabels.{given-nothing}
 use Rattle.size_window.specs.declared.ending.Ending.{Ending}
 use Rattle.size_window.specs.declared.ending.Ending.TheVariants as ending
 use Rattle.size_window.specs.declared.ending.Straddle.TheVariants as straddle
@@ -33,6 +34,10 @@ use Rattle.size_window.proofs.Going.{goes-stopped, goes-kept, gives-ideal, ideal
 use Rattle.size_window.proofs.Turning.{in_turn_as, attempt-none, turn-labels, if-told, course-going, course-kept, course-thrown, course-fewer, course-shape, is-turn}
 use Rattle.size_window.proofs.Settling.{same-entry, same-state}
 use Rattle.size_window.proofs.Belonging.{shape-waits}
+
+-- out of memory no bit was given
+pub nothing_labelled : (bits : Option (ℕ → Option Bool)) (n start : ℕ) → IsLabelling bits n start labelled.OutOfMemory start
+nothing_labelled bits n start = given-nothing bits n start
 
 module _ (s : Spec) (x : Fraction) (before : DrawingState) (b : DrawingBelongs s x before) (on : GoesOn before) (shape : MadeShape) (is_shape : before.waiting ≡ Some shape) where
   -- the shape that waited

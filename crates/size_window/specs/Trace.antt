@@ -22,7 +22,7 @@ open_cell (Open.AtLabel m cell) = cell
 
 -- Bits are those of the number that a drawing left open: none while it goes on and where it ended with Done or the limit of turns; the 60 of a cell that straddles; fewer where the tape's end or its shelf cut the number short.
 abbrev pub AreOpen : Option Ending → List Bool → Type 0
-AreOpen (Some (Ending.Undecided open)) bits = (bits ≡ bits_of (open_cell open).b (open_cell open).k) × ((open_cell open).b ≡ 60)
+AreOpen (Some (Ending.Undecided number)) bits = (bits ≡ bits_of (open_cell number).b (open_cell number).k) × ((open_cell number).b ≡ 60)
 AreOpen (Some Ending.TapeEnded) bits = length bits < 60
 AreOpen (Some Ending.ReadFault) bits = length bits < 60
 AreOpen _ bits = bits ≡ []

@@ -233,6 +233,7 @@ impl Drawing {
     }
 
     /// Labels a shape that waited and keeps it. Where its labelling is cut short it waits on.
+    #[tactic(auto, using(crate::proofs::LabelTurns::nothing_labelled))]
     fn label<S: Shelf>(&mut self, mut made: Made, tape: &mut Tape, shelf: &mut S) -> Turned
         requires none_waits { self.old.waiting ≡ None }
         requires size { size_of made.shape.items ≤ 1000000 }
