@@ -290,4 +290,4 @@ module _ (s : Spec) (x : Fraction) (F : ℕ) (table : (level node : ℕ) → Bou
     })
 
 pub turns_continue : TurnsContinue
-turns_continue s x F table limits told sound turns before used most c p a now later turn counted = trace-continues s x F table limits told sound turns before used most c p a now later turn counted
+turns_continue s sound x F table limits told turns before used most c p a now later turn counted = trace-continues s x F table limits told sound turns before used most c p a now later turn counted

@@ -80,6 +80,10 @@ pub record IsTrace (s : Spec) (x : Fraction) (F : ℕ) (table : (level node : �
 abbrev pub TracesStart : Type 0
 TracesStart = (s : Spec) (x : Fraction) (F : ℕ) (table : (level node : ℕ) → Bounds) (limits : Limits) (told : Option (ℕ → Option Bool)) (d : DrawingState) → state_of d 0 ≡ start → d.limits ≡ limits → d.atoms ≡ 0 → IsTrace s x F table limits told 0 d 0 0 at_start
 
--- Every turn of a drawing from a sound specification continues its trace: the turn's bits stand after those given before, its entry after the entries, and its cells after the cells.
+-- Every turn of a drawing from this specification continues its trace: the turn's bits stand after those given before, its entry after the entries, and its cells after the cells.
+abbrev pub TurnsContinueOf : Spec → Type 0
+TurnsContinueOf s = (x : Fraction) (F : ℕ) (table : (level node : ℕ) → Bounds) (limits : Limits) (told : Option (ℕ → Option Bool)) (turns : ℕ) (before : DrawingState) (used most : ℕ) (c : Course) → IsTrace s x F table limits told turns before used most c → (answer : Turned) (now : DrawingState) (later : ℕ) (turn : IsTurn s x F table told before used answer now later) → IsCounted before answer now → IsTrace s x F table limits told (suc turns) now later (max most (node_bits before.waiting (later - used))) (followed_by c turn.turned)
+
+-- So it does from every sound specification.
 abbrev pub TurnsContinue : Type 0
-TurnsContinue = (s : Spec) (x : Fraction) (F : ℕ) (table : (level node : ℕ) → Bounds) (limits : Limits) (told : Option (ℕ → Option Bool)) → IsSound s → (turns : ℕ) (before : DrawingState) (used most : ℕ) (c : Course) → IsTrace s x F table limits told turns before used most c → (answer : Turned) (now : DrawingState) (later : ℕ) (turn : IsTurn s x F table told before used answer now later) → IsCounted before answer now → IsTrace s x F table limits told (suc turns) now later (max most (node_bits before.waiting (later - used))) (followed_by c turn.turned)
+TurnsContinue = (s : Spec) → IsSound s → TurnsContinueOf s
