@@ -15,7 +15,7 @@ use Rattle.size_window.specs.Drawing.{DrawingState, state_of, ending_of}
 use Rattle.size_window.specs.Trace.{EndsAt}
 use Rattle.session_pool.specs.Member.{MemberState}
 use Rattle.session_pool.specs.Pool.{sources_of}
-use Rattle.session_pool.specs.Interleaving.{Setting, IsMemberAfter, IsPoolAfter, AreAlikeWhere, times, AreAlike}
+use Rattle.session_pool.specs.Interleaving.{Setting, IsMemberAfter, AreAlikeWhere, times, AreAlike}
 use Rattle.session_pool.proofs.Ended.{quiet-on}
 
 -- no turn fails where the drawing didn't end so

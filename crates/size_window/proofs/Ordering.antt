@@ -1,5 +1,5 @@
 -- The entries of a course are in order.
-use Rattle.std.proofs.Common.{◌≡◌, ◌≢◌, ℕ, zero, suc, ◌+◌, ◌-◌, ◌<◌, ◌≤◌, arith, Bool, true, false, cond, List, [], ◌∷◌, ◌++◌, map, length, append-nil, length-append, refl, sym, ◌∙◌, ap, subst}
+use Rattle.std.proofs.Common.{◌≡◌, ◌≢◌, ℕ, zero, suc, ◌+◌, ◌-◌, ◌≤◌, arith, Bool, true, false, cond, List, [], ◌∷◌, ◌++◌, map, length, append-nil, length-append, refl, sym, ◌∙◌, ap, subst}
 use Rattle.std.specs.Prelude.{Option, Some, None, nat_eq, nat_lt, option_to_list}
 use Rattle.std.proofs.lemmas.Bool.{ltb-false}
 use Rattle.std.proofs.lemmas.List.Sums.{sum_by-cons}
@@ -9,16 +9,15 @@ use Rattle.bz_model.specs.Cell.{spelled}
 use Rattle.object_store.specs.Tokens.{size_of}
 use Rattle.choice_draw.specs.Draw.{bit_of}
 use Rattle.choice_draw.specs.LeastCell.{AreBetween}
-use Rattle.choice_draw.proofs.LeastCells.{bits-length}
 use Rattle.labelling.specs.LabelsByBits.{Labelling, bits_in, labelling}
 use Rattle.labelling.specs.Spelled.{AreSpelled, SpellsLabelling}
 use Rattle.labelling.proofs.SpelledLabels.{labellings_spell, spelled-both}
 use Rattle.labelling.proofs.DrawnAgain.{spelled-length}
-use Rattle.shape_sampler.specs.Visit.{Attempt, Visited, visit, visit_among}
+use Rattle.shape_sampler.specs.Visit.{Attempt, Visited, visit}
 use Rattle.size_window.specs.RunByBits.{Limits, Sampling, State, Turned, Course, Entry, Ending, quiet, with_attempt, at_place, added, thrown_away, entry_of, kept_or_waits, went, visited, shape_turn, counted_turn, label_turn, labelled_with, cut_short, turn_unless, fault_place, after, ended}
 use Rattle.size_window.specs.InOrder.{IsNextEntry, AreInOrder, last_end, IsInOrder}
-use Rattle.size_window.proofs.SpelledVisits.{AddsCells, LeavesCell, SpellsVisit, visit-spells}
-use Rattle.size_window.proofs.SizedVisits.{KeepsRoom, SizesVisit, visit-sizes}
+use Rattle.size_window.proofs.SpelledVisits.{AddsCells, SpellsVisit, visit-spells}
+use Rattle.size_window.proofs.SizedVisits.{SizesVisit, visit-sizes}
 
 -- cells spell as many bits as they have
 bits-spelled : (cells : List Cell) → length (spelled cells) ≡ bits_in cells

@@ -1,5 +1,5 @@
 -- A visit takes off the room what it adds of atoms.
-use Rattle.std.proofs.Common.{◌≡◌, ℕ, zero, suc, ◌+◌, arith, List, ◌∷◌, [], ◌++◌, refl}
+use Rattle.std.proofs.Common.{◌≡◌, ℕ, zero, suc, ◌+◌, arith, List, ◌∷◌, [], refl}
 use Rattle.std.specs.Prelude.{Option, Some, None}
 use Rattle.bz_model.specs.Spec.{Node, node_at}
 use Rattle.choice_draw.specs.Decision.{Choice}

@@ -1,13 +1,11 @@
 -- A drawing's trace starts with it, and each of its turns continues the trace.
-use Rattle.std.proofs.Common.{◌≡◌, ℕ, zero, suc, ◌+◌, ◌-◌, ◌<◌, ◌≤◌, max, arith, Bool, true, false, cond, List, [], ◌∷◌, ◌++◌, map, sum, length, append-nil, length-append, refl, sym, ◌∙◌, ap, subst}
+use Rattle.std.proofs.Common.{◌≡◌, ℕ, zero, suc, ◌+◌, ◌-◌, ◌<◌, max, arith, Bool, true, false, cond, List, [], ◌∷◌, ◌++◌, map, sum, length, append-nil, refl, sym, ◌∙◌, ap, subst}
 use Rattle.std.specs.Prelude.{Option, Some, None, IfSome, eqb, slice_get, option_map, option_to_list}
 use Rattle.std.specs.Option.{is_some}
 use Rattle.std.proofs.lemmas.Bool.{eq-eqb, ne_eqb}
-use Rattle.std.proofs.lemmas.List.{map-append}
 use Rattle.std.proofs.lemmas.List.Sums.{sum_by-cons}
 use Rattle.bz_model.specs.declared.cell.Bounds.{Bounds}
-use Rattle.bz_model.specs.declared.cell.Cell.{Cell}
-use Rattle.bz_model.specs.Cell.{AreCells, spelled}
+use Rattle.bz_model.specs.Cell.{spelled}
 use Rattle.bz_model.specs.Fraction.{Fraction}
 use Rattle.bz_model.specs.Spec.{Spec}
 use Rattle.bit_tape.specs.Given.{HasBits, Gave}
@@ -18,17 +16,16 @@ use Rattle.well_founded.proofs.Orderly.{orderly}
 use Rattle.well_founded.proofs.Stages.{marked-zero, zero-marked}
 use Rattle.shape_sampler.specs.Visit.{Chooser}
 use Rattle.shape_sampler.specs.Answer.{ChoosesBy}
-use Rattle.shape_sampler.specs.State.{SessionState}
 use Rattle.size_window.specs.declared.ending.Ending.{Ending as Told}
 use Rattle.size_window.specs.declared.ending.Ending.TheVariants as ending
 use Rattle.size_window.specs.declared.turned.Turned.{Turned as Answer}
 use Rattle.size_window.specs.declared.turned.Turned.TheVariants as answer
-use Rattle.size_window.specs.RunByBits.{Limits, Sampling, State, Entry, Ending, Course, Turned, turn, followed_by, one_turn_on, at_start, after, start}
+use Rattle.size_window.specs.RunByBits.{Limits, Sampling, State, Entry, Course, turn, followed_by, one_turn_on, after}
 use Rattle.size_window.specs.Drawing.{MadeShape, DrawingState, attempt_unless, ending_of, state_of}
 use Rattle.size_window.specs.Follows.{Goes}
 use Rattle.size_window.specs.Ideally.{chooser_of}
 use Rattle.size_window.specs.Turn.{told_entry, told_fault, entry_of, atoms_by, ending_by, EndsThere, IsTurn, IsCounted, node_bits}
-use Rattle.size_window.specs.Trace.{AreOpen, IsSpelled, Spells, bits_to_node, most_given, EndsAt, IsCourseOver, IsTrace, TracesStart, TurnsContinue}
+use Rattle.size_window.specs.Trace.{IsSpelled, Spells, bits_to_node, most_given, EndsAt, IsCourseOver, IsTrace, TracesStart, TurnsContinue}
 use Rattle.size_window.proofs.Going.{goes-start}
 use Rattle.size_window.proofs.Turning.{if-told, if-any, attempt-used}
 use Rattle.size_window.proofs.TablesIdeally.{chooses-by}
