@@ -12,7 +12,7 @@ use Rattle.size_window.specs.declared.ending.Ending.TheVariants as told
 use Rattle.size_window.specs.RunByBits as run
 use Rattle.size_window.specs.RunByBits.{Limits, Sampling, State, Entry, Course, turn_unless, followed_by, one_turn_on, after}
 use Rattle.size_window.specs.Drawing.{DrawingState, state_of, ending_of}
-use Rattle.size_window.specs.Trace.{EndsAt}
+use Rattle.size_window.specs.Trace.{EndsAt, atoms_in}
 use Rattle.session_pool.specs.Member.{MemberState}
 use Rattle.session_pool.specs.Pool.{sources_of}
 use Rattle.session_pool.specs.Interleaving.{Setting, IsMemberAfter, AreAlikeWhere, times, AreAlike}
@@ -36,12 +36,23 @@ same-source sources pool other a b number m n at at_other =
     let two : slice_get (map source-of other) number ≡ Some n.tape.source = slice_get-map source-of other number ∙ ap (option_map source-of) at_other in
     same_Some m.tape.source n.tape.source (sym one ∙ (ap (λ ss. slice_get ss number) (a ∙ sym b) ∙ two))
 
+-- where a course ended with a failed read, so did its drawing
+failed-told : (o : Option Told) → option_map ending_of o ≡ Some run.Ending.ReadFault → o ≡ Some told.ReadFault
+failed-told None e = absurd (cc)
+failed-told (Some told.Done) e = absurd (cc)
+failed-told (Some told.TapeEnded) e = absurd (cc)
+failed-told (Some (told.Undecided straddle)) e = absurd (cc)
+failed-told (Some told.TurnLimit) e = absurd (cc)
+failed-told (Some told.ReadFault) e = refl
+
 -- a told course that no failed read ended is fixed by the number of turns
 undisturbed : (w : Setting) (limits : Limits) (begun counts : List ℕ → ℕ) (turns : ℕ) (m : MemberState) (p : IsMemberAfter w limits begun counts turns m) → m.drawing.ending ≢ Some told.ReadFault → (c : Chooser) → ChoosesBy w.spec w.F w.table c → (tape : ℕ → Option Bool) → bits_of m.tape.source w.contents ≡ Some tape → p.course ≡ after (record { chooser = c; limits = limits; tape = tape }) (λ k. None) turns
 undisturbed w limits begun counts turns m p never c chooses tape is =
-    let have : HasBits tape 0 p.trace.given = subst (λ o. IfSome o (λ bits. HasBits bits 0 p.trace.given)) is p.trace.gave.are_told in
-    let ends : EndsAt m.drawing.ending m.tape.used tape = subst (λ o. IfSome o (EndsAt m.drawing.ending m.tape.used)) is p.trace.ended in
-    (p.trace.exact tape have ends c chooses).same ∙ unfailing (record { chooser = c; limits = limits; tape = tape }) p.trace.faults turns (λ k. unfailed (p.trace.faults k) (p.trace.disturbed k) never)
+    let trace = p.trace.trace in
+    let have : HasBits tape 0 trace.given = subst (λ o. IfSome o (λ bits. HasBits bits 0 trace.given)) is trace.gave.are_told in
+    let ends : EndsAt p.course.state.ending p.course.state.attempt.used tape = subst (λ o. IfSome o (EndsAt p.course.state.ending p.course.state.attempt.used)) is trace.ended in
+    (trace.exact tape have ends c chooses).same
+    ∙ unfailing (record { chooser = c; limits = limits; tape = tape }) trace.faults turns (λ k. unfailed (trace.faults k) (trace.disturbed k) (λ failed. never (failed-told m.drawing.ending (ap (λ (st : State). st.ending) (sym p.trace.state) ∙ failed))))
 
 -- a course that has ended stays as it is
 resting : (s : Sampling) (faults : ℕ → Option ℕ) (n : ℕ) (o : Option run.Ending) → (after s faults n).state.ending ≡ o → is_some o ≡ true → after s faults (suc n) ≡ after s faults n
@@ -75,7 +86,7 @@ course-ended c d used at some = ap (λ (st : State). is_some st.ending) at ∙ b
 alike-by : (w : Setting) (limits : Limits) (begun counts begun_then counts_then : List ℕ → ℕ) (turns others : ℕ) (m n : MemberState) (p : IsMemberAfter w limits begun counts turns m) (q : IsMemberAfter w limits begun_then counts_then others n) → p.course ≡ q.course → AreAlike m n
 alike-by w limits begun counts begun_then counts_then turns others m n p q same = record {
   state = sym p.trace.state ∙ (ap (λ (c : Course). c.state) same ∙ q.trace.state);
-  atoms = p.trace.atoms ∙ ap (λ (c : Course). sum (map (λ (e : Entry). e.size) c.entries)) same ∙ sym q.trace.atoms;
+  atoms = p.trace.atoms ∙ ap (λ (c : Course). atoms_in c.entries) same ∙ sym q.trace.atoms;
   entries = sym p.entries ∙ (ap (λ (c : Course). c.entries) same ∙ q.entries);
 }
 

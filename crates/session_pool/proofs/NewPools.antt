@@ -11,7 +11,7 @@ use Rattle.size_window.specs.declared.ending.Ending.{Ending as Told}
 use Rattle.size_window.specs.RunByBits.{Limits, State, at_start}
 use Rattle.size_window.specs.Drawing.{ending_of}
 use Rattle.size_window.specs.Turn.{entry_of}
-use Rattle.size_window.specs.Trace.{IsTrace, TracesStart}
+use Rattle.size_window.specs.Trace.{HasTrace, TracesStart}
 use Rattle.session_pool.specs.Member.{MemberState, IsNewMember}
 use Rattle.session_pool.specs.Pool.{tapes_of, sources_of}
 use Rattle.session_pool.specs.Interleaving.{Setting, IsMemberAfter, IsPoolAfter, WasAsked, EndedRightly, failures}
@@ -39,7 +39,7 @@ new-member starts w limits counts m new unused =
     record {
       most = 0;
       course = at_start;
-      trace = subst (λ used. IsTrace w.spec w.x w.F w.table limits (bits_of m.tape.source w.contents) 0 m.drawing used 0 at_start) (sym unused) (starts w.spec w.x w.F w.table limits (bits_of m.tape.source w.contents) m.drawing new.state new.same_limits new.atoms);
+      trace = subst (λ used. HasTrace w.spec w.x w.F w.table limits (bits_of m.tape.source w.contents) 0 m.drawing used 0 at_start) (sym unused) (starts w.spec w.x w.F w.table limits (bits_of m.tape.source w.contents) m.drawing new.state new.same_limits new.atoms);
       entries = sym (ap (map entry_of) new.entries);
       asked = subst (WasAsked 0 m.drawing) (sym going) (ap (λ (st : State). st.turns) new.state);
       ended = subst (λ o. IfSome o (EndedRightly w limits m.tape.source counts counts m.drawing)) (sym going) tt;

@@ -10,7 +10,7 @@ use Rattle.size_window.specs.declared.turned.Turned.TheVariants as turned
 use Rattle.size_window.specs.RunByBits.{Limits, followed_by}
 use Rattle.size_window.specs.Drawing.{DrawingState}
 use Rattle.size_window.specs.Turn.{told_entry, entry_of, kept_by, turns_by, turns_of, ending_by, node_bits}
-use Rattle.size_window.specs.Trace.{IsTrace, TurnsContinueOf}
+use Rattle.size_window.specs.Trace.{HasTrace, TurnsContinueOf}
 use Rattle.session_pool.specs.declared.pooled.Pooled.{Pooled}
 use Rattle.session_pool.specs.Member.{MemberState}
 use Rattle.session_pool.specs.Turn.{IsMemberTurn, AnswersRightly, kept_in}
@@ -114,7 +114,7 @@ module _ (w : Setting) (limits : Limits) (begun before now : List ℕ → ℕ) (
       record {
         most = max p.most (node_bits d.waiting (later.tape.used - m.tape.used));
         course = followed_by p.course h.turn.turned;
-        trace = subst (λ source. IsTrace w.spec w.x w.F w.table limits (bits_of source w.contents) (suc n) later.drawing later.tape.used (max p.most (node_bits d.waiting (later.tape.used - m.tape.used))) (followed_by p.course h.turn.turned)) (sym h.source)
+        trace = subst (λ source. HasTrace w.spec w.x w.F w.table limits (bits_of source w.contents) (suc n) later.drawing later.tape.used (max p.most (node_bits d.waiting (later.tape.used - m.tape.used))) (followed_by p.course h.turn.turned)) (sym h.source)
             (continues w.x w.F w.table limits (bits_of m.tape.source w.contents) n d m.tape.used p.most p.course p.trace h.told later.drawing later.tape.used h.turn h.counted);
         entries = entries-now;
         asked = asked-then m.drawing.ending refl p.asked;

@@ -14,7 +14,7 @@ use Rattle.size_window.specs.declared.turned.Turned.TheVariants as turned
 use Rattle.size_window.specs.RunByBits.{Limits, Course}
 use Rattle.size_window.specs.Drawing.{DrawingState, state_of}
 use Rattle.size_window.specs.Turn.{TellsOpen, entry_of, turns_of}
-use Rattle.size_window.specs.Trace.{IsTrace}
+use Rattle.size_window.specs.Trace.{HasTrace}
 use Rattle.session_pool.specs.Member.{MemberState}
 use Rattle.session_pool.specs.Pool.{sources_of}
 
@@ -50,7 +50,7 @@ pub record EndedRightly (w : Setting) (limits : Limits) (source : TapeSource) (b
 pub record IsMemberAfter (w : Setting) (limits : Limits) (begun counts : List ℕ → ℕ) (turns : ℕ) (m : MemberState) : Type 0 where
   pub most : ℕ
   pub course : Course
-  pub trace : IsTrace w.spec w.x w.F w.table limits (bits_of m.tape.source w.contents) turns m.drawing m.tape.used most course
+  pub trace : HasTrace w.spec w.x w.F w.table limits (bits_of m.tape.source w.contents) turns m.drawing m.tape.used most course
   pub entries : course.entries ≡ map entry_of m.entries
   pub asked : WasAsked turns m.drawing m.drawing.ending
   pub ended : IfSome m.drawing.ending (EndedRightly w limits m.tape.source begun counts m.drawing)
