@@ -10,3 +10,10 @@ pub mod Following
 pub mod UnionsIdeally
 pub mod CountsIdeally
 pub mod TablesIdeally
+pub mod SpelledVisits
+pub mod SpelledTurns
+pub mod VisitsAgain
+pub mod Redrawing
+pub mod Tracing
+pub mod SizedVisits
+pub mod Ordering

@@ -9,6 +9,9 @@ ghost use Rattle.class_system.specs.Sound.{IsSound};
 ghost use Rattle.well_founded.specs.EmptyObjects.{has_empty};
 ghost use Rattle.shape_sampler.specs.Answer.{ChoosesBy};
 ghost use Rattle.size_window.specs.RunByBits.{Limits, Sampling, at_start, after};
+ghost use Rattle.size_window.specs.Trace.{IsSpelled, TracesStart, TurnsContinue};
+ghost use Rattle.size_window.specs.Redrawn.{AreRedrawn};
+ghost use Rattle.size_window.specs.InOrder.{IsInOrder};
 ghost use Rattle.size_window.specs.Ideally.{DecidesIdeally, chooser_of};
 ghost use Rattle.size_window.specs.Follows.{Follows, Goes};
 
@@ -46,4 +49,36 @@ pub fn a_table_has_its_chooser()
 /// `Drawing::turn`.
 pub fn a_course_goes_from_its_start()
     ensures { (s : Spec) (x : Fraction) (limits : Limits) → Goes s x limits at_start }
+{}
+
+/// A drawing before its first turn has a trace: that of no bit, with no entry and no cell.
+pub fn a_trace_starts_with_its_drawing()
+    ensures { TracesStart }
+{}
+
+/// A turn from a sound specification continues its drawing's trace: with the turn's bits after those given before, its entry after the
+/// entries and its cells after the cells.
+pub fn a_turn_continues_a_trace()
+    ensures { TurnsContinue }
+{}
+
+/// The cells of a course spell the bits that it used over a tape, in order, wherever the shelf fails;
+/// each of them is a cell, and after them stand the bits of a number that was left open.
+pub fn a_course_spells_its_bits()
+    ensures { (s : Sampling) (faults : ℕ → Option ℕ) (n : ℕ) → IsSpelled (after s faults n) s.tape }
+{}
+
+/// Each entry of a course is made again from the bits that its own cells spell: wherever a tape has
+/// them, and over the tape of just these bits, an attempt alone makes its object, and a labelling
+/// its labels, from exactly these bits.
+pub fn each_entry_is_redrawn_from_its_cells()
+    ensures { (s : Sampling) (faults : ℕ → Option ℕ) (n : ℕ)
+        → AreRedrawn s.chooser s.limits.max (after s faults n).entries }
+{}
+
+/// The entries of a course are in order: they are numbered from 1, the bits of each begin at or after
+/// the end of those of the one before it, each has as many atoms as it tells, within the window, and
+/// there are as many as the course kept.
+pub fn the_entries_of_a_course_are_in_order()
+    ensures { (s : Sampling) (faults : ℕ → Option ℕ) (n : ℕ) → IsInOrder s.limits (after s faults n) }
 {}
