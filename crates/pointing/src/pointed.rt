@@ -1,9 +1,10 @@
 //! Pointing a specification.
-ghost use Rattle.std.specs.Prelude.{◌≡◌, map, length, IfOk, OnOk, IfErr, IfSome, IfNone};
+ghost use Rattle.std.specs.Prelude.{◌≡◌, ◌<◌, map, length, IfOk, OnOk, IfErr, IfSome, IfNone};
 ghost use Rattle.bz_model.specs.Spec as model;
 ghost use Rattle.class_system.specs.Limits.{IsWithinLimits};
+ghost use Rattle.object_store.specs.Tokens.{size_of, IsOf};
 ghost use Rattle.pointing.specs.Atoms.{is_atomic};
-ghost use Rattle.pointing.specs.Calls.{IsFirstRanged, IsPointingOf, TellsFault};
+ghost use Rattle.pointing.specs.Calls.{AreMarked, IsFirstRanged, IsPointingOf, TellsFault};
 ghost use Rattle.pointing.specs.Forms.{all_forms};
 ghost use Rattle.pointing.specs.PointedSpec.{IsPlain, pointed_by, pointed_spec};
 
@@ -11,12 +12,15 @@ use crate::atoms::{atomic_classes, atomic_nodes, is_marked};
 use crate::building::lay_out;
 use crate::fault::PointFault;
 use crate::layout::Layout;
+use crate::marking::marked;
 use crate::naming::named_draft;
+use crate::ways::way_to;
 use class_system::draft::{Draft, Mode};
 use class_system::ids::ExprId;
 use class_system::limits::BuildFault;
 use class_system::ranges::plain;
 use class_system::system::System;
+use object_store::shape::Shape;
 use std::alloc::{AllocError, Global};
 use std::marker::Model;
 use well_founded::examination::Founded;
@@ -79,6 +83,29 @@ impl Pointed {
         ensures system { result.now ≡ self.now.system }
     {
         &self.system
+    }
+
+    /// The object of class 0 with its atom of this number marked, as one of the pointed class 0.
+    ///
+    /// Atoms are numbered from 0 in token order. Nothing recurses over the object.
+    pub fn mark(
+        &self,
+        founded: &Founded,
+        shape: &Shape,
+        atom: u64,
+    ) -> Result<Shape, AllocError>
+        requires same { IsPointingOf founded.now self.now }
+        requires is_of { IsOf founded.now 0 shape.now.items }
+        requires there { atom < size_of shape.now.items }
+        ensures marked { IfOk result (λ m. AreMarked founded.now shape.now.items atom m.items) }
+    {
+        founded.known();
+        let system = founded.system();
+        system.known();
+        let alloc = *self.atomic.allocator();
+        let places = way_to(alloc, system, shape, atom)?;
+        let object = marked(alloc, system, &self.atomic, shape, &places)?;
+        Ok(object)
     }
 }
 
