@@ -32,7 +32,7 @@ use std::marker::Model;
 /// The object of class 0 with the tokens, with the atom marked to which the places lead.
 ///
 /// `atomic` tells which nodes have an object with an atom.
-pub(crate) fn marked(
+pub(crate) fn with_mark(
     alloc: Global,
     system: &System,
     atomic: &[bool],

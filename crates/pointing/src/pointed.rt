@@ -1,5 +1,5 @@
 //! Pointing a specification.
-ghost use Rattle.std.specs.Prelude.{◌≡◌, ◌<◌, map, length, IfOk, OnOk, IfErr, IfSome, IfNone};
+ghost use Rattle.std.specs.Prelude.{◌≡◌, ◌<◌, ◌^◌, map, length, IfOk, OnOk, IfErr, IfSome, IfNone};
 ghost use Rattle.bz_model.specs.Spec as model;
 ghost use Rattle.class_system.specs.Limits.{IsWithinLimits};
 ghost use Rattle.object_store.specs.Tokens.{size_of, IsOf};
@@ -12,8 +12,9 @@ use crate::atoms::{atomic_classes, atomic_nodes, is_marked};
 use crate::building::lay_out;
 use crate::fault::PointFault;
 use crate::layout::Layout;
-use crate::marking::marked;
+use crate::marking::with_mark;
 use crate::naming::named_draft;
+use crate::unmarking::without_mark;
 use crate::ways::way_to;
 use class_system::draft::{Draft, Mode};
 use class_system::ids::ExprId;
@@ -38,6 +39,13 @@ impl Model for Pointed {
     ghost Value = { Pointing };
 
     ghost view = { λ p. record { system = p.system; atomic = p.atomic.items } };
+}
+
+/// An object with one of its atoms, numbered from 0 in token order.
+#[derive(Drop)]
+pub struct Marked {
+    pub shape: Shape,
+    pub atom: u64,
 }
 
 /// Points a specification: class `Pi` of the result has the objects of class i with one atom marked.
@@ -104,8 +112,27 @@ impl Pointed {
         system.known();
         let alloc = *self.atomic.allocator();
         let places = way_to(alloc, system, shape, atom)?;
-        let object = marked(alloc, system, &self.atomic, shape, &places)?;
+        let object = with_mark(alloc, system, &self.atomic, shape, &places)?;
         Ok(object)
+    }
+
+    /// The object of class 0 that an object of the pointed class 0 came from, and the number of the
+    /// marked atom.
+    ///
+    /// Nothing recurses over the object.
+    pub fn unmark(&self, founded: &Founded, shape: &Shape) -> Result<Marked, AllocError>
+        requires same { IsPointingOf founded.now self.now }
+        requires is_of { IsOf self.now.system 0 shape.now.items }
+        requires few { length shape.now.items < 2 ^ 32 }
+        ensures marked { IfOk result (λ r. AreMarked founded.now r.shape.items r.atom
+            shape.now.items) }
+    {
+        founded.known();
+        let system = founded.system();
+        system.known();
+        let alloc = *self.atomic.allocator();
+        let (plain, atom) = without_mark(alloc, system, &self.system, &self.atomic, shape)?;
+        Ok(Marked { shape: plain, atom })
     }
 }
 

@@ -3,7 +3,7 @@ use Rattle.bz_model.specs.Object.{none}
 use Rattle.object_store.specs.Walking.{IsNext}
 use Rattle.pointing.specs.Writing.{WritesOn}
 use Rattle.pointing.proofs.MarkWalk.{marking-on, marking-end}
-use Rattle.pointing.proofs.marking.marked.Goals as goal
+use Rattle.pointing.proofs.marking.with_mark.Goals as goal
 
 pub visits-preserved : goal.visits-preserved
 visits-preserved c =
