@@ -105,13 +105,13 @@ opened-way ls (suc k) n (more o os) others e =
     ∙ way-in ls (suc k) 0 n o os others (let f : count (more o os) ≡ suc (count os) = refl in omega arith)
 
 module _ (s : Spec) (e : ℕ) (es : List ℕ) (os : Objects) (ts : List Token) (fs : List ℕ) (us : List Token) (ls : List Level) (n : ℕ) (within : n < sizes os) where
-  abbrev pub before : Search
-  before = record { levels = ls; before = n }
+  abbrev pub begun : Search
+  begun = record { levels = ls; before = n }
 
-  pub class-passed : (body : ℕ) (now : Search) → now.levels ≡ ls → now.before ≡ n → ShowsClass s e es os ts body fs us → IsNearer s before now os fs us
+  pub class-passed : (body : ℕ) (now : Search) → now.levels ≡ ls → now.before ≡ n → ShowsClass s e es os ts body fs us → IsNearer s begun now os fs us
   class-passed body now l b k = record { objects = os; waits = k.waits; within = subst (λ m. m < sizes os) (sym b) within; same = ap (λ z. way_from z n os) (sym l) ∙ ap (λ m. way_from now.levels m os) (sym b) }
 
-  pub pick-passed : (option part : ℕ) (now : Search) → now.levels ≡ ls → now.before ≡ n → ShowsPick s e es os ts option part fs us → IsNearer s before now os fs us
+  pub pick-passed : (option part : ℕ) (now : Search) → now.levels ≡ ls → now.before ≡ n → ShowsPick s e es os ts option part fs us → IsNearer s begun now os fs us
   pick-passed option part now l b k =
       let sized : sizes os ≡ size k.object + sizes k.others = ap sizes k.is_pick in
       record {
@@ -122,7 +122,7 @@ module _ (s : Spec) (e : ℕ) (es : List ℕ) (os : Objects) (ts : List Token) (
       }
 
   -- a leaf without an atom is done
-  pub empty-passed : (node : List ℕ → Node) (t : Token) (now : Search) → now.levels ≡ finished ls → now.before ≡ n → ShowsLeaf node Unit_ t s e es os ts fs us → IsNearer s before now os fs us
+  pub empty-passed : (node : List ℕ → Node) (t : Token) (now : Search) → now.levels ≡ finished ls → now.before ≡ n → ShowsLeaf node Unit_ t s e es os ts fs us → IsNearer s begun now os fs us
   empty-passed node t now l b k =
       let sized : sizes os ≡ 0 + sizes k.others = ap sizes k.is_leaf in
       record {
@@ -136,7 +136,7 @@ module _ (s : Spec) (e : ℕ) (es : List ℕ) (os : Objects) (ts : List Token) (
       }
 
   -- an atom before the one that is searched for is done
-  pub atom-passed : (node : List ℕ → Node) (t : Token) (now : Search) → now.levels ≡ finished ls → now.before ≡ n - 1 → 0 < n → ShowsLeaf node Dot t s e es os ts fs us → IsNearer s before now os fs us
+  pub atom-passed : (node : List ℕ → Node) (t : Token) (now : Search) → now.levels ≡ finished ls → now.before ≡ n - 1 → 0 < n → ShowsLeaf node Dot t s e es os ts fs us → IsNearer s begun now os fs us
   atom-passed node t now l b some k =
       let sized : sizes os ≡ 1 + sizes k.others = ap sizes k.is_leaf in
       record {
@@ -156,7 +156,7 @@ module _ (s : Spec) (e : ℕ) (es : List ℕ) (os : Objects) (ts : List Token) (
       ∙ append-nil (places ls) ∙ ap places (sym l)
 
   -- an object with parts is begun
-  parts-passed : (members others : Objects) (parts : ℕ) (now : Search) → now.levels ≡ opened parts ls → now.before ≡ n → parts ≡ count members → sizes os ≡ sizes members + sizes others → way_from ls n os ≡ here_or (sizes members - n) (places ls ++ way_among 0 members n) (way_from (finished ls) (n - sizes members) others) → Waits s fs (joined members others) us → IsNearer s before now os fs us
+  parts-passed : (members others : Objects) (parts : ℕ) (now : Search) → now.levels ≡ opened parts ls → now.before ≡ n → parts ≡ count members → sizes os ≡ sizes members + sizes others → way_from ls n os ≡ here_or (sizes members - n) (places ls ++ way_among 0 members n) (way_from (finished ls) (n - sizes members) others) → Waits s fs (joined members others) us → IsNearer s begun now os fs us
   parts-passed members others parts now l b many sized same_way waits =
       record {
         objects = joined members others;
@@ -165,11 +165,11 @@ module _ (s : Spec) (e : ℕ) (es : List ℕ) (os : Objects) (ts : List Token) (
         same = same_way ∙ sym (opened-way ls parts n members others many) ∙ ap (λ z. way_from z n (joined members others)) (sym l) ∙ ap (λ m. way_from now.levels m (joined members others)) (sym b);
       }
 
-  pub tuple-passed : (parts : ℕ) (now : Search) → now.levels ≡ opened parts ls → now.before ≡ n → parts ≡ length (parts_at (node_at s e)) → ShowsTuple s e es os ts fs us → IsNearer s before now os fs us
+  pub tuple-passed : (parts : ℕ) (now : Search) → now.levels ≡ opened parts ls → now.before ≡ n → parts ≡ length (parts_at (node_at s e)) → ShowsTuple s e es os ts fs us → IsNearer s begun now os fs us
   tuple-passed parts now l b many k =
       parts-passed k.members k.others parts now l b (many ∙ ap (λ z. length (parts_at z)) k.is_node ∙ as-many s k.parts k.members k.belong) (ap sizes k.is_tuple) (ap (way_from ls n) k.is_tuple) k.waits
 
-  pub list-passed : (node : ℕ → Node) (form : Objects → Object) (parts part : ℕ) (now : Search) → now.levels ≡ opened parts ls → now.before ≡ n → ((ps : Objects) → size (form ps) ≡ sizes ps) → ((ps : Objects) → way (form ps) n ≡ way_among 0 ps n) → ShowsList node form s e es os ts parts part fs us → IsNearer s before now os fs us
+  pub list-passed : (node : ℕ → Node) (form : Objects → Object) (parts part : ℕ) (now : Search) → now.levels ≡ opened parts ls → now.before ≡ n → ((ps : Objects) → size (form ps) ≡ sizes ps) → ((ps : Objects) → way (form ps) n ≡ way_among 0 ps n) → ShowsList node form s e es os ts parts part fs us → IsNearer s begun now os fs us
   list-passed node form parts part now l b sized ways k =
       parts-passed k.members k.others parts now l b (sym k.counted) (ap sizes k.is_list ∙ ap (λ m. m + sizes k.others) (sized k.members))
       (ap (way_from ls n) k.is_list

@@ -339,7 +339,7 @@ impl Unmarking {
         if place >= self.written.len() {
             return Err(AllocError);
         }
-        self.written[place] = Token::Count(all);
+        put_token(&mut self.written, place, Token::Count(all));
         self.dues.push_copied(later as usize)?;
         Ok(())
     }
@@ -414,6 +414,7 @@ fn one_on(
 /// The part that a choice among the marked parts tells, with its place; None where there is none.
 fn marked_part(marks: &[bool], parts: &[ExprId], choice: u32) -> Option<(usize, ExprId)>
     ensures choice { IfSome result (λ r. IsChoice marks.now parts.now choice r.0 r.1) }
+    ensures within { IfSome result (λ r. r.0 < length parts.now) }
 {
     let mut left = choice;
     for i in 0..parts.len() {
@@ -425,6 +426,16 @@ fn marked_part(marks: &[bool], parts: &[ExprId], choice: u32) -> Option<(usize, 
         }
     }
     None
+}
+
+/// Puts a token in the place of another.
+fn put_token(written: &mut Vec<Token>, place: usize, token: Token)
+    requires there { place < length written.now.items }
+    ensures put { (front tail : List model.Token) (kept : model.Token)
+        → written.old.items ≡ front ++ kept ∷ tail → length front ≡ place
+        → written.new.items ≡ front ++ token ∷ tail }
+{
+    written[place] = token;
 }
 
 /// Writes the token that a visit shows, if there is one.

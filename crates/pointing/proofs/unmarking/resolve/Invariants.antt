@@ -2,4 +2,4 @@ use Rattle.pointing.specs.Unmarking.{LeadsTo}
 use Rattle.pointing.proofs.unmarking.resolve.Given as goal
 
 abbrev pub invariant-nodes : goal.invariant-nodes
-invariant-nodes l = LeadsTo l.system l.node.0 l.now.0 l.initial.written.items l.written.items
+invariant-nodes l = LeadsTo l.system l.fn.node.0 l.now.0 l.initial.written.items l.written.items
