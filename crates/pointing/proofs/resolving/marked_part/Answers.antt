@@ -1,8 +1,8 @@
 use Rattle.std.proofs.Common.{◌≡◌, ◌+◌, get_or, arith, sym, ◌∙◌}
 use Rattle.well_founded.specs.EmptyObjects.{answer_at}
 use Rattle.pointing.proofs.AtomMarks.{count-more, count-one, count-none}
-use Rattle.pointing.proofs.unmarking.marked_part.Goals as goal
-use Rattle.pointing.proofs.unmarking.marked_part.Goals.{then-is_marked+else-left-eq0, else-is_marked}
+use Rattle.pointing.proofs.resolving.marked_part.Goals as goal
+use Rattle.pointing.proofs.resolving.marked_part.Goals.{then-is_marked+else-left-eq0, else-is_marked}
 
 pub loop-i-preserved : goal.loop-i-preserved
 loop-i-preserved c =

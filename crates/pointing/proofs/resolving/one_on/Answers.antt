@@ -15,7 +15,7 @@ use Rattle.pointing.specs.Unmarking.{LeadsTo}
 use Rattle.pointing.proofs.Chosen.{choices-counted}
 use Rattle.pointing.proofs.Marked.{at-node, same-body}
 use Rattle.pointing.proofs.UnmarkSteps.{choice-place, IsPlace, from-one}
-use Rattle.pointing.proofs.unmarking.one_on.Goals as goal
+use Rattle.pointing.proofs.resolving.one_on.Goals as goal
 
 to-body : (s : Spec) (e c body : ℕ) (w : List Token) → node_at s e ≡ Some (Node.Class c) → body_of s c ≡ Some body → LeadsTo s e body w w
 to-body s e c body w at is = record {
