@@ -1,10 +1,9 @@
 -- Choices among the parts of a node that have an atom, as the code counts them.
-use Rattle.std.proofs.Common.{◌≡◌, ◌≢◌, ℕ, zero, suc, ◌≤◌, inl, inr, List, [], ◌∷◌, ◌++◌, take, map, length, arith, refl, sym, ◌∙◌, ap, Bool, Some}
+use Rattle.std.proofs.Common.{◌≡◌, ◌≢◌, ℕ, zero, suc, ◌≤◌, inl, inr, List, [], ◌∷◌, take, map, length, arith, refl, sym, ◌∙◌, ap, Bool}
 use Rattle.std.proofs.lemmas.List.{take_all, take-map}
 use Rattle.bz_model.specs.Spec.{Spec}
 use Rattle.class_system.specs.Views.{number}
 use Rattle.class_system.specs.declared.ids.ExprId.{ExprId}
-use Rattle.object_store.specs.declared.token.Token.{Token}
 use Rattle.object_store.specs.declared.token.Token.TheVariants as token
 use Rattle.well_founded.specs.EmptyObjects.{answer_at}
 use Rattle.pointing.specs.Forms.{all_forms}

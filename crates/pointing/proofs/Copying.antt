@@ -1,6 +1,5 @@
 -- Objects that wait are written as they are.
-use Rattle.std.proofs.Common.{◌≡◌, ℕ, zero, suc, ◌-◌, ◌<◌, List, [], ◌∷◌, ◌++◌, length, replicate, arith, refl, sym, ◌∙◌, ap, subst, append_assoc, append-nil}
-use Rattle.std.proofs.lemmas.List.{length-replicate}
+use Rattle.std.proofs.Common.{◌≡◌, ℕ, suc, List, [], ◌∷◌, ◌++◌, length, replicate, arith, refl, sym, ◌∙◌, ap, subst, append_assoc, append-nil}
 use Rattle.bz_model.specs.Spec.{Spec, Node}
 use Rattle.bz_model.specs.Object.{Object, Objects, none, more, count}
 use Rattle.object_store.specs.declared.token.Token.{Token}

@@ -1,25 +1,22 @@
 -- A marked object is written visit by visit.
-use Rattle.std.proofs.Common.{◌≡◌, ℕ, zero, suc, ◌+◌, ◌-◌, ◌<◌, ◌≤◌, ◌⊎◌, inl, inr, Bool, List, [], ◌∷◌, ◌++◌, length, replicate, arith, refl, sym, ◌∙◌, ap, subst, append_assoc, append-nil, Some, slice_get}
+use Rattle.std.proofs.Common.{◌≡◌, ℕ, zero, suc, ◌+◌, ◌-◌, ◌<◌, inl, inr, Bool, List, [], ◌∷◌, ◌++◌, length, replicate, arith, refl, sym, ◌∙◌, ap, subst, append_assoc}
 use Rattle.std.proofs.lemmas.List.{length-replicate}
-use Rattle.bz_model.specs.Spec.{Spec, Node, node_at, body_of}
+use Rattle.bz_model.specs.Spec.{Spec}
 use Rattle.bz_model.specs.Object.{Object, Objects, none, more, count}
-use Rattle.bz_model.specs.Object.Object.{Dot, Pick, Tuple, SeqOf}
 use Rattle.bz_model.specs.Measures.{size}
 use Rattle.object_store.specs.declared.token.Token.{Token}
 use Rattle.object_store.specs.declared.token.Token.TheVariants as token
-use Rattle.object_store.specs.declared.visit.Visit.{Visit}
-use Rattle.object_store.specs.Seen.{parts_at}
-use Rattle.object_store.specs.Tokens.{tokens_of, tokens_all, BelongEach}
-use Rattle.object_store.specs.Waiting.{joined, Waits, Shows, ShowsClass, ShowsTuple, ShowsLeaf, ShowsPick, ShowsList}
+use Rattle.object_store.specs.Tokens.{tokens_of, tokens_all}
+use Rattle.object_store.specs.Waiting.{joined}
 use Rattle.pointing.specs.Atoms.{is_atomic_node}
-use Rattle.pointing.specs.Marking.{Marks, MarksOne, Splits, chosen, choices, choice_at}
-use Rattle.pointing.specs.Ways.{here_or, way, way_among}
-use Rattle.pointing.specs.Writing.{token_at, pick_of, copied, ToCome, Copies, MarksFirst, Writes, Writing, WritesOn, ComesTo}
+use Rattle.pointing.specs.Marking.{Marks, MarksOne, Splits, chosen}
+use Rattle.pointing.specs.Ways.{way, way_among}
+use Rattle.pointing.specs.Writing.{pick_of, copied, ToCome, Copies, MarksFirst, Writes}
 use Rattle.pointing.specs.declared.pieces.Piece.{Piece}
 use Rattle.pointing.specs.declared.pieces.Piece.TheVariants as piece
-use Rattle.pointing.proofs.Marked.{marked-below, at-node, same-body, one-at, split-at}
-use Rattle.pointing.proofs.Searches.{here-is, later-is, as-many}
-use Rattle.pointing.proofs.Copying.{copies-all, copies-on}
+use Rattle.pointing.proofs.Marked.{marked-below, one-at, split-at}
+use Rattle.pointing.proofs.Searches.{here-is, later-is}
+use Rattle.pointing.proofs.Copying.{copies-all}
 
 -- The tokens of a choice.
 pub chosen-tokens : (n i : ℕ) (o : Object) → tokens_of (chosen n i o) ≡ pick_of n i ++ tokens_of o
@@ -95,16 +92,16 @@ module _ (s : Spec) (whole : List Token) (ps : List Piece) where
     | inl r ↦
         let mark : Marks s has part o a q = r.0 in
         let spelled : w ++ (tokens_all before ++ (tokens_of q ++ (token.Count (count after) ∷ tokens_all after))) ≡ ((w ++ tokens_of q) ++ token.Count (count after) ∷ []) ++ tokens_all os =
-            ap (λ z. w ++ (tokens_all z ++ (tokens_of q ++ (token.Count (count after) ∷ tokens_all after)))) r.1
-            ∙ sym (append_assoc w (tokens_of q) (token.Count (count after) ∷ tokens_all after))
-            ∙ ap (λ z. (w ++ tokens_of q) ++ (token.Count (count after) ∷ tokens_all z)) r.2
-            ∙ sym (append_assoc (w ++ tokens_of q) (token.Count (count after) ∷ []) (tokens_all os)) in
+        ap (λ z. w ++ (tokens_all z ++ (tokens_of q ++ (token.Count (count after) ∷ tokens_all after)))) r.1
+        ∙ sym (append_assoc w (tokens_of q) (token.Count (count after) ∷ tokens_all after))
+        ∙ ap (λ z. (w ++ tokens_of q) ++ (token.Count (count after) ∷ tokens_all z)) r.2
+        ∙ sym (append_assoc (w ++ tokens_of q) (token.Count (count after) ∷ []) (tokens_all os)) in
         let same : count after ≡ count os = ap count r.2 in
         let zero_before : count before ≡ 0 = ap count r.1 in
         let tail : Copies (length (replicate k part)) (Writes s whole ps []) (replicate k part ++ es) (joined os others) ((w ++ tokens_of q) ++ token.Count (count after) ∷ []) =
-            copies-all (Writes s whole ps []) (replicate k part) es os others ((w ++ tokens_of q) ++ token.Count (count after) ∷ []) (length-replicate k part ∙ (let f : k ≡ count os = omega arith in f)) (subst (Writes s whole ps [] es others) spelled h) in
+        copies-all (Writes s whole ps []) (replicate k part) es os others ((w ++ tokens_of q) ++ token.Count (count after) ∷ []) (length-replicate k part ∙ (let f : k ≡ count os = omega arith in f)) (subst (Writes s whole ps [] es others) spelled h) in
         let rest : Writes s whole (copied (count after) ++ ps) [] (replicate k part ++ es) (joined os others) ((w ++ tokens_of q) ++ token.Count (count after) ∷ []) =
-            put-copied (count after) [] (replicate k part ++ es) (joined os others) ((w ++ tokens_of q) ++ token.Count (count after) ∷ []) (subst (λ n. Copies n (Writes s whole ps []) (replicate k part ++ es) (joined os others) ((w ++ tokens_of q) ++ token.Count (count after) ∷ [])) (length-replicate k part ∙ (let f : k ≡ count after = omega arith in f)) tail) in
+        put-copied (count after) [] (replicate k part ++ es) (joined os others) ((w ++ tokens_of q) ++ token.Count (count after) ∷ []) (subst (λ n. Copies n (Writes s whole ps []) (replicate k part ++ es) (joined os others) ((w ++ tokens_of q) ++ token.Count (count after) ∷ [])) (length-replicate k part ∙ (let f : k ≡ count after = omega arith in f)) tail) in
         let first : MarksFirst s (way o a) (Writes s whole (piece.Count (count after) ∷ (copied (count after) ++ ps)) []) part (replicate k part ++ es) o (joined os others) w = record { atom = a; marked = q; marks = mark; is_way = refl; rest = rest } in
         subst (λ n. Begins j n (more o os) a (λ places. (count after ≡ suc k - n - 1) × Copies n (AtMarked (piece.Count (count after) ∷ []) (count after) places) (replicate (suc k) part ++ es) (more o (joined os others)) w)) (sym zero_before)
         (record { later = way o a; is_way = way-here j a o os (marked-below s has mark); goal_holds = ((let f : count after ≡ suc k - 0 - 1 = omega arith in f), first) })
@@ -112,9 +109,9 @@ module _ (s : Spec) (whole : List Token) (ps : List Piece) where
         let front = r.1 in
         let longer : count before ≡ suc (count front) = ap count r.4 in
         let spelled : w ++ (tokens_all before ++ (tokens_of q ++ (token.Count (count after) ∷ tokens_all after))) ≡ (w ++ tokens_of o) ++ (tokens_all front ++ (tokens_of q ++ (token.Count (count after) ∷ tokens_all after))) =
-            ap (λ z. w ++ (tokens_all z ++ (tokens_of q ++ (token.Count (count after) ∷ tokens_all after)))) r.4
-            ∙ ap (λ z. w ++ z) (append_assoc (tokens_of o) (tokens_all front) (tokens_of q ++ (token.Count (count after) ∷ tokens_all after)))
-            ∙ sym (append_assoc w (tokens_of o) (tokens_all front ++ (tokens_of q ++ (token.Count (count after) ∷ tokens_all after)))) in
+        ap (λ z. w ++ (tokens_all z ++ (tokens_of q ++ (token.Count (count after) ∷ tokens_all after)))) r.4
+        ∙ ap (λ z. w ++ z) (append_assoc (tokens_of o) (tokens_all front) (tokens_of q ++ (token.Count (count after) ∷ tokens_all after)))
+        ∙ sym (append_assoc w (tokens_of o) (tokens_all front ++ (tokens_of q ++ (token.Count (count after) ∷ tokens_all after)))) in
         let on = split-begins part es os others front after q (suc j) r.0 k (w ++ tokens_of o) (let f : count (more o os) ≡ suc (count os) = refl in omega arith) r.2 (subst (Writes s whole ps [] es others) spelled h) in
         let kept = on.goal_holds.0 in
         subst (λ n. Begins j n (more o os) a (λ places. (count after ≡ suc k - n - 1) × Copies n (AtMarked (piece.Count (count after) ∷ []) (count after) places) (replicate (suc k) part ++ es) (more o (joined os others)) w)) (sym longer)

@@ -1,6 +1,6 @@
 -- What a visit shows of the object with the marked atom is written, kind by kind.
-use Rattle.std.proofs.Common.{◌≡◌, ℕ, zero, suc, ◌+◌, ◌-◌, ◌<◌, Bool, List, [], ◌∷◌, ◌++◌, length, arith, refl, sym, ◌∙◌, ap, subst, append_assoc, append-nil, Some, slice_get}
-use Rattle.bz_model.specs.Spec.{Spec, Node, node_at, body_of}
+use Rattle.std.proofs.Common.{◌≡◌, ℕ, suc, ◌+◌, ◌-◌, Bool, List, [], ◌∷◌, ◌++◌, length, arith, refl, sym, ◌∙◌, ap, subst, append_assoc, append-nil, Some, slice_get}
+use Rattle.bz_model.specs.Spec.{Spec, Node, node_at}
 use Rattle.bz_model.specs.Object.{Object, Objects, none, more, count}
 use Rattle.bz_model.specs.Object.Object.{Unit_, Dot, Pick, Tuple, SeqOf}
 use Rattle.object_store.specs.declared.token.Token.{Token}
@@ -8,10 +8,9 @@ use Rattle.object_store.specs.declared.token.Token.TheVariants as token
 use Rattle.object_store.specs.declared.visit.Visit.{Visit}
 use Rattle.object_store.specs.Seen.{nodes_below, parts_at}
 use Rattle.object_store.specs.Tokens.{tokens_of, tokens_all}
-use Rattle.object_store.specs.Waiting.{joined, Waits, Shows, ShowsClass, ShowsTuple, ShowsLeaf, ShowsPick, ShowsList}
+use Rattle.object_store.specs.Waiting.{joined, Shows, ShowsClass, ShowsTuple, ShowsLeaf, ShowsPick, ShowsList}
 use Rattle.pointing.specs.Atoms.{is_atomic_node}
 use Rattle.pointing.specs.Marking.{Marks, MarksOne, Splits, choices, choice_at}
-use Rattle.pointing.specs.Ways.{way, way_among}
 use Rattle.pointing.specs.Writing.{token_at, pick_of, copied, Copies, MarksFirst, Writes, Writing, WritesOn, ComesTo}
 use Rattle.pointing.specs.declared.pieces.Piece.{Piece}
 use Rattle.pointing.specs.declared.pieces.Piece.TheVariants as piece
@@ -98,9 +97,9 @@ module _ (s : Spec) (whole : List Token) (ps : List Piece) (places : List ℕ) (
       let marks : Marks s has part k.object m.atom r.3 = subst (λ z. Marks s has z k.object m.atom r.3) same (subst (λ z. Marks s has r.1 z m.atom r.3) (sym f.1) r.5) in
       let pick : List Token = pick_of (choices has k.parts) (choice_at has k.parts option) in
       let spelled : w ++ tokens_of m.marked ≡ (w ++ pick) ++ tokens_of r.3 =
-          ap (λ z. w ++ tokens_of z) r.7 ∙ ap (λ z. w ++ z) (chosen-tokens (choices has k.parts) (choice_at has k.parts r.0) r.3)
-          ∙ ap (λ i. w ++ (pick_of (choices has k.parts) (choice_at has k.parts i) ++ tokens_of r.3)) (sym f.0)
-          ∙ sym (append_assoc w pick (tokens_of r.3)) in
+      ap (λ z. w ++ tokens_of z) r.7 ∙ ap (λ z. w ++ z) (chosen-tokens (choices has k.parts) (choice_at has k.parts r.0) r.3)
+      ∙ ap (λ i. w ++ (pick_of (choices has k.parts) (choice_at has k.parts i) ++ tokens_of r.3)) (sym f.0)
+      ∙ sym (append_assoc w pick (tokens_of r.3)) in
       let first : MarksFirst s places (Writes s whole ps []) part es k.object k.others (w ++ pick) = record { atom = m.atom; marked = r.3; marks = marks; is_way = m.is_way; rest = subst (Writes s whole ps [] es k.others) spelled m.rest } in
       record {
         objects = more k.object k.others;
@@ -118,8 +117,8 @@ module _ (s : Spec) (whole : List Token) (ps : List Piece) (places : List ℕ) (
       let one : MarksOne s has k.parts k.members m.atom i r.2 = subst (λ z. MarksOne s has k.parts z m.atom i r.2) (sym (same-tuple k.members r.1 r.4)) r.3 in
       let pick : List Token = pick_of (choices has k.parts) (choice_at has k.parts i) in
       let spelled : w ++ tokens_of m.marked ≡ (w ++ pick) ++ tokens_all r.2 =
-          ap (λ z. w ++ tokens_of z) r.5 ∙ ap (λ z. w ++ z) (chosen-tokens (choices has k.parts) (choice_at has k.parts i) (Tuple r.2))
-          ∙ sym (append_assoc w pick (tokens_all r.2)) in
+      ap (λ z. w ++ tokens_of z) r.5 ∙ ap (λ z. w ++ z) (chosen-tokens (choices has k.parts) (choice_at has k.parts i) (Tuple r.2))
+      ∙ sym (append_assoc w pick (tokens_all r.2)) in
       let rest : Writes s whole ps [] es k.others ((w ++ pick) ++ tokens_all r.2) = subst (Writes s whole ps [] es k.others) spelled m.rest in
       let many : length (parts_at (node_at s e)) ≡ length k.parts = ap (λ z. length (parts_at z)) k.is_node in
       let begins = one-begins s whole ps k.parts es k.members k.others r.2 0 m.atom i (length k.parts - i - 1) (w ++ pick) (as-many s k.parts k.members k.belong) refl one rest in
@@ -145,9 +144,9 @@ module _ (s : Spec) (whole : List Token) (ps : List Piece) (places : List ℕ) (
       let split : Splits s has part k.members m.atom before q after = subst (λ z. Splits s has part z m.atom before q after) (sym (same-list k.members r.0 r.5)) r.4 in
       let i = count before in
       let spelled : w ++ tokens_of m.marked ≡ (w ++ token.Count i ∷ []) ++ (tokens_all before ++ (tokens_of q ++ (token.Count (count after) ∷ tokens_all after))) =
-          ap (λ z. w ++ tokens_of z) r.6
-          ∙ ap (λ z. w ++ (token.Count i ∷ (tokens_all before ++ (tokens_of q ++ z)))) (append-nil (token.Count (count after) ∷ tokens_all after))
-          ∙ sym (append_assoc w (token.Count i ∷ []) (tokens_all before ++ (tokens_of q ++ (token.Count (count after) ∷ tokens_all after)))) in
+      ap (λ z. w ++ tokens_of z) r.6
+      ∙ ap (λ z. w ++ (token.Count i ∷ (tokens_all before ++ (tokens_of q ++ z)))) (append-nil (token.Count (count after) ∷ tokens_all after))
+      ∙ sym (append_assoc w (token.Count i ∷ []) (tokens_all before ++ (tokens_of q ++ (token.Count (count after) ∷ tokens_all after)))) in
       let rest = subst (Writes s whole ps [] es k.others) spelled m.rest in
       let begins = split-begins s whole ps part es k.members k.others before after q 0 m.atom parts (w ++ token.Count i ∷ []) (sym k.counted) split rest in
       let at : places ≡ (0 + i) ∷ begins.later = m.is_way ∙ begins.is_way in

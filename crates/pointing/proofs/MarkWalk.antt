@@ -1,17 +1,17 @@
 -- A walk over an object writes it with its atom marked.
-use Rattle.std.proofs.Common.{◌≡◌, ℕ, zero, suc, arith, ◌<◌, ◌↔◌, List, [], ◌∷◌, ◌++◌, refl, sym, ◌∙◌, ap, subst, Option, Some, None}
+use Rattle.std.proofs.Common.{◌≡◌, ℕ, zero, suc, arith, ◌<◌, ◌↔◌, List, [], ◌∷◌, refl, sym, ◌∙◌, subst, Option, Some, None}
 use Rattle.std.specs.Prelude.{option_to_list, IfNone}
 use Rattle.bz_model.specs.Spec.{Spec}
-use Rattle.bz_model.specs.Object.{Objects, none, more}
+use Rattle.bz_model.specs.Object.{none, more}
 use Rattle.object_store.specs.declared.token.Token.{Token}
 use Rattle.object_store.specs.declared.visit.Visit.{Visit}
-use Rattle.object_store.specs.Tokens.{tokens_of, IsOf, AreOf}
+use Rattle.object_store.specs.Tokens.{IsOf, AreOf}
 use Rattle.object_store.specs.Waiting.{Waits, Shows}
 use Rattle.object_store.specs.Walking.{Walking, IsVisit, IsEnd, HasNoObject}
 use Rattle.object_store.proofs.Waiting.{nothing-waits}
 use Rattle.pointing.specs.Calls.{AreMarked}
 use Rattle.pointing.specs.Ways.{way}
-use Rattle.pointing.specs.Writing.{Writes, Writing, WritesOn, IsDue, SameWriting, with_first, ComesTo, HasWritten}
+use Rattle.pointing.specs.Writing.{Writes, Writing, WritesOn, IsDue, with_first, ComesTo, HasWritten}
 use Rattle.pointing.specs.declared.pieces.Piece.{Piece}
 use Rattle.pointing.specs.declared.pieces.Piece.TheVariants as piece
 
@@ -28,7 +28,7 @@ marking-start s plain places walk now system of asked waits a b c = record {
   on = λ tokens atom are is_way.
       let w = waits are.from in
       let first : Writes s tokens (piece.Marked ∷ []) places (are.from.body ∷ []) (more are.from.object none) [] =
-          record { atom = atom; marked = are.to.object; marks = are.marks; is_way = is_way; rest = (refl, refl, are.to.spelled) } in
+      record { atom = atom; marked = are.to.object; marks = are.marks; is_way = is_way; rest = (refl, refl, are.to.spelled) } in
       record {
         objects = more are.from.object none;
         waits = w.1;

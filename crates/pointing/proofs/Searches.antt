@@ -1,22 +1,20 @@
 -- A search for an atom finds the way down to it.
-use Rattle.std.proofs.Common.{◌≡◌, ℕ, zero, suc, ◌+◌, ◌-◌, ◌<◌, ◌≤◌, ◌⊎◌, inl, inr, List, [], ◌∷◌, ◌++◌, map, length, arith, refl, sym, ◌∙◌, ap, subst, append_assoc, append-nil, Bool, true, false, Some}
+use Rattle.std.proofs.Common.{◌≡◌, ℕ, zero, suc, ◌+◌, ◌-◌, ◌<◌, ◌≤◌, ◌⊎◌, inl, inr, List, [], ◌∷◌, ◌++◌, map, length, arith, refl, sym, ◌∙◌, ap, subst, append_assoc, append-nil, true, false}
 use Rattle.std.specs.Prelude.{reverse}
 use Rattle.std.proofs.lemmas.List.{map-append}
 use Rattle.std.proofs.lemmas.Grind.{reverse_onto}
 use Rattle.bz_model.specs.Spec.{Spec, Node, node_at}
 use Rattle.bz_model.specs.Object.{Object, Objects, none, more, count}
-use Rattle.bz_model.specs.Object.Object.{Unit_, Dot, Pick, Tuple, SeqOf}
+use Rattle.bz_model.specs.Object.Object.{Unit_, Dot}
 use Rattle.bz_model.specs.Measures.{size, sizes}
 use Rattle.object_store.specs.declared.token.Token.{Token}
 use Rattle.object_store.specs.declared.visit.Visit.{Visit}
-use Rattle.object_store.specs.declared.visit.Visit.TheVariants as visit
 use Rattle.object_store.specs.Seen.{parts_at}
-use Rattle.object_store.specs.Tokens.{BelongEach, IsOf, AreOf, size_of}
+use Rattle.object_store.specs.Tokens.{BelongEach, AreOf}
 use Rattle.object_store.specs.Waiting.{joined, Waits, Shows, ShowsClass, ShowsTuple, ShowsLeaf, ShowsPick, ShowsList}
 use Rattle.object_store.specs.Walking.{Walking, IsVisit, IsEnd, HasNoObject}
 use Rattle.object_store.proofs.Waiting.{asked, nothing-waits}
-use Rattle.object_store.proofs.Sizes.{size_of-tokens}
-use Rattle.pointing.specs.Ways.{here_or, way, way_among, place, places, one_done, finished, opened, Search, way_from, IsNearer, IsFound, HasPassed}
+use Rattle.pointing.specs.Ways.{here_or, way, way_among, place, places, finished, opened, Search, way_from, IsNearer, HasPassed}
 use Rattle.pointing.specs.declared.ways.Level.{Level}
 
 pub here-is : (m n : ℕ) (a b : List ℕ) → n < m → here_or (m - n) a b ≡ a

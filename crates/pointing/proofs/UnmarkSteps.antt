@@ -1,11 +1,11 @@
 -- What is marked at a node tells what it came from.
-use Rattle.std.proofs.Common.{◌≡◌, ◌≢◌, ℕ, zero, suc, ◌+◌, ◌-◌, ◌<◌, List, [], ◌∷◌, ◌++◌, length, map, take, arith, refl, sym, ◌∙◌, ap, subst, append_assoc, append-nil, Bool, true, Some, slice_get}
+use Rattle.std.proofs.Common.{◌≡◌, ◌≢◌, ℕ, zero, suc, ◌+◌, ◌-◌, List, ◌∷◌, ◌++◌, map, take, arith, refl, sym, ◌∙◌, ap, subst, append_assoc, append-nil, Bool, true, Some, slice_get}
 use Rattle.std.specs.Prelude.{option_map}
 use Rattle.std.proofs.lemmas.List.{take-map}
 use Rattle.std.proofs.lemmas.Option.{slice_get-map}
 use Rattle.bz_model.specs.Spec.{Spec, Node, node_at}
 use Rattle.bz_model.specs.Object.{Object, Objects, none, more, count}
-use Rattle.bz_model.specs.Object.Object.{Pick, Tuple, SeqOf}
+use Rattle.bz_model.specs.Object.Object.{Pick, Tuple}
 use Rattle.bz_model.specs.Measures.{size, sizes}
 use Rattle.class_system.specs.Views.{number}
 use Rattle.class_system.specs.declared.ids.ExprId.{ExprId}
@@ -19,7 +19,7 @@ use Rattle.pointing.specs.Correspondence.{IsPointable}
 use Rattle.pointing.specs.Forms.{all_forms}
 use Rattle.pointing.specs.PointedForm.{how_many}
 use Rattle.pointing.specs.Marking.{Marks, MarksOne, Splits, chosen, choices, choice_at}
-use Rattle.pointing.specs.Unmarking.{due_copies, ToRead, Passes, Unmarks, Reads, Unmarking, ReadsOn, IsChoice}
+use Rattle.pointing.specs.Unmarking.{due_copies, ToRead, Passes, Unmarks, Reads, IsChoice}
 use Rattle.pointing.specs.declared.dues.Due.{Due}
 use Rattle.pointing.specs.declared.dues.Due.TheVariants as due
 use Rattle.pointing.proofs.AtomMarks.{mark-found}
@@ -172,7 +172,7 @@ module _ (s : Spec) (whole : List Token) (atom : ℕ) (ds : List Due) where
       let at_rest : slice_get rest j ≡ Some part.0 = (let e : slice_get (p ∷ rest) (suc j) ≡ Some part.0 = subst (λ z. slice_get z (suc j) ≡ Some part.0) ep (subst (λ z. slice_get parts z ≡ Some part.0) ei at) in e) in
       let so_far : size_of w + a ≡ size_of (w ++ tokens_of o) + b = (let e = size_of-append w (tokens_of o) in let f = size_of-tokens o in omega arith) in
       let all : Reads s whole atom ds (size_of (w ++ tokens_of o) + b) others ((w ++ tokens_of o) ++ tokens_all tail) =
-          subst (λ n. Reads s whole atom ds n others ((w ++ tokens_of o) ++ tokens_all tail)) so_far (subst (Reads s whole atom ds (size_of w + a) others) (ap (λ z. w ++ tokens_all z) eo ∙ sym (append_assoc w (tokens_of o) (tokens_all tail))) h) in
+      subst (λ n. Reads s whole atom ds n others ((w ++ tokens_of o) ++ tokens_all tail)) so_far (subst (Reads s whole atom ds (size_of w + a) others) (ap (λ z. w ++ tokens_all z) eo ∙ sym (append_assoc w (tokens_of o) (tokens_all tail))) h) in
       let next = tuple-reads others (w ++ tokens_of o) part later told k at_rest (let e = ap count em in let f : count (more o marked) ≡ suc (count marked) = refl in omega arith) all in
       subst (λ z. Passes z (Reads s whole atom (due.Marked part ∷ (due_copies later ++ ds)) told) (joined ms others) w) (sym ei)
       (subst (λ z. Passes (suc j) (Reads s whole atom (due.Marked part ∷ (due_copies later ++ ds)) told) (joined z others) w) (sym em) next)

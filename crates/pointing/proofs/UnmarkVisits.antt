@@ -1,7 +1,7 @@
 -- What a visit shows of a marked object is read, kind by kind.
-use Rattle.std.proofs.Common.{◌≡◌, ◌≢◌, ℕ, zero, suc, ◌+◌, ◌-◌, ◌<◌, List, [], ◌∷◌, ◌++◌, length, map, arith, refl, sym, ◌∙◌, ap, subst, append_assoc, append-nil, Some, slice_get}
+use Rattle.std.proofs.Common.{◌≡◌, ◌≢◌, ℕ, suc, ◌+◌, ◌-◌, List, [], ◌∷◌, ◌++◌, length, arith, refl, sym, ◌∙◌, ap, subst, append_assoc, Some, slice_get}
 use Rattle.bz_model.specs.Spec.{Spec, Node, node_at}
-use Rattle.bz_model.specs.Object.{Object, Objects, none, more, count}
+use Rattle.bz_model.specs.Object.{Objects, none, more, count}
 use Rattle.bz_model.specs.Object.Object.{Dot, Pick, Tuple, SeqOf}
 use Rattle.bz_model.specs.Measures.{sizes}
 use Rattle.class_system.specs.declared.ids.ExprId.{ExprId}
@@ -10,11 +10,11 @@ use Rattle.object_store.specs.declared.token.Token.TheVariants as token
 use Rattle.object_store.specs.declared.visit.Visit.{Visit}
 use Rattle.object_store.specs.Seen.{nodes_below, parts_at}
 use Rattle.object_store.specs.Tokens.{tokens_of, tokens_all, size_of}
-use Rattle.object_store.specs.Waiting.{joined, Waits, Shows, ShowsClass, ShowsTuple, ShowsLeaf, ShowsPick, ShowsList}
+use Rattle.object_store.specs.Waiting.{joined, Shows, ShowsClass, ShowsTuple, ShowsLeaf, ShowsPick, ShowsList}
 use Rattle.object_store.proofs.Sizes.{size_of-append, size_of-all}
 use Rattle.pointing.specs.Atoms.{is_atomic_node}
 use Rattle.pointing.specs.Correspondence.{IsPointable}
-use Rattle.pointing.specs.Marking.{Marks, MarksOne, Splits, choices}
+use Rattle.pointing.specs.Marking.{MarksOne, choices}
 use Rattle.pointing.specs.Writing.{token_at}
 use Rattle.pointing.specs.Unmarking.{due_copies, Passes, Unmarks, UnmarksTuple, UnmarksSplit, ReadsLast, Reads, Unmarking, ReadsOn, ReadsTo}
 use Rattle.pointing.specs.declared.dues.Due.{Due}
@@ -167,14 +167,14 @@ module _ (s p : Spec) (whole : List Token) (atom : ℕ) (ds : List Due) (told : 
       let start : List Token = w ++ token.Count 0 ∷ [] in
       let front : List Token = start ++ tokens_all members in
       let so_far : size_of w + k.atom ≡ size_of front + d.atom =
-          (let a = size_of-append start (tokens_all members) in let b = size_of-append w (token.Count 0 ∷ []) in let c : size_of (token.Count 0 ∷ []) ≡ 0 + 0 = refl in let f = size_of-all members in let g = d.number_is in let i = ap sizes same in omega arith) in
+      (let a = size_of-append start (tokens_all members) in let b = size_of-append w (token.Count 0 ∷ []) in let c : size_of (token.Count 0 ∷ []) ≡ 0 + 0 = refl in let f = size_of-all members in let g = d.number_is in let i = ap sizes same in omega arith) in
       let tail : List Token = tokens_all members ++ tokens_of d.object in
       let tail_is : front ++ tokens_of d.object ≡ w ++ token.Count 0 ∷ tail =
-          ap (λ z. z ++ tokens_of d.object) (append_assoc w (token.Count 0 ∷ []) (tokens_all members)) ∙ append_assoc w (token.Count 0 ∷ tokens_all members) (tokens_of d.object) in
+      ap (λ z. z ++ tokens_of d.object) (append_assoc w (token.Count 0 ∷ []) (tokens_all members)) ∙ append_assoc w (token.Count 0 ∷ tokens_all members) (tokens_of d.object) in
       let all : w ++ tokens_of (SeqOf k.objects) ≡ (w ++ token.Count (n + 1 + count k.later) ∷ tail) ++ tokens_all k.later =
-          ap (λ z. w ++ token.Count z ∷ tokens_all k.objects) (let f = d.counted in let g = ap count same in (let i : count k.objects ≡ n + 1 + count k.later = omega arith in i))
-          ∙ ap (λ z. w ++ token.Count (n + 1 + count k.later) ∷ z) (d.tokens ∙ ap (λ z. tokens_all z ++ (tokens_of d.object ++ tokens_all k.later)) (sym same) ∙ sym (append_assoc (tokens_all members) (tokens_of d.object) (tokens_all k.later)))
-          ∙ sym (append_assoc w (token.Count (n + 1 + count k.later) ∷ tail) (tokens_all k.later)) in
+      ap (λ z. w ++ token.Count z ∷ tokens_all k.objects) (let f = d.counted in let g = ap count same in (let i : count k.objects ≡ n + 1 + count k.later = omega arith in i))
+      ∙ ap (λ z. w ++ token.Count (n + 1 + count k.later) ∷ z) (d.tokens ∙ ap (λ z. tokens_all z ++ (tokens_of d.object ++ tokens_all k.later)) (sym same) ∙ sym (append_assoc (tokens_all members) (tokens_of d.object) (tokens_all k.later)))
+      ∙ sym (append_assoc w (token.Count (n + 1 + count k.later) ∷ tail) (tokens_all k.later)) in
       let last_read : ReadsLast place n (Reads s whole atom ds (size_of front + d.atom)) last rest (front ++ tokens_of d.object) = record {
         front = w;
         kept = token.Count 0;
@@ -206,8 +206,8 @@ module _ (s p : Spec) (whole : List Token) (atom : ℕ) (ds : List Due) (told : 
       let number_is : before + 1 + count m.later ≡ all = (let f = ap count same in let g = k.counted in omega arith) in
       let tokens : List Token = m.front ++ token.Count all ∷ m.tail in
       let rest : Reads s whole atom ds told k.others (tokens ++ tokens_all k.members) =
-          subst (λ z. Reads s whole atom ds told k.others (tokens ++ tokens_all z)) (sym same)
-          (subst (λ z. Reads s whole atom ds told k.others ((m.front ++ token.Count z ∷ m.tail) ++ tokens_all m.later)) number_is m.rest) in
+      subst (λ z. Reads s whole atom ds told k.others (tokens ++ tokens_all z)) (sym same)
+      (subst (λ z. Reads s whole atom ds told k.others ((m.front ++ token.Count z ∷ m.tail) ++ tokens_all m.later)) number_is m.rest) in
       record {
         objects = joined k.members k.others;
         waits = k.waits;

@@ -1,8 +1,8 @@
 -- A walk over a marked object reads what it came from.
-use Rattle.std.proofs.Common.{◌≡◌, ℕ, zero, suc, ◌+◌, ◌<◌, ◌↔◌, List, [], ◌∷◌, ◌++◌, arith, refl, sym, ◌∙◌, ap, subst, Option, Some, None}
+use Rattle.std.proofs.Common.{◌≡◌, ℕ, zero, suc, ◌+◌, ◌<◌, ◌↔◌, List, [], ◌∷◌, ◌++◌, arith, refl, sym, ◌∙◌, subst, Option, Some, None}
 use Rattle.std.specs.Prelude.{option_to_list, IfNone}
-use Rattle.bz_model.specs.Spec.{Spec, Node, body_of}
-use Rattle.bz_model.specs.Object.{Object, Objects, none, more}
+use Rattle.bz_model.specs.Spec.{Spec, body_of}
+use Rattle.bz_model.specs.Object.{Objects, none, more}
 use Rattle.class_system.specs.declared.ids.ExprId.{ExprId}
 use Rattle.object_store.specs.declared.token.Token.{Token}
 use Rattle.object_store.specs.declared.visit.Visit.{Visit}
@@ -103,6 +103,6 @@ read-resolved s p node to e v before middle now leads same_dues same_told read =
         let k : Unmarks s node.0 (Reads s whole atom before.dues) m os before.written = h in
         let r = leads.on k.object m k.atom k.marks in
         let rest : Reads s whole atom before.dues (size_of middle.written + k.atom) os (middle.written ++ tokens_of r.0) =
-            subst (λ n. Reads s whole atom before.dues (n + k.atom) os (middle.written ++ tokens_of r.0)) (sym leads.no_atom) (subst (Reads s whole atom before.dues (size_of before.written + k.atom) os) r.2 k.rest) in
+        subst (λ n. Reads s whole atom before.dues (n + k.atom) os (middle.written ++ tokens_of r.0)) (sym leads.no_atom) (subst (Reads s whole atom before.dues (size_of before.written + k.atom) os) r.2 k.rest) in
         let first : Unmarks s to.0 (Reads s whole atom middle.dues) m os middle.written = record { atom = k.atom; object = r.0; marks = r.1; rest = subst (λ z. Reads s whole atom z (size_of middle.written + k.atom) os (middle.written ++ tokens_of r.0)) (sym same_dues) rest } in
         first

@@ -195,21 +195,14 @@ impl<'a> Writing<'a> {
     }
 
     /// Marks the part at the next place of a product.
-    fn mark_part(
-        &mut self,
-        system: &System,
-        atomic: &[bool],
-        e: ExprId,
-    ) -> Result<(), AllocError>
+    fn mark_part(&mut self, system: &System, atomic: &[bool], e: ExprId) -> Result<(), AllocError>
         requires in_range { e.0 < length system.now.nodes }
         requires atomic { atomic.now ≡ atomic_nodes system.now }
         ensures written { OnOk result (HasWritten system.now e.0 Product
             (with_first (Marked ∷ []) self.old) self.new) }
     {
         let place = self.next_place();
-        let later = parts_of(system, e)
-            .saturating_sub(place)
-            .saturating_sub(1);
+        let later = parts_of(system, e).saturating_sub(place).saturating_sub(1);
         self.choose(system, atomic, e, place)?;
         self.pieces.push_copied(later as usize)?;
         self.pieces.push(Piece::Marked)?;

@@ -96,16 +96,12 @@ impl Pointed {
     /// The object of class 0 with its atom of this number marked, as one of the pointed class 0.
     ///
     /// Atoms are numbered from 0 in token order. Nothing recurses over the object.
-    pub fn mark(
-        &self,
-        founded: &Founded,
-        shape: &Shape,
-        atom: u64,
-    ) -> Result<Shape, AllocError>
+    pub fn mark(&self, founded: &Founded, shape: &Shape, atom: u64) -> Result<Shape, AllocError>
         requires same { IsPointingOf founded.now self.now }
         requires is_of { IsOf founded.now 0 shape.now.items }
         requires there { atom < size_of shape.now.items }
         ensures marked { IfOk result (λ m. AreMarked founded.now shape.now.items atom m.items) }
+        ensures size { IfOk result (λ m. size_of m.items ≡ size_of shape.now.items) }
     {
         founded.known();
         let system = founded.system();
@@ -126,6 +122,8 @@ impl Pointed {
         requires few { length shape.now.items < 2 ^ 32 }
         ensures marked { IfOk result (λ r. AreMarked founded.now r.shape.items r.atom
             shape.now.items) }
+        ensures size { IfOk result (λ r. size_of r.shape.items ≡ size_of shape.now.items) }
+        ensures there { IfOk result (λ r. r.atom < size_of r.shape.items) }
     {
         founded.known();
         let system = founded.system();

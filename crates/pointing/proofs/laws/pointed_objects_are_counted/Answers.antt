@@ -1,4 +1,3 @@
-use Rattle.bz_model.specs.Spec.{Spec}
 use Rattle.pointing.specs.Atoms.{is_atomic_node}
 use Rattle.pointing.specs.PointedSpec.{pointed_spec}
 use Rattle.pointing.proofs.Counting.{times-counted}

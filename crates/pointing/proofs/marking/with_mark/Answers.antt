@@ -1,7 +1,5 @@
-use Rattle.std.proofs.Common.{◌≡◌, [], refl, sym, ◌∙◌, ap, subst}
-use Rattle.bz_model.specs.Object.{none}
+use Rattle.std.proofs.Common.{◌∙◌, ap, subst}
 use Rattle.object_store.specs.Walking.{IsNext}
-use Rattle.pointing.specs.Writing.{WritesOn}
 use Rattle.pointing.proofs.MarkWalk.{marking-on, marking-end}
 use Rattle.pointing.proofs.marking.with_mark.Goals as goal
 
@@ -11,7 +9,9 @@ visits-preserved c =
     marking-on c.args.system.now c.args.shape.now.items c.args.places.now c.visits.walk c.next.new.self c.in-Node.e.0 c.in-Node.visit c.visits.writing c.visit.new.self visit c.in_ok-visit-in-Node.ensures.written c.visits.invariant
 
 pub returns-in-End : goal.returns-in-End
-returns-in-End c = record { marked = λ tokens atom are is_way.
-  let at_end = subst (IsNext c.visits.walk c.next.new.self) c.in-End.is c.in_ok-e.ensures.next in
-  let whole = marking-end c.args.system.now c.args.shape.now.items c.args.places.now c.visits.walk c.next.new.self c.visits.writing tokens atom are is_way at_end c.visits.invariant in
-  ap (λ w. w.written) c.writing-in-End.view_is ∙ c.in_ok-finish-in-End.ensures.whole c.args.system.now tokens whole }
+returns-in-End c = record {
+  marked = λ tokens atom are is_way.
+      let at_end = subst (IsNext c.visits.walk c.next.new.self) c.in-End.is c.in_ok-e.ensures.next in
+      let whole = marking-end c.args.system.now c.args.shape.now.items c.args.places.now c.visits.walk c.next.new.self c.visits.writing tokens atom are is_way at_end c.visits.invariant in
+      ap (λ w. w.written) c.writing-in-End.view_is ∙ c.in_ok-finish-in-End.ensures.whole c.args.system.now tokens whole;
+}

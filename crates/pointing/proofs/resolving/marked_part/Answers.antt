@@ -1,4 +1,4 @@
-use Rattle.std.proofs.Common.{◌≡◌, ◌+◌, get_or, arith, sym, ◌∙◌}
+use Rattle.std.proofs.Common.{get_or, arith, sym, ◌∙◌}
 use Rattle.well_founded.specs.EmptyObjects.{answer_at}
 use Rattle.pointing.proofs.AtomMarks.{count-more, count-one, count-none}
 use Rattle.pointing.proofs.resolving.marked_part.Goals as goal

@@ -1,7 +1,6 @@
 use Rattle.std.proofs.Common.{◌≡◌, ℕ, ◌+◌, ◌≤◌, List, ◌∷◌, [], ◌++◌, length, map, Some, arith, refl, sym, ◌∙◌, ap, subst, append_assoc}
 use Rattle.std.proofs.lemmas.List.{length-map}
 use Rattle.bz_model.specs.Spec.{Spec, Node, node_at, body_of}
-use Rattle.bz_model.specs.Object.{Object}
 use Rattle.class_system.proofs.Soundness.{class_in_range}
 use Rattle.class_system.specs.Views.{number, spec_node}
 use Rattle.object_store.specs.Tokens.{tokens_of, size_of}

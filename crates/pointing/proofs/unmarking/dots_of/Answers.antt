@@ -1,4 +1,4 @@
-use Rattle.std.proofs.Common.{◌≡◌, ◌+◌, ◌≤◌, ◌∷◌, [], ◌++◌, take, get_or, arith, ap, ◌∙◌}
+use Rattle.std.proofs.Common.{◌≤◌, take, get_or, arith, ap, ◌∙◌}
 use Rattle.std.proofs.lemmas.List.{take_more}
 use Rattle.object_store.specs.Tokens.{size_of, token_size}
 use Rattle.object_store.specs.declared.token.Token.{Token}

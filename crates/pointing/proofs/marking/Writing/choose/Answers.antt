@@ -1,4 +1,4 @@
-use Rattle.std.proofs.Common.{◌≡◌, ℕ, ◌≤◌, ◌++◌, ◌∷◌, [], arith, refl, sym, ◌∙◌, ap, append-nil, length}
+use Rattle.std.proofs.Common.{◌++◌, ◌∷◌, [], arith, sym, ◌∙◌, ap, append-nil, length}
 use Rattle.std.proofs.lemmas.List.{length-take-le, length-map}
 use Rattle.bz_model.specs.Spec.{node_at}
 use Rattle.object_store.specs.Seen.{parts_at}

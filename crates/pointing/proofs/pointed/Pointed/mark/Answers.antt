@@ -6,7 +6,7 @@ use Rattle.pointing.specs.Atoms.{atomic_classes}
 use Rattle.pointing.specs.Calls.{AreMarked}
 use Rattle.pointing.specs.Correspondence.{IsPointable}
 use Rattle.pointing.specs.PointedSpec.{IsPlain}
-use Rattle.pointing.proofs.Spelled.{marked-tokens}
+use Rattle.pointing.proofs.Spelled.{marked-tokens, marked-size_of}
 use Rattle.pointing.proofs.pointed.Pointed.mark.Goals as goal
 
 pub returns : goal.returns
@@ -19,4 +19,8 @@ returns c =
     let of : IsOf s 0 plain = subst (λ z. IsOf z 0 plain) (sym is) c.requires.is_of in
     let r = marked-tokens s able root plain c.args.atom of c.requires.there in
     let tokens : c.in_ok-object.object.items ≡ r.0 = c.in_ok-object.ensures.marked r.0 c.args.atom r.1 (c.deref-2.ensures.value ∙ c.in_ok-places.ensures.way r.1.from) in
-    record { marked = subst (λ z. AreMarked z plain c.args.atom c.in_ok-object.object.items) is (subst (AreMarked s plain c.args.atom) (sym tokens) r.1) }
+    let marked : AreMarked s plain c.args.atom c.in_ok-object.object.items = subst (AreMarked s plain c.args.atom) (sym tokens) r.1 in
+    record {
+      marked = subst (λ z. AreMarked z plain c.args.atom c.in_ok-object.object.items) is marked;
+      size = (marked-size_of s able root plain c.in_ok-object.object.items c.args.atom marked).0;
+    }

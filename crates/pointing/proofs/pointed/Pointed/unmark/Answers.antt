@@ -7,7 +7,7 @@ use Rattle.pointing.specs.Atoms.{atomic_classes}
 use Rattle.pointing.specs.Calls.{AreMarked}
 use Rattle.pointing.specs.Correspondence.{IsPointable}
 use Rattle.pointing.specs.PointedSpec.{IsPlain, pointed_spec}
-use Rattle.pointing.proofs.Spelled.{unmarked-tokens}
+use Rattle.pointing.proofs.Spelled.{unmarked-tokens, marked-size_of}
 use Rattle.pointing.proofs.pointed.Pointed.unmark.Goals as goal
 
 pub without_mark-requires-clause-pointable : goal.without_mark-requires-clause-pointable
@@ -26,4 +26,10 @@ returns c =
     let body = has_body s able.sound 0 able.sound.a_class in
     let r = unmarked-tokens s able root tokens of body.0 body.1 in
     let same = c.in_ok-plain.ensures.unmarked r.0 r.1 r.2 in
-    record { marked = subst (λ z. AreMarked z c.in_ok-plain.plain.items c.in_ok-plain.atom tokens) is (subst (λ z. AreMarked s c.in_ok-plain.plain.items z tokens) (sym same.1) (subst (λ z. AreMarked s z r.1 tokens) (sym same.0) r.2)) }
+    let marked : AreMarked s c.in_ok-plain.plain.items c.in_ok-plain.atom tokens = subst (λ z. AreMarked s c.in_ok-plain.plain.items z tokens) (sym same.1) (subst (λ z. AreMarked s z r.1 tokens) (sym same.0) r.2) in
+    let sized = marked-size_of s able root c.in_ok-plain.plain.items tokens c.in_ok-plain.atom marked in
+    record {
+      marked = subst (λ z. AreMarked z c.in_ok-plain.plain.items c.in_ok-plain.atom tokens) is marked;
+      size = sym sized.0;
+      there = sized.1;
+    }
