@@ -1,6 +1,6 @@
 -- Stages: what ends a call before anything is printed, and what follows where a stage goes on.
 use Rattle.std.proofs.Common.{◌≡◌, ◌≢◌, ℕ, ◌<◌, ◌≤◌, arith, List, refl, sym, subst}
-use Rattle.std.specs.Prelude.{Option, Some, None, Result, Ok, Err, IfErr}
+use Rattle.std.specs.Prelude.{Option, None, Result, Ok, Err, IfErr}
 use Rattle.std.specs.Result.{IsErrAnd}
 use Rattle.bz_model.specs.Spec.{Spec, Mode}
 use Rattle.object_store.specs.declared.token.Token.{Token}

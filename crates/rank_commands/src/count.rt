@@ -41,12 +41,7 @@ pub fn count<S: Shelf, K: Sink>(
 }
 
 /// What is printed of a specification that is read from a file.
-fn page<S: Shelf>(
-    alloc: Global,
-    file: &Word,
-    n: u64,
-    shelf: &mut S,
-) -> Result<Vec<u8>, Refusal>
+fn page<S: Shelf>(alloc: Global, file: &Word, n: u64, shelf: &mut S) -> Result<Vec<u8>, Refusal>
     requires greatest { n ≤ 500 }
     ensures ok { IfOk result (λ page. CarriesCount (files (S.content shelf.old) (S.faults shelf.old) (S.faults shelf.new)) file.now n Status.Done page.items 0) }
     ensures err { IfErr result (λ e. CarriesCount (files (S.content shelf.old) (S.faults shelf.old) (S.faults shelf.new)) file.now n (refusal_status e) (refusal_text e) 0) }

@@ -97,11 +97,7 @@ fn ranked<S: Shelf>(
 }
 
 /// What is printed of an object: its size is judged, tables are made up to it, and its rank is taken.
-fn object_ranked(
-    alloc: Global,
-    founded: &Founded,
-    shape: &Shape,
-) -> Result<Vec<u8>, Refusal>
+fn object_ranked(alloc: Global, founded: &Founded, shape: &Shape) -> Result<Vec<u8>, Refusal>
     requires unlabelled { founded.now.mode ≡ model.Mode.Unlabelled }
     requires plain { HasPlainRanges founded.now }
     requires object { IsOf founded.now 0 shape.now.items }

@@ -66,12 +66,7 @@ fn page<S: Shelf>(
 }
 
 /// What is printed of a specification: its tables are made, and the object is made by them.
-fn unranked(
-    alloc: Global,
-    founded: &Founded,
-    n: u64,
-    number: u128,
-) -> Result<Vec<u8>, Refusal>
+fn unranked(alloc: Global, founded: &Founded, n: u64, number: u128) -> Result<Vec<u8>, Refusal>
     requires greatest { n ≤ 500 }
     ensures ok { IfOk result (λ page. Unranked n number founded.now Status.Done page.items 0) }
     ensures err { IfErr result (λ e.
