@@ -1,5 +1,5 @@
 -- What is certain to be counted, made or ranked: the outcome is shown, and a command has one alone.
-use Rattle.std.proofs.Common.{◌≡◌, ◌≢◌, ℕ, zero, suc, ◌<◌, ◌≤◌, arith, List, [], ◌∷◌, length, refl, sym, ap, subst, ◌∙◌}
+use Rattle.std.proofs.Common.{◌≡◌, ◌≢◌, ℕ, ◌<◌, ◌≤◌, arith, List, [], length, refl, sym, ap, subst, ◌∙◌}
 use Rattle.std.specs.Prelude.{take, Option, Some, None, IfSome}
 use Rattle.std.proofs.lemmas.List.{take_all}
 use Rattle.bz_model.specs.Spec.{Spec, Mode, body_of}

@@ -1,9 +1,9 @@
 -- Each command has one outcome where its files are known.
-use Rattle.std.proofs.Common.{◌≡◌, ◌≢◌, ℕ, zero, suc, ◌+◌, ◌<◌, ◌≤◌, arith, List, [], ◌∷◌, ◌++◌, refl, sym, ap, subst, ◌∙◌}
+use Rattle.std.proofs.Common.{◌≡◌, ◌≢◌, ℕ, zero, suc, ◌<◌, ◌≤◌, arith, List, [], ◌++◌, refl, sym, ap, subst, ◌∙◌}
 use Rattle.std.specs.Prelude.{Option, Some}
-use Rattle.bz_model.specs.Spec.{Spec, Mode, body_of}
+use Rattle.bz_model.specs.Spec.{Spec, body_of}
 use Rattle.bz_model.specs.Object.{Object, Belongs}
-use Rattle.bz_model.specs.ObjectText.{Arrangement, object_text}
+use Rattle.bz_model.specs.ObjectText.{Arrangement}
 use Rattle.bz_laws.proofs.Texts.{one_text}
 use Rattle.object_store.specs.declared.token.Token.{Token}
 use Rattle.object_store.specs.Tokens.{size_of}
@@ -14,13 +14,13 @@ use Rattle.rank_tables.proofs.Rankable.{rankable}
 use Rattle.rank_tables.proofs.Ranking.{rank-small, rank-one}
 use Rattle.rank_tables.proofs.Shaped.{shape-rank}
 use Rattle.call_stages.specs.Lines.{feed, lines_below}
-use Rattle.call_stages.specs.Outcomes.{Outcome, Says, IsOne}
+use Rattle.call_stages.specs.Outcomes.{Says, IsOne}
 use Rattle.call_stages.specs.Stages.{Files, IsCalm}
 use Rattle.call_stages.specs.declared.status.Status.{Status}
 use Rattle.call_stages.proofs.OneReading.{one-specified-founded}
 use Rattle.object_stage.specs.ObjectStage.{ObjectRead}
 use Rattle.object_stage.proofs.OneObject.{one-object}
-use Rattle.rank_commands.specs.RankStages.{done_line, Counted, SizeJudged}
+use Rattle.rank_commands.specs.RankStages.{done_line, Counted}
 use Rattle.rank_commands.specs.CountCommand.{size_line, counts_text, AreCountsTo, CountsPrinted, CountedTo, CarriesCount}
 use Rattle.rank_commands.specs.CountCommand as counts
 use Rattle.rank_commands.specs.UnrankCommand.{number_line, object_page, ObjectOfRank, Unranked, CarriesUnrank}

@@ -1,5 +1,5 @@
 -- Each stage has one outcome where what comes next has one.
-use Rattle.std.proofs.Common.{◌≡◌, ◌≢◌, ℕ, ◌<◌, ◌≤◌, arith, List, refl, sym, ap, subst, ◌∙◌}
+use Rattle.std.proofs.Common.{◌≡◌, ◌≢◌, ℕ, ◌<◌, ◌≤◌, arith, List, sym, ap, subst, ◌∙◌}
 use Rattle.std.proofs.Math.Decide.{dec_le}
 use Rattle.bz_model.specs.Spec.{Spec, Mode}
 use Rattle.object_store.specs.declared.token.Token.{Token}
@@ -44,7 +44,7 @@ one-count-line s most d m e n h k =
     ap (λ z. too_many_line z m) node ∙ ap (λ z. too_many_line e z) size
 
 -- plain ranges have no first that isn't
-plain-not-ranged : (s : Spec) (e : ℕ) → HasPlainRanges s → ¬ (IsFirstRanged s e)
+pub plain-not-ranged : (s : Spec) (e : ℕ) → HasPlainRanges s → ¬ (IsFirstRanged s e)
 plain-not-ranged s e plain first = first.ranged.ranged (plain.plain e first.ranged.node first.ranged.is_node)
 
 module _ (s : Spec) (next : Outcome) (status : Status) (text : List ℕ) (ticks : ℕ) (memory : status ≢ Status.OutOfMemory) where

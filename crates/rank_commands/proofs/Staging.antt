@@ -1,12 +1,12 @@
 -- Stages: what ends a call before anything is printed, and what follows where a stage goes on.
 use Rattle.std.proofs.Common.{◌≡◌, ◌≢◌, ℕ, ◌<◌, ◌≤◌, arith, List, refl, sym, subst}
-use Rattle.std.specs.Prelude.{Option, Some, None, Result, Ok, Err, IfErr}
+use Rattle.std.specs.Prelude.{Option, None, Result, Ok, Err, IfErr}
 use Rattle.std.specs.Result.{IsErrAnd}
 use Rattle.bz_model.specs.Spec.{Spec, Mode}
 use Rattle.object_store.specs.declared.token.Token.{Token}
 use Rattle.object_store.specs.Tokens.{IsOf, size_of}
 use Rattle.object_text.specs.Reading.{IsRead}
-use Rattle.rank_tables.specs.Refusals.{IsFirstRanged, HasPlainRanges, HasSmallCounts}
+use Rattle.rank_tables.specs.Refusals.{HasPlainRanges, HasSmallCounts}
 use Rattle.rank_tables.specs.Tables.{TellsFault}
 use Rattle.rank_tables.specs.declared.rank_tables.RankFault.{RankFault}
 use Rattle.rank_tables.specs.declared.rank_tables.RankFault.TheVariants.{Labelled, Ranged, TooMany, OutOfMemory}
@@ -23,6 +23,7 @@ use Rattle.object_stage.specs.ObjectStage.{ObjectRead, IsObjectIn}
 use Rattle.object_stage.proofs.Judging.{ended_at_object, goes_on_with_object}
 use Rattle.rank_commands.specs.RankCommand.{RankPrinted, ObjectRanked, RankedIn, CarriesRank}
 use Rattle.rank_commands.specs.Faults.{fault_line}
+use Rattle.rank_commands.proofs.OneStage.{plain-not-ranged}
 use Rattle.rank_commands.specs.RankStages.{too_large_line, Rankable, Counted, SizeJudged}
 use Rattle.rank_commands.specs.RankStages as stages
 
@@ -33,18 +34,12 @@ tables_refused s most (Ranged e) status text memory tells says = stages.ranged e
 tables_refused s most (TooMany e n) status text memory tells says = stages.plain tells.0 tells.1 (stages.too_many e.0 n tells.2 says)
 tables_refused s most OutOfMemory status text memory tells says = absurd (memory refl)
 
-pub tables_lack_memory : (s : Spec) (most : ℕ) (e : Refusal) → e ≡ refusal.OutOfMemory → Rankable s (Counted s most Never) (refusal_status e) (refusal_text e) 0
-tables_lack_memory s most e is = stages.no_memory (says-nothing 0 e is)
-
 -- what concerns no count is refused for labels or for a range
 pub form_refused : (s : Spec) (fault : RankFault) (status : Status) (text : List ℕ) → ((e n : ℕ) → ¬ (fault ≡ TooMany (record { 0 = e }) n)) → fault ≢ OutOfMemory → TellsFault s 0 fault → Says Status.RankRefused (fault_line fault) 0 status text 0 → Rankable s Never status text 0
 form_refused s Labelled status text counts memory tells says = stages.labelled tells says
 form_refused s (Ranged e) status text counts memory tells says = stages.ranged e.0 tells.0 tells.1 says
 form_refused s (TooMany e n) status text counts memory tells says = absurd (counts e.0 n refl)
 form_refused s OutOfMemory status text counts memory tells says = absurd (memory refl)
-
-pub form_lacks_memory : (s : Spec) (e : Refusal) → e ≡ refusal.OutOfMemory → Rankable s Never (refusal_status e) (refusal_text e) 0
-form_lacks_memory s e is = stages.no_memory (says-nothing 0 e is)
 
 -- the size is refused
 pub size_lacks_memory : (tokens : List Token) (e : Refusal) → e ≡ refusal.OutOfMemory → SizeJudged tokens Never (refusal_status e) (refusal_text e) 0
@@ -79,12 +74,9 @@ module _ (s : Spec) (status : Status) (text : List ℕ) (ticks : ℕ) where
   ended_at_size tokens next h = size-as tokens Never next (λ never. absurd never) h
 
   -- the specification is known to be unlabelled, with plain ranges alone
-  ranged-not : {P : Type 0} (e : ℕ) → HasPlainRanges s → IsFirstRanged s e → P
-  ranged-not e plain first = absurd (first.ranged.ranged (plain.plain e first.ranged.node first.ranged.is_node))
-
   pub ended_at_counts : (most : ℕ) (next : Outcome) → s.mode ≡ Mode.Unlabelled → HasPlainRanges s → Rankable s (Counted s most Never) status text ticks → Counted s most next status text ticks
   ended_at_counts most next mode plain (stages.labelled labelled says) = absurd (cc)
-  ended_at_counts most next mode plain (stages.ranged e unlabelled first says) = ranged-not e plain first
+  ended_at_counts most next mode plain (stages.ranged e unlabelled first says) = absurd (plain-not-ranged s e plain first)
   ended_at_counts most next mode plain (stages.no_memory says) = stages.no_memory says
   ended_at_counts most next mode plain (stages.plain unlabelled ranges p) = counted-as most Never next (λ never. absurd never) p
 

@@ -24,8 +24,11 @@ pub record AreCountsTo (s : Spec) (most : ℕ) (count : ℕ → ℕ) : Type 0 wh
 
 -- The counts of the first class are printed.
 pub data CountsPrinted (s : Spec) (most : ℕ) (status : Status) (text : List ℕ) (ticks : ℕ) : Type 0 where
-  printed : (count : ℕ → ℕ) → AreCountsTo s most count → Says Status.Done (counts_text count most) 0 status text ticks → CountsPrinted s most status text ticks
-  no_memory : Says Status.OutOfMemory [] 0 status text ticks → CountsPrinted s most status text ticks
+  printed : (count : ℕ → ℕ) → AreCountsTo s most count
+      → Says Status.Done (counts_text count most) 0 status text ticks
+      → CountsPrinted s most status text ticks
+  no_memory : Says Status.OutOfMemory [] 0 status text ticks
+      → CountsPrinted s most status text ticks
 
 -- What comes of `count FILE N` once the specification is judged.
 abbrev pub CountedTo : (most : ℕ) → Spec → Outcome

@@ -1,5 +1,5 @@
 -- When the answer is certain: what is read of the files, and which specifications can be counted.
-use Rattle.std.specs.Prelude.{◌≡◌, ℕ, ◌≤◌, List, [], length, Option, Some}
+use Rattle.std.specs.Prelude.{◌≡◌, ℕ, ◌≤◌, List, [], length, Some}
 use Rattle.bz_model.specs.Spec.{Spec, Mode}
 use Rattle.bz_model.specs.Object.{Object, Belongs}
 use Rattle.bz_model.specs.ObjectText.{object_text}

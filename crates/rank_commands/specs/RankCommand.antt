@@ -19,8 +19,11 @@ rank_text r count =
 
 -- The rank of the object with these tokens is printed, and how many objects of its size the first class has.
 pub data RankPrinted (s : Spec) (tokens : List Token) (status : Status) (text : List ℕ) (ticks : ℕ) : Type 0 where
-  printed : (body count r : ℕ) → body_of s 0 ≡ Some body → IsCount s body (size_of tokens) count → IsRankOf s 0 tokens r → Says Status.Done (rank_text r count) 0 status text ticks → RankPrinted s tokens status text ticks
-  no_memory : Says Status.OutOfMemory [] 0 status text ticks → RankPrinted s tokens status text ticks
+  printed : (body count r : ℕ) → body_of s 0 ≡ Some body → IsCount s body (size_of tokens) count
+      → IsRankOf s 0 tokens r → Says Status.Done (rank_text r count) 0 status text ticks
+      → RankPrinted s tokens status text ticks
+  no_memory : Says Status.OutOfMemory [] 0 status text ticks
+      → RankPrinted s tokens status text ticks
 
 -- What comes of `rank FILE OBJ` once the object is read: its size is judged, and the objects are counted for the sizes up to its own.
 abbrev pub ObjectRanked : Spec → List Token → (labels : Option (List ℕ)) → Outcome

@@ -20,9 +20,14 @@ object_page s body o belongs = object_text s body o belongs [] ++ (feed ++ done_
 
 -- The rank is judged: the first class has no more objects of the size than that, or the object of this rank is printed.
 pub data ObjectOfRank (s : Spec) (n r : ℕ) (status : Status) (text : List ℕ) (ticks : ℕ) : Type 0 where
-  beyond : (body count : ℕ) → body_of s 0 ≡ Some body → IsCount s body n count → count ≤ r → Says Status.RankRefused number_line 0 status text ticks → ObjectOfRank s n r status text ticks
+  beyond : (body count : ℕ) → body_of s 0 ≡ Some body → IsCount s body n count → count ≤ r
+      → Says Status.RankRefused number_line 0 status text ticks
+      → ObjectOfRank s n r status text ticks
   no_memory : Says Status.OutOfMemory [] 0 status text ticks → ObjectOfRank s n r status text ticks
-  printed : (body : ℕ) (o : Object) (belongs : Belongs s body o) → body_of s 0 ≡ Some body → IsRanked s body n r o → Says Status.Done (object_page s body o belongs) 0 status text ticks → ObjectOfRank s n r status text ticks
+  printed : (body : ℕ) (o : Object) (belongs : Belongs s body o) → body_of s 0 ≡ Some body
+      → IsRanked s body n r o
+      → Says Status.Done (object_page s body o belongs) 0 status text ticks
+      → ObjectOfRank s n r status text ticks
 
 -- What comes of `unrank FILE N R` once the specification is judged.
 abbrev pub Unranked : (n r : ℕ) → Spec → Outcome

@@ -29,7 +29,10 @@ pub fn count<S: Shelf, K: Sink>(
     out: &mut K,
 ) -> Status
     requires greatest { n ≤ 500 }
-    ensures ends { (ticks : ℕ) → EndsBy (CarriesCount (files (S.content shelf.old) (S.faults shelf.old) (S.faults shelf.new)) file.now n) (output (K.written out.old) (K.written out.new) (K.faults out.old) (K.faults out.new) ticks ticks) result }
+    ensures ends { (ticks : ℕ) → EndsBy
+        (CarriesCount (files (S.content shelf.old) (S.faults shelf.old) (S.faults shelf.new))
+        file.now n) (output (K.written out.old) (K.written out.new) (K.faults out.old)
+        (K.faults out.new) ticks ticks) result }
     ensures content { S.content shelf.new ≡ S.content shelf.old }
     ensures counts { (name : List ℕ) → S.faults shelf.old name ≤ S.faults shelf.new name }
     ensures writes { K.faults out.old ≤ K.faults out.new }
@@ -41,15 +44,14 @@ pub fn count<S: Shelf, K: Sink>(
 }
 
 /// What is printed of a specification that is read from a file.
-fn page<S: Shelf>(
-    alloc: Global,
-    file: &Word,
-    n: u64,
-    shelf: &mut S,
-) -> Result<Vec<u8>, Refusal>
+fn page<S: Shelf>(alloc: Global, file: &Word, n: u64, shelf: &mut S) -> Result<Vec<u8>, Refusal>
     requires greatest { n ≤ 500 }
-    ensures ok { IfOk result (λ page. CarriesCount (files (S.content shelf.old) (S.faults shelf.old) (S.faults shelf.new)) file.now n Status.Done page.items 0) }
-    ensures err { IfErr result (λ e. CarriesCount (files (S.content shelf.old) (S.faults shelf.old) (S.faults shelf.new)) file.now n (refusal_status e) (refusal_text e) 0) }
+    ensures ok { IfOk result (λ page. CarriesCount
+        (files (S.content shelf.old) (S.faults shelf.old) (S.faults shelf.new)) file.now n
+        Status.Done page.items 0) }
+    ensures err { IfErr result (λ e. CarriesCount
+        (files (S.content shelf.old) (S.faults shelf.old) (S.faults shelf.new)) file.now n
+        (refusal_status e) (refusal_text e) 0) }
     ensures content { S.content shelf.new ≡ S.content shelf.old }
     ensures counts { (name : List ℕ) → S.faults shelf.old name ≤ S.faults shelf.new name }
 {

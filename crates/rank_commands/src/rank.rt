@@ -40,7 +40,10 @@ pub fn rank<S: Shelf, K: Sink>(
     shelf: &mut S,
     out: &mut K,
 ) -> Status
-    ensures ends { (ticks : ℕ) → EndsBy (CarriesRank (files (S.content shelf.old) (S.faults shelf.old) (S.faults shelf.new)) file.now object.now) (output (K.written out.old) (K.written out.new) (K.faults out.old) (K.faults out.new) ticks ticks) result }
+    ensures ends { (ticks : ℕ) → EndsBy
+        (CarriesRank (files (S.content shelf.old) (S.faults shelf.old) (S.faults shelf.new))
+        file.now object.now) (output (K.written out.old) (K.written out.new) (K.faults out.old)
+        (K.faults out.new) ticks ticks) result }
     ensures content { S.content shelf.new ≡ S.content shelf.old }
     ensures counts { (name : List ℕ) → S.faults shelf.old name ≤ S.faults shelf.new name }
     ensures writes { K.faults out.old ≤ K.faults out.new }
@@ -58,8 +61,12 @@ fn page<S: Shelf>(
     object: &Word,
     shelf: &mut S,
 ) -> Result<Vec<u8>, Refusal>
-    ensures ok { IfOk result (λ page. CarriesRank (files (S.content shelf.old) (S.faults shelf.old) (S.faults shelf.new)) file.now object.now Status.Done page.items 0) }
-    ensures err { IfErr result (λ e. CarriesRank (files (S.content shelf.old) (S.faults shelf.old) (S.faults shelf.new)) file.now object.now (refusal_status e) (refusal_text e) 0) }
+    ensures ok { IfOk result (λ page. CarriesRank
+        (files (S.content shelf.old) (S.faults shelf.old) (S.faults shelf.new)) file.now object.now
+        Status.Done page.items 0) }
+    ensures err { IfErr result (λ e. CarriesRank
+        (files (S.content shelf.old) (S.faults shelf.old) (S.faults shelf.new)) file.now object.now
+        (refusal_status e) (refusal_text e) 0) }
     ensures content { S.content shelf.new ≡ S.content shelf.old }
     ensures counts { (name : List ℕ) → S.faults shelf.old name ≤ S.faults shelf.new name }
 {
@@ -97,11 +104,7 @@ fn ranked<S: Shelf>(
 }
 
 /// What is printed of an object: its size is judged, tables are made up to it, and its rank is taken.
-fn object_ranked(
-    alloc: Global,
-    founded: &Founded,
-    shape: &Shape,
-) -> Result<Vec<u8>, Refusal>
+fn object_ranked(alloc: Global, founded: &Founded, shape: &Shape) -> Result<Vec<u8>, Refusal>
     requires unlabelled { founded.now.mode ≡ model.Mode.Unlabelled }
     requires plain { HasPlainRanges founded.now }
     requires object { IsOf founded.now 0 shape.now.items }

@@ -34,7 +34,10 @@ pub fn unrank<S: Shelf, K: Sink>(
     out: &mut K,
 ) -> Status
     requires greatest { n ≤ 500 }
-    ensures ends { (ticks : ℕ) → EndsBy (CarriesUnrank (files (S.content shelf.old) (S.faults shelf.old) (S.faults shelf.new)) file.now n number) (output (K.written out.old) (K.written out.new) (K.faults out.old) (K.faults out.new) ticks ticks) result }
+    ensures ends { (ticks : ℕ) → EndsBy
+        (CarriesUnrank (files (S.content shelf.old) (S.faults shelf.old) (S.faults shelf.new))
+        file.now n number) (output (K.written out.old) (K.written out.new) (K.faults out.old)
+        (K.faults out.new) ticks ticks) result }
     ensures content { S.content shelf.new ≡ S.content shelf.old }
     ensures counts { (name : List ℕ) → S.faults shelf.old name ≤ S.faults shelf.new name }
     ensures writes { K.faults out.old ≤ K.faults out.new }
@@ -54,8 +57,12 @@ fn page<S: Shelf>(
     shelf: &mut S,
 ) -> Result<Vec<u8>, Refusal>
     requires greatest { n ≤ 500 }
-    ensures ok { IfOk result (λ page. CarriesUnrank (files (S.content shelf.old) (S.faults shelf.old) (S.faults shelf.new)) file.now n number Status.Done page.items 0) }
-    ensures err { IfErr result (λ e. CarriesUnrank (files (S.content shelf.old) (S.faults shelf.old) (S.faults shelf.new)) file.now n number (refusal_status e) (refusal_text e) 0) }
+    ensures ok { IfOk result (λ page. CarriesUnrank
+        (files (S.content shelf.old) (S.faults shelf.old) (S.faults shelf.new)) file.now n number
+        Status.Done page.items 0) }
+    ensures err { IfErr result (λ e. CarriesUnrank
+        (files (S.content shelf.old) (S.faults shelf.old) (S.faults shelf.new)) file.now n number
+        (refusal_status e) (refusal_text e) 0) }
     ensures content { S.content shelf.new ≡ S.content shelf.old }
     ensures counts { (name : List ℕ) → S.faults shelf.old name ≤ S.faults shelf.new name }
 {
@@ -66,12 +73,7 @@ fn page<S: Shelf>(
 }
 
 /// What is printed of a specification: its tables are made, and the object is made by them.
-fn unranked(
-    alloc: Global,
-    founded: &Founded,
-    n: u64,
-    number: u128,
-) -> Result<Vec<u8>, Refusal>
+fn unranked(alloc: Global, founded: &Founded, n: u64, number: u128) -> Result<Vec<u8>, Refusal>
     requires greatest { n ≤ 500 }
     ensures ok { IfOk result (λ page. Unranked n number founded.now Status.Done page.items 0) }
     ensures err { IfErr result (λ e.

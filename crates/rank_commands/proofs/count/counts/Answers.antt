@@ -15,4 +15,4 @@ append_counts-requires-clause-node c =
 pub returns : goal.returns
 returns c =
     let sound = subst IsSound c.system-system.ensures.system c.known.ensures.sound in
-    counts_printed c.args.founded.now sound c.args.n c.args.tables.now c.requires.tables c.body.result.0 c.extend_from_slice.new.self.items (subst (λ (k : Spec). body_of k 0 ≡ Some c.body.result.0) c.system-system.ensures.system c.body.ensures.body) (counts_joined _ _ c.args.n _ _ c.new-text.ensures c.in_ok-append_counts.ensures c.in_ok-extend_from_slice.ensures.items)
+    counts_printed c.args.founded.now sound c.args.n c.args.tables.now c.requires.tables c.body.result.0 c.extend_from_slice.new.self.items (subst (λ (k : Spec). body_of k 0 ≡ Some c.body.result.0) c.system-system.ensures.system c.body.ensures.body) (counts_joined _ _ c.args.n _ _ c.new-text.ensures.items c.in_ok-append_counts.ensures c.in_ok-extend_from_slice.ensures.items)
