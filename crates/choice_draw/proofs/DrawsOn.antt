@@ -3,11 +3,7 @@ use Rattle.std.proofs.Common.{◌≡◌, ℕ, Bool, suc, ◌-◌, ◌<◌, ◌�
 use Rattle.std.proofs.lemmas.Bool.{lt-ltb, le-ltb}
 use Rattle.bz_model.specs.declared.cell.Cell.{Cell}
 use Rattle.choice_draw.specs.Draw.{Bit, Draw, bit_or_end, bit_of, halved, draw_from, draw}
-
--- the shelf, where it fails at a place, fails at this place or later
-abbrev pub FailsFrom : ℕ → Option ℕ → Type 0
-FailsFrom place None = Unit {0}
-FailsFrom place (Some fault) = place ≤ fault
+use Rattle.choice_draw.specs.LeastCell.{FailsFrom}
 
 -- a draw from the start on goes on from this cell and place: wherever the shelf fails from here on, it ends as the draw from here ends
 pub record DrawsOn {A : Type 0} (decide : Cell → Option A) (tape : ℕ → Option Bool) (start : ℕ) (cell : Cell) (place : ℕ) : Type 0 where

@@ -58,7 +58,7 @@ front-all cell j e =
     let none : cell.b - j ≡ 0 = omega arith in
     ap (λ k. record { k = k; b = j }) (ap (λ m. cell.k / 2 ^ m) none ∙ div-one cell.k) ∙ ap (λ b. record { k = cell.k; b = b }) e
 
-half-below : (k b : ℕ) (v : Bool) → k < 2 ^ b → 2 * k + bit_number v < 2 ^ suc b
+pub half-below : (k b : ℕ) (v : Bool) → k < 2 ^ b → 2 * k + bit_number v < 2 ^ suc b
 half-below k b v h = let twice : 2 ^ suc b ≡ 2 * 2 ^ b = pow-succ' 2 b in let small = number-small v in omega (arith, twice, small)
 
 -- a bit that is given is the tape's

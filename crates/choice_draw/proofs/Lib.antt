@@ -11,3 +11,5 @@ pub mod GivenDraws
 pub mod ToldDraws
 pub mod Ticks
 pub mod LeastCells
+pub mod LeastDrawn
+pub mod SpelledDraws

@@ -4,10 +4,11 @@ use Rattle.bz_model.specs.declared.cell.Cell.{Cell}
 use Rattle.bz_model.specs.Labels.{numbers_from}
 use Rattle.choice_draw.specs.Decision.{whole_decision}
 use Rattle.choice_draw.specs.Draw.{Bit, Draw, bit_of, draw}
-use Rattle.choice_draw.proofs.DrawsOn.{FailsFrom}
+use Rattle.choice_draw.specs.LeastCell.{FailsFrom}
+use Rattle.choice_draw.proofs.LeastCells.{draws_least}
+use Rattle.choice_draw.proofs.LeastDrawn.{least_is_drawn}
 use Rattle.labelling.specs.LabelsByBits.{Labelling, labels_from, labelling}
 use Rattle.labelling.specs.Progress.{ProgressState, one_given}
-use Rattle.labelling.proofs.LaterFaults.{stays-decided}
 
 -- The labelling of n atoms from the start on goes on from this state and place, with m labels remaining: wherever the shelf fails from here on, it ends as the labelling from here ends.
 pub record LabelsOn (tape : ℕ → Option Bool) (n start m : ℕ) (p : ProgressState) (place : ℕ) : Type 0 where
@@ -66,7 +67,7 @@ module _ (tape : ℕ → Option Bool) (n start : ℕ) where
       unfolding after_number
       labels-on i cell decided = record {
         same = λ fault later.
-            by_draw fault (Draw.Decided i cell) (fails_earlier fault place cell.b later) (stays-decided (whole_decision m) tape i cell fault place decided later)
+            by_draw fault (Draw.Decided i cell) (fails_earlier fault place cell.b later) (least_is_drawn (whole_decision m) tape fault place i cell (draws_least (whole_decision m) tape None place i cell decided) later)
             ∙ ap (λ k. labels_from (bit_of tape fault) k (remove p.remaining i) (p.given ++ slice_index p.remaining i ∷ []) (p.cells ++ cell ∷ []) (place + cell.b)) (sym (one_more m some));
       }
 

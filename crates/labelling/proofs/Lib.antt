@@ -2,9 +2,10 @@ pub mod Trees
 pub mod Taking
 pub mod Numbers
 pub mod DrawDecided
-pub mod LaterFaults
 pub mod LabelsOn
 pub mod Naming
-pub mod ToldLabels
+pub mod GivenLabels
 pub mod IdealByBits
 pub mod Ascending
+pub mod SpelledLabels
+pub mod DrawnAgain

@@ -1,10 +1,11 @@
 -- What an answer tells of the labelling.
-use Rattle.std.specs.Prelude.{◌≡◌, ◌≢◌, ℕ, ◌+◌, ◌-◌, ◌<◌, ◌≤◌, Bool, List, ◌++◌, length, Option, Some, None, IfSome}
+use Rattle.std.specs.Prelude.{◌≡◌, ◌≢◌, ℕ, ◌+◌, ◌-◌, ◌<◌, ◌≤◌, Bool, true, false, List, ◌++◌, length, Option, Some, None, IfSome}
 use Rattle.std.specs.List.{AllByRecursion}
 use Rattle.bz_model.specs.declared.cell.Cell.{Cell}
 use Rattle.bz_model.specs.Fraction.{Fraction}
 use Rattle.bz_model.specs.Cell.{IsCell, AreInCells}
 use Rattle.bz_model.specs.Labels.{IdealLabels, AreOneTo}
+use Rattle.bit_tape.specs.Given.{HasBits, Gave}
 use Rattle.choice_draw.specs.Draw.{bit_of}
 use Rattle.labelling.specs.declared.labelled.Labelled.{Labelled}
 use Rattle.labelling.specs.declared.labelled.Labelled.TheVariants.{Labels, Straddles, Ended, ReadFault, OutOfMemory}
@@ -23,6 +24,16 @@ abbrev pub fault_place : Labelled → (used : ℕ) → Option ℕ
 fault_place ReadFault used = Some used
 fault_place _ used = None
 
+-- The answer is that the shelf failed.
+abbrev pub is_fault : Labelled → Bool
+is_fault ReadFault = true
+is_fault _ = false
+
+-- Where the tape's end cut the labelling short, these bits end at the place used.
+abbrev pub EndsThere : Labelled → (used : ℕ) → (bits : ℕ → Option Bool) → Type 0
+EndsThere Ended used bits = bits used ≡ None
+EndsThere _ used bits = Unit {0}
+
 -- The bits used from one number to another are those of the cells, and those of the cell that straddles, or fewer than 60 more where the tape ended or its shelf failed. Want of memory uses none.
 abbrev pub UsesBits : Labelled → (finished : List Cell) → (before after : ℕ) → Type 0
 UsesBits (Labels labels cells) finished before after = after ≡ before + bits_in cells.items
@@ -31,11 +42,14 @@ UsesBits Ended finished before after = (before + bits_in finished ≤ after) × 
 UsesBits ReadFault finished before after = (before + bits_in finished ≤ after) × (after < before + bits_in finished + 60)
 UsesBits OutOfMemory finished before after = after ≡ before
 
--- An answer is that of a labelling of n atoms: there are cells of the numbers finished, whose bits were used from the start on, and over bits that are told it is the labelling that they fix, where the shelf fails only if the answer says so, and then after the bits used. Want of memory tells nothing.
-pub record IsLabelling (bits : Option (ℕ → Option Bool)) (n start : ℕ) (answer : Labelled) (used : ℕ) : Type 0 where
+-- An answer of a labelling of n atoms from the start on is the one over the bits that it was given: it was given as many bits as were used, the tape's own where they are told; there are cells of the numbers finished; and over every tape that has these bits there, and ends where the answer says that it did, it is the labelling that they fix, where the shelf fails only if the answer says so. Out of memory nothing was given.
+pub record IsLabelling (told : Option (ℕ → Option Bool)) (n start : ℕ) (answer : Labelled) (used : ℕ) : Type 0 where
+  pub given : List Bool
+  pub gave : Gave told start used given
+  pub ended : IfSome told (EndsThere answer used)
   pub finished : List Cell
   pub uses : UsesBits answer finished start used
-  pub exact : answer ≢ OutOfMemory → IfSome bits (λ tape. told_labelling answer finished used ≡ labelling (bit_of tape (fault_place answer used)) n start)
+  pub exact : (bits : ℕ → Option Bool) → HasBits bits start given → EndsThere answer used bits → answer ≢ OutOfMemory → told_labelling answer finished used ≡ labelling (bit_of bits (fault_place answer used)) n start
 
 -- What is said of the labels and their cells holds, where the answer has them.
 abbrev pub OnLabels : Labelled → (List ℕ → List Cell → Type 0) → Type 0

@@ -2,3 +2,4 @@ pub mod LabelsByBits
 pub mod Answer
 pub mod Tree
 pub mod Progress
+pub mod Spelled

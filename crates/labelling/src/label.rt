@@ -1,8 +1,8 @@
 //! Labellings.
-ghost use Rattle.std.specs.Prelude.{◌≡◌, ◌≢◌, ℕ, ◌+◌, ◌*◌, ◌≤◌, [], List};
+ghost use Rattle.std.specs.Prelude.{◌≡◌, ◌≢◌, ◌+◌, ◌*◌, ◌≤◌, []};
 ghost use Rattle.bz_model.specs.Labels.{numbers_from};
-ghost use Rattle.bit_tape.specs.Tape.{TapeSource, Belongs, bits_of, HasFault};
-ghost use Rattle.labelling.specs.Answer.{IsLabelling, OnLabels, AreIdealLabels, AreCellsOf, StraddlesAt};
+ghost use Rattle.bit_tape.specs.Tape.{Belongs, LeavesTape, bits_of};
+ghost use Rattle.labelling.specs.Answer.{IsLabelling, OnLabels, AreIdealLabels, AreCellsOf, StraddlesAt, is_fault};
 
 use crate::labelled::Labelled;
 use crate::progress::Progress;
@@ -16,9 +16,10 @@ use std::alloc::Global;
 ///
 /// For m from `n` down to 2 a whole number below m is drawn, and the next atom gets the remaining
 /// label that has so many remaining labels below it. The last atom gets the label left, and no number
-/// is drawn for it, so that no bit is taken where `n` is 0 or 1. Where the shelf tells its content,
-/// the answer is fixed by the tape's bits. All memory is taken before the first bit: a tree of
-/// counts, the labels and the cells. `OutOfMemory` leaves tape and shelf as they were.
+/// is drawn for it, so that no bit is taken where `n` is 0 or 1. The answer is fixed by the bits
+/// that were given, whether the shelf tells its content or not. `ReadFault` comes exactly where the
+/// count of faults of the tape's name rose, by one. All memory is taken before the first bit: a tree
+/// of counts, the labels and the cells. `OutOfMemory` leaves tape and shelf as they were.
 pub fn label<S: Shelf>(alloc: Global, n: u64, tape: &mut Tape, shelf: &mut S) -> Labelled
     requires within_limit { n ≤ 1000000 }
     requires belongs { Belongs (S.content shelf.old) tape.old }
@@ -32,14 +33,8 @@ pub fn label<S: Shelf>(alloc: Global, n: u64, tape: &mut Tape, shelf: &mut S) ->
     ensures straddles { StraddlesAt n result }
 
     ensures used { (tape.old.used ≤ tape.new.used) × (tape.new.used ≤ tape.old.used + 60 * n) }
-    ensures source { tape.new.source ≡ tape.old.source }
-    ensures belongs { Belongs (S.content shelf.new) tape.new }
-
-    ensures content { S.content shelf.new ≡ S.content shelf.old }
-    ensures counts { (other : List ℕ) → S.faults shelf.old other ≤ S.faults shelf.new other }
-    ensures cause { result ≡ Labelled.ReadFault
-        → HasFault tape.old.source (S.faults shelf.old) (S.faults shelf.new) }
-    ensures seeded { (seed : ℕ) → tape.old.source ≡ TapeSource.Seeded seed → shelf.new ≡ shelf.old }
+    ensures tape { LeavesTape S.content S.faults (is_fault result)
+        shelf.old shelf.new tape.old tape.new }
 {
     match Progress::begin(alloc, n) {
         Ok(progress) => give_all(progress, n, tape, shelf),
@@ -61,14 +56,8 @@ fn give_all<S: Shelf>(mut progress: Progress, n: u64, tape: &mut Tape, shelf: &m
     ensures straddles { StraddlesAt n result }
 
     ensures used { (tape.old.used ≤ tape.new.used) × (tape.new.used ≤ tape.old.used + 60 * n) }
-    ensures source { tape.new.source ≡ tape.old.source }
-    ensures belongs { Belongs (S.content shelf.new) tape.new }
-
-    ensures content { S.content shelf.new ≡ S.content shelf.old }
-    ensures counts { (other : List ℕ) → S.faults shelf.old other ≤ S.faults shelf.new other }
-    ensures cause { result ≡ Labelled.ReadFault
-        → HasFault tape.old.source (S.faults shelf.old) (S.faults shelf.new) }
-    ensures seeded { (seed : ℕ) → tape.old.source ≡ TapeSource.Seeded seed → shelf.new ≡ shelf.old }
+    ensures tape { LeavesTape S.content S.faults (is_fault result)
+        shelf.old shelf.new tape.old tape.new }
 {
     let mut m = n;
     'atoms: while m >= 2 {

@@ -1,13 +1,12 @@
 -- The visit of a sequence, set or cycle, from what was drawn and what was put.
-use Rattle.std.proofs.Common.{◌≡◌, ◌⊎◌, inl, inr, ℕ, ◌+◌, ◌≤◌, List, [], ◌∷◌, ◌++◌, replicate, refl, sym, ◌∙◌, ap, subst, cond, append-nil, zero-add, arith, Bool, Option, Some, None, slice_get}
+use Rattle.std.proofs.Common.{◌≡◌, ◌⊎◌, inl, inr, ℕ, ◌+◌, ◌≤◌, List, [], ◌∷◌, ◌++◌, replicate, refl, sym, ◌∙◌, ap, subst, cond, append-nil, zero-add, arith, Bool, false, Option, Some, None, slice_get}
 use Rattle.std.specs.Prelude.{IsTrue, ◌↔◌}
 use Rattle.std.proofs.lemmas.Bool.{cases_Bool}
 use Rattle.bz_model.specs.declared.cell.Cell.{Cell}
 use Rattle.bz_model.specs.declared.cell.Bounds.{Bounds}
 use Rattle.bz_model.specs.Fraction.{Fraction}
-use Rattle.bz_model.specs.Cell.{IsCell}
-use Rattle.bit_tape.specs.Tape.{TapeSource, CountsFault, HasFault}
-use Rattle.bit_tape.proofs.Leaving.{fault-rose}
+use Rattle.bz_model.specs.Cell.{IsCell, AreCells}
+use Rattle.bz_model.proofs.CellLists.{cells_append}
 use Rattle.bz_model.specs.Spec.{Spec, node_at, range_at, IsInRange}
 use Rattle.bz_model.specs.Measures.{HasZero}
 use Rattle.bz_model.specs.WellFounded.{IsWellFounded}
@@ -21,8 +20,11 @@ use Rattle.count_draw.specs.declared.drawn.CountDrawn.{CountDrawn}
 use Rattle.count_draw.specs.declared.drawn.CountDrawn.TheVariants as counted
 use Rattle.count_draw.specs.Kinds.{counted_node}
 use Rattle.count_draw.specs.Decision.{count_decision}
-use Rattle.choice_draw.specs.Answer.{HasCell, UsesBits, fault_of}
-use Rattle.count_draw.specs.Answer.{OnCount, OnOver, told_count, is_fault}
+use Rattle.choice_draw.specs.Answer.{HasCell, UsesBits, IsDraw, fault_of}
+use Rattle.choice_draw.specs.Answer as drew
+use Rattle.choice_draw.proofs.ToldDraws.{on_some}
+use Rattle.count_draw.specs.Answer.{OnCount, OnOver, told_count}
+use Rattle.count_draw.specs.Answer as counting
 use Rattle.count_draw.proofs.CountedNodes.{form_of, is_counted, part_inside}
 use Rattle.object_store.specs.declared.token.Token.{Token}
 use Rattle.object_store.specs.declared.token.Token.TheVariants as token
@@ -30,7 +32,7 @@ use Rattle.shape_sampler.specs.declared.stepped.Stepped.{Stepped}
 use Rattle.shape_sampler.specs.declared.stepped.Stepped.TheVariants.{Overshot, Straddles, Ended, ReadFault}
 use Rattle.shape_sampler.specs.Visit.{Chooser, Attempt, Visited, after_draw, counted_answered, counted_visited, room_for, node_visited, visit_among, visit, with_pending, with_token, with_cell, given_up}
 use Rattle.shape_sampler.specs.State.{SessionState, SessionBelongs, HasCountedPart, Runs, Leaves, attempt_of, answer_for, count_answer, stop_after, count_tokens, count_cells, PutsParts}
-use Rattle.shape_sampler.specs.Answer.{told_visit, fault_place, ChoosesBy, IsVisit, IsIdealAnswer, Extends, Draws}
+use Rattle.shape_sampler.specs.Answer.{told_visit, fault_place, is_fault, EndsThere, ChoosesBy, IsVisit, IsVisitByBits, IsIdealAnswer, Extends, Draws}
 use Rattle.shape_sampler.proofs.Ideal.{IsIdealVisit, ideal-counted, ideal-over}
 use Rattle.shape_sampler.proofs.Sessions.{still-belongs}
 use Rattle.shape_sampler.proofs.Plain.{Front, front}
@@ -98,6 +100,49 @@ visited-is Kind.Seq c bit a e part rest = refl
 visited-is Kind.Set c bit a e part rest = refl
 visited-is Kind.Cyc c bit a e part rest = refl
 
+-- the cells that an answer adds are cells
+counted-are : (d : CountDrawn) → OnCount d (λ i cell. IsCell cell.k cell.b) → OnOver d (λ cell. IsCell cell.k cell.b) → AreCells (count_cells d)
+counted-are (counted.Count value cell) h k = (h, tt)
+counted-are (counted.Over cell) h k = (k, tt)
+counted-are (counted.Straddles cell) h k = tt
+counted-are counted.Ended h k = tt
+counted-are counted.ReadFault h k = tt
+
+-- an answer where nodes are pending or none is says nothing of the tape's end, and is no failed read
+ends-for : (pending : List ℕ) (used : ℕ) (bits : ℕ → Option Bool) → EndsThere (answer_for pending) used bits
+ends-for [] used bits = tt
+ends-for (e ∷ es) used bits = tt
+
+no-fault : (pending : List ℕ) → false ≡ is_fault (answer_for pending) None
+no-fault [] = refl
+no-fault (e ∷ es) = refl
+
+-- where the tape's end stopped the draw, it stopped the visit
+to-visit : (node : ExprId) (pending : List ℕ) (d : CountDrawn) (used : ℕ) (bits : ℕ → Option Bool) → drew.EndsThere (told_count d used) bits → EndsThere (count_answer node d pending) used bits
+to-visit node pending (counted.Count value cell) used bits h = ends-for pending used bits
+to-visit node pending (counted.Over cell) used bits h = tt
+to-visit node pending (counted.Straddles cell) used bits h = tt
+to-visit node pending counted.Ended used bits h = h
+to-visit node pending counted.ReadFault used bits h = tt
+
+to-draw : (node : ExprId) (pending : List ℕ) (d : CountDrawn) (used : ℕ) (bits : ℕ → Option Bool) → EndsThere (count_answer node d pending) used bits → drew.EndsThere (told_count d used) bits
+to-draw node pending (counted.Count value cell) used bits h = tt
+to-draw node pending (counted.Over cell) used bits h = tt
+to-draw node pending (counted.Straddles cell) used bits h = tt
+to-draw node pending counted.Ended used bits h = h
+to-draw node pending counted.ReadFault used bits h = tt
+
+-- a visit fails exactly where its draw does
+pub count-fault : (node : ExprId) (pending : List ℕ) (d : CountDrawn) (answer : Stepped) (stopped : Option Stepped) → stopped ≡ None → answer ≡ count_answer node d pending → counting.is_fault d ≡ is_fault answer stopped
+count-fault node pending d answer stopped running answered = by d ∙ ap (λ a. is_fault a None) (sym answered) ∙ ap (is_fault answer) (sym running)
+  where
+    by : (d : CountDrawn) → counting.is_fault d ≡ is_fault (count_answer node d pending) None
+    by (counted.Count value cell) = no-fault pending
+    by (counted.Over cell) = refl
+    by (counted.Straddles cell) = refl
+    by counted.Ended = refl
+    by counted.ReadFault = refl
+
 module _ (node : ExprId) (part : ℕ) (before now : SessionState) (first : slice_get before.pending 0 ≡ Some node.0) where
   f : Front before.pending node.0
   f = front before.pending node.0 first
@@ -113,7 +158,7 @@ module _ (node : ExprId) (part : ℕ) (before now : SessionState) (first : slice
   pub count-draws : (d : CountDrawn) (start used : ℕ) → CountSettled node part d before now → UsesBits (told_count d used) start used → HasCell (told_count d used) → Draws (count_answer node d now.pending) before now start used
   count-draws (counted.Count value cell) start used t bits h = draws-for now.pending before now start used (record { more = cell ∷ []; whole = t.cells })
   count-draws (counted.Over cell) start used t bits h = record { more = cell ∷ []; whole = t.cells }
-  count-draws (counted.Straddles cell) start used t bits h = record { first = first; bits = h.1; all_used = bits }
+  count-draws (counted.Straddles cell) start used t bits h = record { first = first; is_cell = h.0; bits = h.1; all_used = bits }
   count-draws counted.Ended start used t bits h = tt
   count-draws counted.ReadFault start used t bits h = tt
 
@@ -167,20 +212,24 @@ module _ (node : ExprId) (part : ℕ) (before now : SessionState) (first : slice
       no_zero : (cell : Cell) → IsOverOfCell s x node.0 cell room → ¬ (HasZero s part)
       no_zero cell over zero = free-not_over s sound founded x node.0 part at.kind cell at.here zero (subst (IsOverOfCell s x node.0 cell) (room_at.free zero) over)
 
-      pub count-session : (d : CountDrawn) → CountSettled node part d before now → OnCount d (λ i cell. IsIdealOfCell s x node.0 cell i) → OnOver d (λ cell. IsOverOfCell s x node.0 cell room) → OnCount d (λ i cell. IsInRange i (range_at s node.0) × (i ≤ room)) → SessionBelongs s x now × IsIdealAnswer s x (count_answer node d now.pending) now
-      count-session (counted.Count value cell) t ideal over within =
+      -- the cells are cells still
+      cells-now : (d : CountDrawn) → CountSettled node part d before now → OnCount d (λ i cell. IsCell cell.k cell.b) → OnOver d (λ cell. IsCell cell.k cell.b) → AreCells now.cells
+      cells-now d t is_cell is_over = subst AreCells (sym t.cells) (cells_append before.cells (count_cells d) b.cells (counted-are d is_cell is_over))
+
+      pub count-session : (d : CountDrawn) → CountSettled node part d before now → OnCount d (λ i cell. IsCell cell.k cell.b) → OnOver d (λ cell. IsCell cell.k cell.b) → OnCount d (λ i cell. IsIdealOfCell s x node.0 cell i) → OnOver d (λ cell. IsOverOfCell s x node.0 cell room) → OnCount d (λ i cell. IsInRange i (range_at s node.0) × (i ≤ room)) → SessionBelongs s x now × IsIdealAnswer s x (count_answer node d now.pending) now
+      count-session (counted.Count value cell) t is_cell is_over ideal over within =
           let part_in = part_inside s node.0 part at.kind sound at.here in
           let visit = ideal-counted s x before.whole (attempt_of before 0) b.attempt node.0 f.rest f.whole value part (counted_node at.kind part) (form_of at.kind) cell at.here (is_counted at.kind part) part_in (small value within.1) ideal in
           let attempt = told-for now.pending now cell.b ∙ ap Visited.Went (repeats value cell 0 cell.b t (sym (zero-add cell.b))) in
-          still-belongs s x before now (count_answer node (counted.Count value cell) now.pending) cell.b b (count-leaves (counted.Count value cell) t) (λ ne. subst (IsIdealVisit s x before.whole) (sym attempt) visit)
-      count-session (counted.Over cell) t ideal over within =
+          still-belongs s x before now (count_answer node (counted.Count value cell) now.pending) cell.b b (count-leaves (counted.Count value cell) t) (cells-now (counted.Count value cell) t is_cell is_over) (λ ne. subst (IsIdealVisit s x before.whole) (sym attempt) visit)
+      count-session (counted.Over cell) t is_cell is_over ideal over within =
           let none = no_zero cell over in
           let visit = ideal-over s x before.whole (attempt_of before 0) b.attempt node.0 f.rest f.whole part (counted_node at.kind part) (form_of at.kind) cell at.here (is_counted at.kind part) none (subst (IsOverOfCell s x node.0 cell) (room_at.taking none) over) in
           let attempt = ap Visited.Over (gives-up cell 0 cell.b t (sym (zero-add cell.b))) in
-          still-belongs s x before now Overshot cell.b b (count-leaves (counted.Over cell) t) (λ ne. subst (IsIdealVisit s x before.whole) (sym attempt) visit)
-      count-session (counted.Straddles cell) t ideal over within = still-belongs s x before now (Straddles node cell) 0 b (count-leaves (counted.Straddles cell) t) (λ ne. tt)
-      count-session counted.Ended t ideal over within = still-belongs s x before now Ended 0 b (count-leaves counted.Ended t) (λ ne. tt)
-      count-session counted.ReadFault t ideal over within = still-belongs s x before now ReadFault 0 b (count-leaves counted.ReadFault t) (λ ne. tt)
+          still-belongs s x before now Overshot cell.b b (count-leaves (counted.Over cell) t) (cells-now (counted.Over cell) t is_cell is_over) (λ ne. subst (IsIdealVisit s x before.whole) (sym attempt) visit)
+      count-session (counted.Straddles cell) t is_cell is_over ideal over within = still-belongs s x before now (Straddles node cell) 0 b (count-leaves (counted.Straddles cell) t) (cells-now (counted.Straddles cell) t is_cell is_over) (λ ne. tt)
+      count-session counted.Ended t is_cell is_over ideal over within = still-belongs s x before now Ended 0 b (count-leaves counted.Ended t) (cells-now counted.Ended t is_cell is_over) (λ ne. tt)
+      count-session counted.ReadFault t is_cell is_over ideal over within = still-belongs s x before now ReadFault 0 b (count-leaves counted.ReadFault t) (cells-now counted.ReadFault t is_cell is_over) (λ ne. tt)
 
 -- the cell of a number is a cell, and so is that by which every number up to the room is passed over
 pub count-cell : (d : CountDrawn) (used : ℕ) → HasCell (told_count d used) → OnCount d (λ i cell. IsCell cell.k cell.b)
@@ -205,18 +254,6 @@ count-few (counted.Straddles cell) start used h u = (omega arith, omega arith)
 count-few counted.Ended start used h u = (omega arith, omega arith)
 count-few counted.ReadFault start used h u = (omega arith, omega arith)
 
--- a visit answers a failed read only where the draw does
-no-fault : (pending : List ℕ) → answer_for pending ≡ ReadFault → ⊥
-no-fault [] e = cc
-no-fault (p ∷ pending) e = cc
-
-pub count-cause : (node : ExprId) (pending : List ℕ) (d : CountDrawn) (source : TapeSource) (before now : List ℕ → ℕ) → CountsFault (is_fault d) source before now → count_answer node d pending ≡ ReadFault → HasFault source before now
-count-cause node pending (counted.Count value cell) source before now f e = absurd (no-fault pending e)
-count-cause node pending (counted.Over cell) source before now f e = cc
-count-cause node pending (counted.Straddles cell) source before now f e = cc
-count-cause node pending counted.Ended source before now f e = cc
-count-cause node pending counted.ReadFault source before now f e = fault-rose source before now f
-
 -- The same for an answer that is the draw's.
 module _ (node : ExprId) (part : ℕ) (before now : SessionState) (first : slice_get before.pending 0 ≡ Some node.0) (d : CountDrawn) (answer : Stepped) (answered : answer ≡ count_answer node d now.pending) (settled : CountSettled node part d before now) where
   pub counted-leaves : Leaves answer before now
@@ -226,8 +263,17 @@ module _ (node : ExprId) (part : ℕ) (before now : SessionState) (first : slice
   counted-draws start used bits h = subst (λ a. Draws a before now start used) (sym answered) (count-draws node part before now first d start used settled bits h)
 
   module _ (s : Spec) (at : HasCountedPart s node.0 part) (room : ℕ) (room_at : IsRoomFor s part before.room room) where
-    pub counted-exact : (F : ℕ) (table : (level e : ℕ) → Bounds) (start used : ℕ) → UsesBits (told_count d used) start used → (bits : ℕ → Option Bool) → told_count d used ≡ draw (count_decision s F table node.0 room) (bit_of bits (fault_of (told_count d used))) start → (c : Chooser) → ChoosesBy s F table c → IsVisit c bits before start answer now used
+    counted-exact : (F : ℕ) (table : (level e : ℕ) → Bounds) (start used : ℕ) → UsesBits (told_count d used) start used → (bits : ℕ → Option Bool) → told_count d used ≡ draw (count_decision s F table node.0 room) (bit_of bits (fault_of (told_count d used))) start → (c : Chooser) → ChoosesBy s F table c → IsVisit c bits before start answer now used
     counted-exact F table start used uses bits drawn c by = subst (λ a. IsVisit c bits before start a now used) (sym answered) (count-exact node part before now first s at room room_at F table bits d start used settled uses drawn c by)
 
-    pub counted-session : (x : Fraction) → IsSound s → IsWellFounded s → HasZero s part ⊎ (¬ (HasZero s part)) → OnCount d (λ i cell. IsIdealOfCell s x node.0 cell i) → OnOver d (λ cell. IsOverOfCell s x node.0 cell room) → OnCount d (λ i cell. IsInRange i (range_at s node.0) × (i ≤ room)) → SessionBelongs s x before → SessionBelongs s x now × IsIdealAnswer s x answer now
-    counted-session x sound founded decided ideal over within b = subst (λ a. SessionBelongs s x now × IsIdealAnswer s x a now) (sym answered) (count-session node part before now first s at room room_at x sound founded decided b d settled ideal over within)
+    -- the visit over the bits that the draw was given
+    pub counted-by-bits : (F : ℕ) (table : (level e : ℕ) → Bounds) (told : Option (ℕ → Option Bool)) (start used : ℕ) → IsDraw (count_decision s F table node.0 room) told start used (told_count d used) → IsVisitByBits s F table told before start answer now used
+    counted-by-bits F table told start used drew_so = record {
+      given = drew_so.given;
+      gave = drew_so.gave;
+      ended = on_some told (λ bits h. subst (λ a. EndsThere a used bits) (sym answered) (to-visit node now.pending d used bits h)) drew_so.ended;
+      exact = λ bits have ends c by. counted-exact F table start used drew_so.uses bits (drew_so.exact bits have (to-draw node now.pending d used bits (subst (λ a. EndsThere a used bits) answered ends))) c by;
+    }
+
+    pub counted-session : (x : Fraction) → IsSound s → IsWellFounded s → HasZero s part ⊎ (¬ (HasZero s part)) → OnCount d (λ i cell. IsCell cell.k cell.b) → OnOver d (λ cell. IsCell cell.k cell.b) → OnCount d (λ i cell. IsIdealOfCell s x node.0 cell i) → OnOver d (λ cell. IsOverOfCell s x node.0 cell room) → OnCount d (λ i cell. IsInRange i (range_at s node.0) × (i ≤ room)) → SessionBelongs s x before → SessionBelongs s x now × IsIdealAnswer s x answer now
+    counted-session x sound founded decided is_cell is_over ideal over within b = subst (λ a. SessionBelongs s x now × IsIdealAnswer s x a now) (sym answered) (count-session node part before now first s at room room_at x sound founded decided b d settled is_cell is_over ideal over within)

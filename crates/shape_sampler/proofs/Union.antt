@@ -1,13 +1,12 @@
 -- The visit of a union, from what was drawn and what was put.
-use Rattle.std.proofs.Common.{◌≡◌, ℕ, ◌+◌, ◌<◌, ◌≤◌, arith, List, [], ◌∷◌, ◌++◌, length, refl, sym, ◌∙◌, ap, subst, append-nil, zero-add, Bool, Option, Some, None, IfSome, slice_get, slice_index}
+use Rattle.std.proofs.Common.{◌≡◌, ℕ, ◌+◌, ◌<◌, ◌≤◌, arith, List, [], ◌∷◌, ◌++◌, length, refl, sym, ◌∙◌, ap, subst, append-nil, zero-add, Bool, Option, Some, None, slice_get, slice_index}
 use Rattle.bz_model.specs.declared.cell.Cell.{Cell}
 use Rattle.bz_model.specs.declared.cell.Bounds.{Bounds}
 use Rattle.bz_model.specs.Fraction.{Fraction}
 use Rattle.bz_model.specs.Spec.{Spec, Node, node_at}
-use Rattle.bz_model.specs.Cell.{IsCell, IsInCell}
+use Rattle.bz_model.specs.Cell.{IsCell, AreCells, IsInCell}
+use Rattle.bz_model.proofs.CellLists.{cells_append}
 use Rattle.bz_model.specs.Ideal.{IsIdealOption}
-use Rattle.bit_tape.specs.Tape.{TapeSource, CountsFault, HasFault}
-use Rattle.bit_tape.proofs.Leaving.{fault-rose}
 use Rattle.std.proofs.lemmas.Option.{get_or_from_slice_get}
 use Rattle.bz_laws.proofs.Unions.{part_there}
 use Rattle.class_system.specs.Sound.{IsSound}
@@ -16,14 +15,16 @@ use Rattle.choice_draw.specs.declared.drawn.Drawn.{Drawn}
 use Rattle.choice_draw.specs.declared.drawn.Drawn.TheVariants as drawn
 use Rattle.choice_draw.specs.Decision.{Choice, union_decision}
 use Rattle.choice_draw.specs.Draw.{bit_of, draw}
-use Rattle.choice_draw.specs.Answer.{OnValue, HasCell, UsesBits, told_draw, fault_of, is_fault}
+use Rattle.choice_draw.specs.Answer.{OnValue, HasCell, UsesBits, IsDraw, told_draw, fault_of}
+use Rattle.choice_draw.specs.Answer as drew
+use Rattle.choice_draw.proofs.ToldDraws.{on_some}
 use Rattle.object_store.specs.declared.token.Token.{Token}
 use Rattle.object_store.specs.declared.token.Token.TheVariants as token
 use Rattle.shape_sampler.specs.declared.stepped.Stepped.{Stepped}
 use Rattle.shape_sampler.specs.declared.stepped.Stepped.TheVariants.{Moved, Straddles, Ended, ReadFault}
 use Rattle.shape_sampler.specs.Visit.{Chooser, Attempt, Visited, after_draw, union_answered, node_visited, visit_among, visit, with_pending, with_token, with_cell}
 use Rattle.shape_sampler.specs.State.{SessionState, SessionBelongs, Leaves, attempt_of, stopped_by, union_answer, stop_after, drawn_tokens, drawn_cells, PutsPart}
-use Rattle.shape_sampler.specs.Answer.{told_visit, fault_place, ChoosesBy, IsVisit, IsIdealAnswer, Draws}
+use Rattle.shape_sampler.specs.Answer.{told_visit, fault_place, is_fault, EndsThere, ChoosesBy, IsVisit, IsVisitByBits, IsIdealAnswer, Draws}
 use Rattle.shape_sampler.proofs.Ideal.{IsIdealVisit, ideal-union}
 use Rattle.shape_sampler.proofs.Sessions.{still-belongs}
 use Rattle.shape_sampler.proofs.Plain.{Front, front}
@@ -73,6 +74,36 @@ same-attempt a b pending tokens cells room used =
 pub stays : (before now : SessionState) (answer : Stepped) → now.root ≡ before.root → now.whole ≡ before.whole → now.pending ≡ before.pending → now.tokens ≡ before.tokens ++ [] → now.cells ≡ before.cells ++ [] → now.room ≡ before.room → now.stopped ≡ Some answer → now ≡ stopped_by before answer
 stays before now answer root whole pending tokens cells room stopped = same-state now (stopped_by before answer) root whole pending (tokens ∙ append-nil before.tokens) (cells ∙ append-nil before.cells) room stopped
 
+-- the cells that an answer adds are cells
+drawn-are : (d : Drawn) → OnValue d (λ i cell. IsCell cell.k cell.b) → AreCells (drawn_cells d)
+drawn-are (drawn.Value value cell) h = (h, tt)
+drawn-are (drawn.Straddles cell) h = tt
+drawn-are drawn.Ended h = tt
+drawn-are drawn.ReadFault h = tt
+
+-- where the tape's end stopped the draw, it stopped the visit
+to-visit : (node : ExprId) (d : Drawn) (used : ℕ) (bits : ℕ → Option Bool) → drew.EndsThere (told_draw Choice.Take d used) bits → EndsThere (union_answer node d) used bits
+to-visit node (drawn.Value value cell) used bits h = tt
+to-visit node (drawn.Straddles cell) used bits h = tt
+to-visit node drawn.Ended used bits h = h
+to-visit node drawn.ReadFault used bits h = tt
+
+to-draw : (node : ExprId) (d : Drawn) (used : ℕ) (bits : ℕ → Option Bool) → EndsThere (union_answer node d) used bits → drew.EndsThere (told_draw Choice.Take d used) bits
+to-draw node (drawn.Value value cell) used bits h = tt
+to-draw node (drawn.Straddles cell) used bits h = tt
+to-draw node drawn.Ended used bits h = h
+to-draw node drawn.ReadFault used bits h = tt
+
+-- a visit fails exactly where its draw does
+pub draw-fault : (node : ExprId) (d : Drawn) (answer : Stepped) (stopped : Option Stepped) → stopped ≡ None → answer ≡ union_answer node d → drew.is_fault d ≡ is_fault answer stopped
+draw-fault node d answer stopped running answered = by d ∙ ap (λ a. is_fault a None) (sym answered) ∙ ap (is_fault answer) (sym running)
+  where
+    by : (d : Drawn) → drew.is_fault d ≡ is_fault (union_answer node d) None
+    by (drawn.Value value cell) = refl
+    by (drawn.Straddles cell) = refl
+    by drawn.Ended = refl
+    by drawn.ReadFault = refl
+
 module _ (node : ExprId) (parts : List ℕ) (before now : SessionState) (first : slice_get before.pending 0 ≡ Some node.0) where
   f : Front before.pending node.0
   f = front before.pending node.0 first
@@ -86,7 +117,7 @@ module _ (node : ExprId) (parts : List ℕ) (before now : SessionState) (first :
   -- what was drawn stands after the cells before, or all bits of a cell were used
   pub union-draws : (d : Drawn) (start used : ℕ) → Settled node parts d before now → UsesBits (told_draw Choice.Take d used) start used → HasCell (told_draw Choice.Take d used) → Draws (union_answer node d) before now start used
   union-draws (drawn.Value value cell) start used t bits h = record { more = cell ∷ []; whole = t.cells }
-  union-draws (drawn.Straddles cell) start used t bits h = record { first = first; bits = h.1; all_used = bits }
+  union-draws (drawn.Straddles cell) start used t bits h = record { first = first; is_cell = h.0; bits = h.1; all_used = bits }
   union-draws drawn.Ended start used t bits h = tt
   union-draws drawn.ReadFault start used t bits h = tt
 
@@ -125,16 +156,20 @@ module _ (node : ExprId) (parts : List ℕ) (before now : SessionState) (first :
             ∙ ap (node_visited c bit a node.0 f.rest) (sym here)
             ∙ ap (visit_among c bit a) (sym f.whole)
 
-    pub union-session : (x : Fraction) → IsSound s → (d : Drawn) → Settled node parts d before now → OnValue d (λ i cell. (u : Fraction) → IsInCell cell.k cell.b u → IsIdealOption s x u node.0 i) → OnValue d (λ i cell. i < length parts) → SessionBelongs s x before → SessionBelongs s x now × IsIdealAnswer s x (union_answer node d) now
-    union-session x sound (drawn.Value value cell) t ideal within b =
+    -- the cells are cells still
+    cells-now : (d : Drawn) → Settled node parts d before now → OnValue d (λ i cell. IsCell cell.k cell.b) → AreCells before.cells → AreCells now.cells
+    cells-now d t is_cell all = subst AreCells (sym t.cells) (cells_append before.cells (drawn_cells d) all (drawn-are d is_cell))
+
+    pub union-session : (x : Fraction) → IsSound s → (d : Drawn) → Settled node parts d before now → OnValue d (λ i cell. IsCell cell.k cell.b) → OnValue d (λ i cell. (u : Fraction) → IsInCell cell.k cell.b u → IsIdealOption s x u node.0 i) → OnValue d (λ i cell. i < length parts) → SessionBelongs s x before → SessionBelongs s x now × IsIdealAnswer s x (union_answer node d) now
+    union-session x sound (drawn.Value value cell) t is_cell ideal within b =
         let there = part_there parts value within in
         let index : slice_index parts value ≡ there.0 = get_or_from_slice_get parts value there.0 0 there.1 in
         let visit = ideal-union s x before.whole (attempt_of before 0) b.attempt node.0 f.rest f.whole sound parts value there.0 cell at there.1 ideal in
         let attempt = picked value cell 0 cell.b t (sym (zero-add cell.b)) ∙ ap (λ p. with_pending (with_token (with_cell (attempt_of before 0) cell) (token.Pick value)) (p ∷ f.rest)) index in
-        still-belongs s x before now Moved cell.b b (union-leaves (drawn.Value value cell) t) (λ ne. subst (λ q. IsIdealVisit s x before.whole (Visited.Went q)) (sym attempt) visit)
-    union-session x sound (drawn.Straddles cell) t ideal within b = still-belongs s x before now (Straddles node cell) 0 b (union-leaves (drawn.Straddles cell) t) (λ ne. tt)
-    union-session x sound drawn.Ended t ideal within b = still-belongs s x before now Ended 0 b (union-leaves drawn.Ended t) (λ ne. tt)
-    union-session x sound drawn.ReadFault t ideal within b = still-belongs s x before now ReadFault 0 b (union-leaves drawn.ReadFault t) (λ ne. tt)
+        still-belongs s x before now Moved cell.b b (union-leaves (drawn.Value value cell) t) (cells-now (drawn.Value value cell) t is_cell b.cells) (λ ne. subst (λ q. IsIdealVisit s x before.whole (Visited.Went q)) (sym attempt) visit)
+    union-session x sound (drawn.Straddles cell) t is_cell ideal within b = still-belongs s x before now (Straddles node cell) 0 b (union-leaves (drawn.Straddles cell) t) (cells-now (drawn.Straddles cell) t is_cell b.cells) (λ ne. tt)
+    union-session x sound drawn.Ended t is_cell ideal within b = still-belongs s x before now Ended 0 b (union-leaves drawn.Ended t) (cells-now drawn.Ended t is_cell b.cells) (λ ne. tt)
+    union-session x sound drawn.ReadFault t is_cell ideal within b = still-belongs s x before now ReadFault 0 b (union-leaves drawn.ReadFault t) (cells-now drawn.ReadFault t is_cell b.cells) (λ ne. tt)
 
 -- the cell of a value is a cell
 pub cell-of : (d : Drawn) (used : ℕ) → HasCell (told_draw Choice.Take d used) → OnValue d (λ i cell. IsCell cell.k cell.b)
@@ -150,13 +185,6 @@ draw-few (drawn.Straddles cell) start used h u = (omega arith, omega arith)
 draw-few drawn.Ended start used h u = (omega arith, omega arith)
 draw-few drawn.ReadFault start used h u = (omega arith, omega arith)
 
--- a visit answers a failed read only where the draw does
-pub draw-cause : (node : ExprId) (d : Drawn) (source : TapeSource) (before now : List ℕ → ℕ) → CountsFault (is_fault d) source before now → union_answer node d ≡ ReadFault → HasFault source before now
-draw-cause node (drawn.Value value cell) source before now f e = cc
-draw-cause node (drawn.Straddles cell) source before now f e = cc
-draw-cause node drawn.Ended source before now f e = cc
-draw-cause node drawn.ReadFault source before now f e = fault-rose source before now f
-
 -- The same for an answer that is the draw's.
 module _ (node : ExprId) (parts : List ℕ) (before now : SessionState) (first : slice_get before.pending 0 ≡ Some node.0) (d : Drawn) (answer : Stepped) (answered : answer ≡ union_answer node d) (settled : Settled node parts d before now) where
   pub answer-leaves : Leaves answer before now
@@ -166,13 +194,17 @@ module _ (node : ExprId) (parts : List ℕ) (before now : SessionState) (first :
   answer-draws start used bits h = subst (λ a. Draws a before now start used) (sym answered) (union-draws node parts before now first d start used settled bits h)
 
   module _ (s : Spec) (at : node_at s node.0 ≡ Some (Node.Union parts)) where
-    pub answer-exact : (F : ℕ) (table : (level e : ℕ) → Bounds) (start used : ℕ) → UsesBits (told_draw Choice.Take d used) start used → (bits : ℕ → Option Bool) → told_draw Choice.Take d used ≡ draw (union_decision s table node.0) (bit_of bits (fault_of (told_draw Choice.Take d used))) start → (c : Chooser) → ChoosesBy s F table c → IsVisit c bits before start answer now used
+    answer-exact : (F : ℕ) (table : (level e : ℕ) → Bounds) (start used : ℕ) → UsesBits (told_draw Choice.Take d used) start used → (bits : ℕ → Option Bool) → told_draw Choice.Take d used ≡ draw (union_decision s table node.0) (bit_of bits (fault_of (told_draw Choice.Take d used))) start → (c : Chooser) → ChoosesBy s F table c → IsVisit c bits before start answer now used
     answer-exact F table start used uses bits drawn c by = subst (λ a. IsVisit c bits before start a now used) (sym answered) (union-exact node parts before now first s at F table bits d start used settled uses drawn c by)
 
-    pub answer-session : (x : Fraction) → IsSound s → OnValue d (λ i cell. (u : Fraction) → IsInCell cell.k cell.b u → IsIdealOption s x u node.0 i) → OnValue d (λ i cell. i < length parts) → SessionBelongs s x before → SessionBelongs s x now × IsIdealAnswer s x answer now
-    answer-session x sound ideal within b = subst (λ a. SessionBelongs s x now × IsIdealAnswer s x a now) (sym answered) (union-session node parts before now first s at x sound d settled ideal within b)
+    -- the visit over the bits that the draw was given
+    pub answer-by-bits : (F : ℕ) (table : (level e : ℕ) → Bounds) (told : Option (ℕ → Option Bool)) (start used : ℕ) → IsDraw (union_decision s table node.0) told start used (told_draw Choice.Take d used) → IsVisitByBits s F table told before start answer now used
+    answer-by-bits F table told start used drew_so = record {
+      given = drew_so.given;
+      gave = drew_so.gave;
+      ended = on_some told (λ bits h. subst (λ a. EndsThere a used bits) (sym answered) (to-visit node d used bits h)) drew_so.ended;
+      exact = λ bits have ends c by. answer-exact F table start used drew_so.uses bits (drew_so.exact bits have (to-draw node d used bits (subst (λ a. EndsThere a used bits) answered ends))) c by;
+    }
 
--- What holds of the value, if there is one, where a stronger fact does.
-pub if-some : {T : Type 0} (o : Option T) (P Q : T → Type 0) → ((t : T) → P t → Q t) → IfSome o P → IfSome o Q
-if-some None P Q h k = tt
-if-some (Some t) P Q h k = h t k
+    pub answer-session : (x : Fraction) → IsSound s → OnValue d (λ i cell. IsCell cell.k cell.b) → OnValue d (λ i cell. (u : Fraction) → IsInCell cell.k cell.b u → IsIdealOption s x u node.0 i) → OnValue d (λ i cell. i < length parts) → SessionBelongs s x before → SessionBelongs s x now × IsIdealAnswer s x answer now
+    answer-session x sound is_cell ideal within b = subst (λ a. SessionBelongs s x now × IsIdealAnswer s x a now) (sym answered) (union-session node parts before now first s at x sound d settled is_cell ideal within b)

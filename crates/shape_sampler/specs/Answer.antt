@@ -1,11 +1,13 @@
 -- What a step's answer tells of the visit.
-use Rattle.std.specs.Prelude.{◌≡◌, ◌≢◌, ◌↔◌, ℕ, ◌+◌, Bool, IsTrue, List, ◌∷◌, ◌++◌, Option, Some, None, slice_get}
+use Rattle.std.specs.Prelude.{◌≡◌, ◌≢◌, ◌↔◌, ℕ, ◌+◌, Bool, true, false, IsTrue, List, ◌∷◌, ◌++◌, Option, Some, None, IfSome, slice_get}
 use Rattle.bz_model.specs.declared.cell.Cell.{Cell}
 use Rattle.class_system.specs.declared.ids.ExprId.{ExprId}
 use Rattle.bz_model.specs.declared.cell.Bounds.{Bounds}
 use Rattle.bz_model.specs.Fraction.{Fraction}
 use Rattle.bz_model.specs.Spec.{Spec}
 use Rattle.bz_model.specs.Measures.{HasZero}
+use Rattle.bz_model.specs.Cell.{IsCell}
+use Rattle.bit_tape.specs.Given.{HasBits, Gave}
 use Rattle.choice_draw.specs.Decision.{IsUnion, union_decision}
 use Rattle.choice_draw.specs.Draw.{Bit, bit_of}
 use Rattle.count_draw.specs.Kinds.{IsCountedNode}
@@ -31,6 +33,16 @@ abbrev pub fault_place : Stepped → (used : ℕ) → Option ℕ
 fault_place ReadFault used = Some used
 fault_place _ used = None
 
+-- The answer is that the shelf failed, in this visit: nothing had stopped the session before.
+abbrev pub is_fault : Stepped → (stopped : Option Stepped) → Bool
+is_fault ReadFault None = true
+is_fault _ stopped = false
+
+-- Where the tape's end stopped the visit, these bits end at the place used.
+abbrev pub EndsThere : Stepped → (used : ℕ) → (bits : ℕ → Option Bool) → Type 0
+EndsThere Ended used bits = bits used ≡ None
+EndsThere _ used bits = Unit {0}
+
 -- A chooser decides by a table of bounds, in units of 2^-f, at the unions and at the sequences, sets and cycles of a specification, and tells which nodes have an object of size 0.
 pub record ChoosesBy (s : Spec) (f : ℕ) (table : (level node : ℕ) → Bounds) (c : Chooser) : Type 0 where
   pub same_spec : c.spec ≡ s
@@ -41,6 +53,13 @@ pub record ChoosesBy (s : Spec) (f : ℕ) (table : (level node : ℕ) → Bounds
 -- An answer is that of the visit from the state before, over these bits; the shelf fails only if the answer says so, and then after the bits used. Want of memory tells nothing.
 pub record IsVisit (c : Chooser) (bits : ℕ → Option Bool) (before : SessionState) (start : ℕ) (answer : Stepped) (now : SessionState) (used : ℕ) : Type 0 where
   pub same : answer ≢ OutOfMemory → told_visit answer now used ≡ visit c (bit_of bits (fault_place answer used)) (attempt_of before start)
+
+-- An answer is that of the visit over the bits that it was given: it was given as many bits as were used, the tape's own where they are told; and over every tape that has these bits there, and ends where the answer says that it did, it is the visit by each chooser that decides by the table.
+pub record IsVisitByBits (s : Spec) (f : ℕ) (table : (level node : ℕ) → Bounds) (told : Option (ℕ → Option Bool)) (before : SessionState) (start : ℕ) (answer : Stepped) (now : SessionState) (used : ℕ) : Type 0 where
+  pub given : List Bool
+  pub gave : Gave told start used given
+  pub ended : IfSome told (EndsThere answer used)
+  pub exact : (bits : ℕ → Option Bool) → HasBits bits start given → EndsThere answer used bits → (c : Chooser) → ChoosesBy s f table c → IsVisit c bits before start answer now used
 
 -- An answer is that of the visit by every chooser of the specification, over any bits, so many being used before and after.
 pub record IsVisitOfAll (s : Spec) (before : SessionState) (answer : Stepped) (now : SessionState) : Type 0 where
@@ -60,6 +79,7 @@ pub record Extends (before now : List Cell) : Type 0 where
 -- A cell that straddles is one of 60 bits, at the first pending node; so many bits were used.
 pub record StraddlesAt (node : ExprId) (cell : Cell) (before : SessionState) (start used : ℕ) : Type 0 where
   pub first : slice_get before.pending 0 ≡ Some node.0
+  pub is_cell : IsCell cell.k cell.b
   pub bits : cell.b ≡ 60
   pub all_used : used ≡ start + cell.b
 

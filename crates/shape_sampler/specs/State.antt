@@ -2,6 +2,7 @@
 use Rattle.std.specs.Prelude.{◌≡◌, ◌≢◌, ℕ, ◌<◌, length, replicate, slice_index, List, [], ◌∷◌, ◌++◌, Option, Some, None}
 use Rattle.bz_model.specs.declared.cell.Cell.{Cell}
 use Rattle.bz_model.specs.Fraction.{Fraction}
+use Rattle.bz_model.specs.Cell.{AreCells}
 use Rattle.bz_model.specs.Spec.{Spec, node_at, body_of}
 use Rattle.class_system.specs.declared.ids.ExprId.{ExprId}
 use Rattle.choice_draw.specs.declared.drawn.Drawn.{Drawn}
@@ -39,11 +40,12 @@ begun_state st = record st { pending = st.root ∷ []; tokens = []; cells = []; 
 abbrev pub emptied : SessionState → SessionState
 emptied st = record st { tokens = []; cells = [] }
 
--- A session belongs where it knows the body of class 0, which is a node, and its attempt belongs.
+-- A session belongs where it knows the body of class 0, which is a node, its attempt belongs, and its cells are cells.
 pub record SessionBelongs (s : Spec) (x : Fraction) (st : SessionState) : Type 0 where
   pub root : body_of s 0 ≡ Some st.root
   pub root_in_range : st.root < length s.nodes
   pub attempt : Belonging s x st.whole (attempt_of st 0)
+  pub cells : AreCells st.cells
 
 -- What is left where a session goes on: it knows what it knew, and nothing stopped it.
 pub record Runs (before now : SessionState) : Type 0 where

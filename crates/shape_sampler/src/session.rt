@@ -1,15 +1,15 @@
 //! Sessions: attempts, made one visit at a time.
-ghost use Rattle.std.specs.Prelude.{◌≡◌, ◌≢◌, ℕ, ◌+◌, ◌-◌, ◌<◌, ◌≤◌, ◌↔◌, max, [], ◌∷◌, List, map, length, slice_get, Some, None, IfSome, IsSome, IfOk, OnOk, OnErr, IsTrue};
+ghost use Rattle.std.specs.Prelude.{◌≡◌, ◌≢◌, ◌+◌, ◌-◌, ◌<◌, ◌≤◌, ◌↔◌, max, [], ◌∷◌, map, length, slice_get, Some, None, IfSome, IsSome, IfOk, OnOk, OnErr, IsTrue};
 ghost use Rattle.bz_model.specs.Fraction.{Fraction};
 ghost use Rattle.bz_model.specs.Spec.{Spec, Node, node_at, body_of};
-ghost use Rattle.bz_model.specs.Oracle.{cost_between};
+ghost use Rattle.bz_model.specs.Oracle.{LeavesOracle};
 ghost use Rattle.class_system.specs.Views.{number};
-ghost use Rattle.bit_tape.specs.Tape.{TapeSource, Belongs, bits_of, HasFault};
+ghost use Rattle.bit_tape.specs.Tape.{Belongs, LeavesTape, bits_of};
 ghost use Rattle.choice_draw.specs.Decision.{IsUnion, level_for};
 ghost use Rattle.count_draw.specs.Kinds.{IsCountedNode};
-ghost use Rattle.shape_sampler.specs.Visit.{Chooser, leaf_visited};
+ghost use Rattle.shape_sampler.specs.Visit.{leaf_visited};
 ghost use Rattle.shape_sampler.specs.State.{SessionState, SessionBelongs, HasCountedPart, begun_state, emptied, Leaves};
-ghost use Rattle.shape_sampler.specs.Answer.{ChoosesBy, IsVisit, IsIdealAnswer, IsVisitOfAll, IsPlainAnswer, IsPlainVisit, room_atom_visited, replaced_by, Draws};
+ghost use Rattle.shape_sampler.specs.Answer.{IsVisitByBits, IsIdealAnswer, IsVisitOfAll, IsPlainAnswer, IsPlainVisit, room_atom_visited, replaced_by, Draws, is_fault};
 
 use crate::counted::{answer_to_count, counted_part, put_counted, room_for};
 use crate::placing::{
@@ -148,8 +148,10 @@ impl Session {
     /// adds `Pick` and puts that part in its place. A sequence, set or cycle draws its number of
     /// parts, up to the room left, or to 64 where its part has an object of size 0, adds `Count` and
     /// puts its part in its place so often; it is `Overshot` where every number up to the room is
-    /// passed over. The memory of a visit is taken before its first bit. After `Straddles`, `Ended`
-    /// or `ReadFault` the session answers the same until `begin`, and touches nothing.
+    /// passed over. The answer is fixed by the bits that were given and the oracle's table, whether the
+    /// shelf tells its content or not. `ReadFault` comes exactly where the count of faults of the tape's
+    /// name rose, by one. The memory of a visit is taken before its first bit. After `Straddles`,
+    /// `Ended` or `ReadFault` the session answers the same until `begin`, and touches nothing.
     pub fn step<const F: u32, O: Oracle<F>, S: Shelf, L: Ledger>(
         &mut self,
         founded: &Founded,
@@ -165,29 +167,27 @@ impl Session {
         requires tape { Belongs (S.content shelf.old) tape.old }
 
         ensures again { IfSome self.old.stopped (λ stop. (result ≡ stop) × (self.new ≡ self.old)) }
-        ensures stopped { IsSome self.old.stopped → (tape.new ≡ tape.old) × (oracle.new ≡ oracle.old) }
-        ensures no_memory { result ≡ Stepped.OutOfMemory → (self.new ≡ self.old) × (tape.new ≡ tape.old) × (oracle.new ≡ oracle.old) }
-        ensures unread { result ≡ Stepped.OutOfMemory → shelf.new ≡ shelf.old }
+        ensures stopped { IsSome self.old.stopped
+            → (tape.new ≡ tape.old) × (oracle.new ≡ oracle.old) × (shelf.new ≡ shelf.old) }
+        ensures no_memory { result ≡ Stepped.OutOfMemory → (self.new ≡ self.old)
+            × (tape.new ≡ tape.old) × (oracle.new ≡ oracle.old) × (shelf.new ≡ shelf.old) }
         ensures leaves { self.old.stopped ≡ None → Leaves result self.old self.new }
-        ensures draws { self.old.stopped ≡ None → Draws result self.old self.new tape.old.used tape.new.used }
-        ensures exact { self.old.stopped ≡ None → IfSome (bits_of tape.old.source (S.content shelf.old)) (λ bits. (c : Chooser) → ChoosesBy founded.now F (O.table oracle.old) c → IsVisit c bits self.old tape.old.used result self.new tape.new.used) }
+        ensures draws { self.old.stopped ≡ None
+            → Draws result self.old self.new tape.old.used tape.new.used }
+        ensures exact { self.old.stopped ≡ None
+            → IsVisitByBits founded.now F (O.table oracle.old)
+            (bits_of tape.old.source (S.content shelf.old))
+            self.old tape.old.used result self.new tape.new.used }
         ensures ideal { IsIdealAnswer founded.now (O.x oracle.old) result self.new }
         ensures session { SessionBelongs founded.now (O.x oracle.old) self.new }
 
-        ensures spec { O.spec oracle.new ≡ O.spec oracle.old }
-        ensures x { O.x oracle.new ≡ O.x oracle.old }
-        ensures table { O.table oracle.new ≡ O.table oracle.old }
-        ensures cost { O.cost oracle.new ≡ O.cost oracle.old }
-        ensures raised { O.raised oracle.new ≡ max (O.raised oracle.old) (level_for (tape.new.used - tape.old.used)) }
-        ensures ticks { steps.new ≤ steps.old + cost_between (O.cost oracle.old) (O.raised oracle.old) (O.raised oracle.new) }
-
+        ensures raised { O.raised oracle.new
+            ≡ max (O.raised oracle.old) (level_for (tape.new.used - tape.old.used)) }
         ensures used { (tape.old.used ≤ tape.new.used) × (tape.new.used ≤ tape.old.used + 60) }
-        ensures source { tape.new.source ≡ tape.old.source }
-        ensures tape { Belongs (S.content shelf.new) tape.new }
-        ensures content { S.content shelf.new ≡ S.content shelf.old }
-        ensures counts { (other : List ℕ) → S.faults shelf.old other ≤ S.faults shelf.new other }
-        ensures cause { self.old.stopped ≡ None → result ≡ Stepped.ReadFault → HasFault tape.old.source (S.faults shelf.old) (S.faults shelf.new) }
-        ensures seeded { (seed : ℕ) → tape.old.source ≡ TapeSource.Seeded seed → shelf.new ≡ shelf.old }
+        ensures oracle { LeavesOracle O.spec O.x O.table O.cost O.raised
+            oracle.old oracle.new steps.old steps.new }
+        ensures tape { LeavesTape S.content S.faults (is_fault result self.old.stopped)
+            shelf.old shelf.new tape.old tape.new }
     {
         if let Some(stop) = self.stopped {
             return stop;
@@ -309,28 +309,23 @@ impl Session {
         requires first { slice_get self.old.pending 0 ≡ Some node.0 }
         requires tape { Belongs (S.content shelf.old) tape.old }
 
-        ensures no_memory { result ≡ Stepped.OutOfMemory → (self.new ≡ self.old) × (tape.new ≡ tape.old) × (oracle.new ≡ oracle.old) }
-        ensures unread { result ≡ Stepped.OutOfMemory → shelf.new ≡ shelf.old }
+        ensures no_memory { result ≡ Stepped.OutOfMemory → (self.new ≡ self.old)
+            × (tape.new ≡ tape.old) × (oracle.new ≡ oracle.old) × (shelf.new ≡ shelf.old) }
         ensures leaves { Leaves result self.old self.new }
         ensures draws { Draws result self.old self.new tape.old.used tape.new.used }
-        ensures exact { IfSome (bits_of tape.old.source (S.content shelf.old)) (λ bits. (c : Chooser) → ChoosesBy system.now F (O.table oracle.old) c → IsVisit c bits self.old tape.old.used result self.new tape.new.used) }
+        ensures exact { IsVisitByBits system.now F (O.table oracle.old)
+            (bits_of tape.old.source (S.content shelf.old))
+            self.old tape.old.used result self.new tape.new.used }
         ensures session { SessionBelongs system.now (O.x oracle.old) self.old
             → SessionBelongs system.now (O.x oracle.old) self.new × IsIdealAnswer system.now (O.x oracle.old) result self.new }
 
-        ensures spec { O.spec oracle.new ≡ O.spec oracle.old }
-        ensures x { O.x oracle.new ≡ O.x oracle.old }
-        ensures table { O.table oracle.new ≡ O.table oracle.old }
-        ensures cost { O.cost oracle.new ≡ O.cost oracle.old }
-        ensures raised { O.raised oracle.new ≡ max (O.raised oracle.old) (level_for (tape.new.used - tape.old.used)) }
-        ensures ticks { steps.new ≤ steps.old + cost_between (O.cost oracle.old) (O.raised oracle.old) (O.raised oracle.new) }
-
+        ensures raised { O.raised oracle.new
+            ≡ max (O.raised oracle.old) (level_for (tape.new.used - tape.old.used)) }
         ensures used { (tape.old.used ≤ tape.new.used) × (tape.new.used ≤ tape.old.used + 60) }
-        ensures source { tape.new.source ≡ tape.old.source }
-        ensures tape { Belongs (S.content shelf.new) tape.new }
-        ensures content { S.content shelf.new ≡ S.content shelf.old }
-        ensures counts { (other : List ℕ) → S.faults shelf.old other ≤ S.faults shelf.new other }
-        ensures cause { result ≡ Stepped.ReadFault → HasFault tape.old.source (S.faults shelf.old) (S.faults shelf.new) }
-        ensures seeded { (seed : ℕ) → tape.old.source ≡ TapeSource.Seeded seed → shelf.new ≡ shelf.old }
+        ensures oracle { LeavesOracle O.spec O.x O.table O.cost O.raised
+            oracle.old oracle.new steps.old steps.new }
+        ensures tape { LeavesTape S.content S.faults (is_fault result self.old.stopped)
+            shelf.old shelf.new tape.old tape.new }
     {
         if reserve_drawn(&mut self.pending, &mut self.shape, &mut self.cells).is_err() {
             return Stepped::OutOfMemory;
@@ -367,28 +362,23 @@ impl Session {
         requires first { slice_get self.old.pending 0 ≡ Some node.0 }
         requires tape { Belongs (S.content shelf.old) tape.old }
 
-        ensures no_memory { result ≡ Stepped.OutOfMemory → (self.new ≡ self.old) × (tape.new ≡ tape.old) × (oracle.new ≡ oracle.old) }
-        ensures unread { result ≡ Stepped.OutOfMemory → shelf.new ≡ shelf.old }
+        ensures no_memory { result ≡ Stepped.OutOfMemory → (self.new ≡ self.old)
+            × (tape.new ≡ tape.old) × (oracle.new ≡ oracle.old) × (shelf.new ≡ shelf.old) }
         ensures leaves { Leaves result self.old self.new }
         ensures draws { Draws result self.old self.new tape.old.used tape.new.used }
-        ensures exact { IfSome (bits_of tape.old.source (S.content shelf.old)) (λ bits. (c : Chooser) → ChoosesBy founded.now F (O.table oracle.old) c → IsVisit c bits self.old tape.old.used result self.new tape.new.used) }
+        ensures exact { IsVisitByBits founded.now F (O.table oracle.old)
+            (bits_of tape.old.source (S.content shelf.old))
+            self.old tape.old.used result self.new tape.new.used }
         ensures session { SessionBelongs founded.now (O.x oracle.old) self.old
             → SessionBelongs founded.now (O.x oracle.old) self.new × IsIdealAnswer founded.now (O.x oracle.old) result self.new }
 
-        ensures spec { O.spec oracle.new ≡ O.spec oracle.old }
-        ensures x { O.x oracle.new ≡ O.x oracle.old }
-        ensures table { O.table oracle.new ≡ O.table oracle.old }
-        ensures cost { O.cost oracle.new ≡ O.cost oracle.old }
-        ensures raised { O.raised oracle.new ≡ max (O.raised oracle.old) (level_for (tape.new.used - tape.old.used)) }
-        ensures ticks { steps.new ≤ steps.old + cost_between (O.cost oracle.old) (O.raised oracle.old) (O.raised oracle.new) }
-
+        ensures raised { O.raised oracle.new
+            ≡ max (O.raised oracle.old) (level_for (tape.new.used - tape.old.used)) }
         ensures used { (tape.old.used ≤ tape.new.used) × (tape.new.used ≤ tape.old.used + 60) }
-        ensures source { tape.new.source ≡ tape.old.source }
-        ensures tape { Belongs (S.content shelf.new) tape.new }
-        ensures content { S.content shelf.new ≡ S.content shelf.old }
-        ensures counts { (other : List ℕ) → S.faults shelf.old other ≤ S.faults shelf.new other }
-        ensures cause { result ≡ Stepped.ReadFault → HasFault tape.old.source (S.faults shelf.old) (S.faults shelf.new) }
-        ensures seeded { (seed : ℕ) → tape.old.source ≡ TapeSource.Seeded seed → shelf.new ≡ shelf.old }
+        ensures oracle { LeavesOracle O.spec O.x O.table O.cost O.raised
+            oracle.old oracle.new steps.old steps.new }
+        ensures tape { LeavesTape S.content S.faults (is_fault result self.old.stopped)
+            shelf.old shelf.new tape.old tape.new }
     {
         founded.known();
         if reserve_drawn(&mut self.pending, &mut self.shape, &mut self.cells).is_err() {

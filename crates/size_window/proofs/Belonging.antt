@@ -4,6 +4,7 @@ use Rattle.std.specs.Prelude.{slice_get, ◌↔◌, Bool, true, false, IsTrue, I
 use Rattle.bz_model.specs.declared.cell.Bounds.{Bounds}
 use Rattle.bz_model.specs.Fraction.{Fraction}
 use Rattle.bz_model.specs.Spec.{Spec, Mode}
+use Rattle.bz_model.specs.Cell.{AreCells}
 use Rattle.object_store.specs.Tokens.{size_of}
 use Rattle.choice_draw.specs.Decision.{level_for}
 use Rattle.object_store.specs.Walk.{AllBelow}
@@ -68,6 +69,7 @@ waits-on s x before now same_shape same_pending same_limits h = subst (λ w. IfS
   rests = same_pending ∙ w.rests;
   ideal = subst (λ (l : Limits). IsIdealShape s x l.max shape.tokens shape.cells) (sym same_limits) w.ideal;
   least = subst (λ (l : Limits). l.min ≤ size_of shape.tokens) (sym same_limits) w.least;
+  cells = w.cells;
 }) h)
 
 -- none waits
@@ -147,7 +149,7 @@ module _ (s : Spec) (x : Fraction) (before : DrawingState) (b : DrawingBelongs s
     waiting-belongs : s.mode ≡ Mode.Labelled → session.whole ≡ before.session.whole → session.stopped ≡ None → session.pending ≡ [] → IsIdealShape s x session.whole session.tokens session.cells → before.limits.min ≤ size_of session.tokens → DrawingBelongs s x (waiting_with (counted (taken_out mid)) (shape_in session))
     waiting-belongs labelled whole stopped none ideal enough = record {
       session = emptied-belongs s x session none belongs;
-      waits = record { labelled = labelled; rests = none; ideal = subst (λ w. IsIdealShape s x w session.tokens session.cells) (whole ∙ b.whole) ideal; least = enough };
+      waits = record { labelled = labelled; rests = none; ideal = subst (λ w. IsIdealShape s x w session.tokens session.cells) (whole ∙ b.whole) ideal; least = enough; cells = belongs.cells };
       whole = whole ∙ b.whole;
       runs = λ ending. stopped;
       limits = b.limits;
@@ -180,6 +182,7 @@ module _ (s : Spec) (x : Fraction) (before : DrawingState) (b : DrawingBelongs s
       place = k.place ∙ ap (λ cs. used - bits_in cs) (sym k.cells);
       least = subst (λ ts. before.limits.min ≤ size_of ts) (sym k.shape_is) enough;
       greatest = subst (λ ts. size_of ts ≤ before.limits.max) (sym k.shape_is) fits;
+      cells = subst AreCells (sym k.cells) belongs.cells;
     })
 
     made-labels : (mode : Mode) → s.mode ≡ mode → (used : ℕ) (result : Turned) (now : DrawingState) → KeepsOrWaits mode (shape_in session) used (counted (taken_out mid)) result now → IfKept result (HasLabels s.mode)

@@ -27,7 +27,7 @@ entries-more (j ∷ ks) [] k e h i = elim h [ ]
 entries-more (j ∷ ks) (d ∷ es) k e h i = (h.0, entries-more ks es k e h.1 i)
 
 -- a fact of each entry, with one more at the end
-all-more : (P : Entry → Type 0) (es : List Entry) (e : Entry) → AllByRecursion P es → P e → AllByRecursion P (es ++ e ∷ [])
+pub all-more : (P : Entry → Type 0) (es : List Entry) (e : Entry) → AllByRecursion P es → P e → AllByRecursion P (es ++ e ∷ [])
 all-more P [] e h i = (i, tt)
 all-more P (d ∷ es) e h i = (h.0, all-more P es e h.1 i)
 

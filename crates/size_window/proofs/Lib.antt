@@ -10,3 +10,8 @@ pub mod Following
 pub mod UnionsIdeally
 pub mod CountsIdeally
 pub mod TablesIdeally
+pub mod SpelledVisits
+pub mod SpelledTurns
+pub mod VisitsAgain
+pub mod Redrawing
+pub mod Tracing

@@ -14,7 +14,7 @@ use Rattle.shape_sampler.specs.declared.stepped.Stepped.TheVariants as stepped
 use Rattle.shape_sampler.specs.Visit.{Chooser, Attempt, visit}
 use Rattle.shape_sampler.specs.State.{SessionState, Leaves, attempt_of, stopped_by}
 use Rattle.shape_sampler.specs.Belonging.{IsIdealShape, IsIdealOver}
-use Rattle.shape_sampler.specs.Answer.{told_visit, ChoosesBy, IsVisit, IsIdealAnswer, Draws}
+use Rattle.shape_sampler.specs.Answer.{told_visit, IsVisitByBits, IsIdealAnswer, Draws}
 use Rattle.shape_sampler.specs.Answer as told
 use Rattle.size_window.specs.declared.ending.Ending.{Ending}
 use Rattle.size_window.specs.declared.ending.Ending.TheVariants as ending
@@ -23,10 +23,11 @@ use Rattle.size_window.specs.declared.turned.Entry.{Entry}
 use Rattle.size_window.specs.declared.turned.Turned.{Turned}
 use Rattle.size_window.specs.declared.turned.Turned.TheVariants as answer
 use Rattle.size_window.specs.RunByBits as run
-use Rattle.size_window.specs.RunByBits.{Sampling, State, Course, added, no_attempt, quiet, thrown_away, kept_one, kept_or_waits, shape_made, went, visited, turn, with_attempt}
+use Rattle.size_window.specs.RunByBits.{Sampling, State, Course, followed_by, added, no_attempt, quiet, thrown_away, kept_one, kept_or_waits, shape_made, went, visited, turn, with_attempt}
 use Rattle.labelling.specs.LabelsByBits.{bits_in}
 use Rattle.size_window.specs.Drawing.{MadeShape, DrawingState, DrawingBelongs, ending_of, attempt_unless, state_of, shape_in, counted, thrown_one, taken_out, waiting_with, kept_one_more, ended_by}
-use Rattle.size_window.specs.Turn.{labels_of, entry_of, told_fault, GoesOn, IsTurn, KeepsOrWaits, Settles, outcome_of}
+use Rattle.size_window.specs.Turn.{labels_of, entry_of, told_entry, told_fault, EndsThere, GoesOn, IsTurn, KeepsOrWaits, Settles, outcome_of}
+use Rattle.size_window.specs.Follows.{Goes}
 use Rattle.size_window.proofs.Going.{goes-on, goes-ended, goes-over, goes-small, goes-kept, gives-none}
 use Rattle.size_window.proofs.VisitCells.{extended}
 use Rattle.size_window.proofs.Turning.{in_turn, state-at, attempt-some, attempt-none, turn-visits, if-told, course-going, course-kept, course-thrown, course-fewer, course-cells, is-turn}
@@ -92,17 +93,35 @@ module _ (s : Spec) (x : Fraction) (F : ℕ) (table : (level node : ℕ) → Bou
   abbrev Means : Stepped → run.Turned → Type 0
   Means step turned = (c : Chooser) (tape : ℕ → Option Bool) → c.spec ≡ s → visited (record { chooser = c; limits = before.limits; tape = tape }) (in_turn before (attempt_of before.session start)) (told_visit step session used) ≡ turned
 
-  -- The visit is told exactly.
+  -- The visit is the one over the bits that it was given.
   abbrev IsTold : Stepped → Type 0
-  IsTold step = IfSome bits (λ tape. (c : Chooser) → ChoosesBy s F table c → IsVisit c tape before.session start step session used)
+  IsTold step = IsVisitByBits s F table bits before.session start step session used
 
-  visit-exact : (step : Stepped) (result : Turned) (turned : run.Turned) → step ≢ stepped.OutOfMemory → option_map (λ given. start + given) (told_fault None result (used - start)) ≡ told.fault_place step used → Means step turned → IsTold step
-      → IfSome bits (λ tape. (c : Chooser) → ChoosesBy s F table c → turned ≡ turn (record { chooser = c; limits = before.limits; tape = tape }) (told_fault before.ending result (used - start)) (state_of before start))
-  visit-exact step result turned ne fault means exact = if-told bits (λ tape seen c by. sym (
-      turn-visits (record { chooser = c; limits = before.limits; tape = tape }) (told_fault before.ending result (used - start)) before start refl on no_shape some
-      ∙ ap (λ f. visited (record { chooser = c; limits = before.limits; tape = tape }) (in_turn before (attempt_of before.session start)) (visit c (bit_of tape f) (attempt_of before.session start))) (ap (λ (o : Option Ending). option_map (λ given. start + given) (told_fault o result (used - start))) on.going ∙ fault)
-      ∙ ap (visited (record { chooser = c; limits = before.limits; tape = tape }) (in_turn before (attempt_of before.session start))) (sym ((seen c by).same ne))
-      ∙ means c tape by.same_spec)) exact
+  -- The turn meets the tape's end where the visit does.
+  abbrev Alike : Stepped → Turned → Type 0
+  Alike step result = (tape : ℕ → Option Bool) → (told.EndsThere step used tape → EndsThere result None used tape) × (EndsThere result None used tape → told.EndsThere step used tape)
+
+  going-is : (P : Option Ending → Type 0) → P None → P before.ending
+  going-is P h = subst P (sym on.going) h
+
+  -- a turn by a visit, from what it leaves
+  by-visit : (step : Stepped) (result : Turned) (now : DrawingState) (turned : run.Turned) → turned.state ≡ state_of now used → turned.entry ≡ told_entry result → ((c : Course) → c.state ≡ state_of before start → Goes s x before.limits c → Goes s x before.limits (followed_by c turned))
+      → step ≢ stepped.OutOfMemory → option_map (λ given. start + given) (told_fault None result (used - start)) ≡ told.fault_place step used → Means step turned → Alike step result → IsTold step → IsTurn s x F table bits before start result now used
+  by-visit step result now turned state entry goes ne fault means alike h = record {
+    turned = turned;
+    state = state;
+    entry = entry;
+    rests = λ e ended. absurd (let going = on.going in let no : ⊥ = cc in no);
+    goes = goes;
+    given = h.given;
+    gave = h.gave;
+    ended = if-told bits (λ tape ends. going-is (λ o. EndsThere result o used tape) ((alike tape).0 ends)) h.ended;
+    exact = λ tape have ends c by. sym (
+        turn-visits (record { chooser = c; limits = before.limits; tape = tape }) (told_fault before.ending result (used - start)) before start refl on no_shape some
+        ∙ ap (λ f. visited (record { chooser = c; limits = before.limits; tape = tape }) (in_turn before (attempt_of before.session start)) (visit c (bit_of tape f) (attempt_of before.session start))) (ap (λ (o : Option Ending). option_map (λ given. start + given) (told_fault o result (used - start))) on.going ∙ fault)
+        ∙ ap (visited (record { chooser = c; limits = before.limits; tape = tape }) (in_turn before (attempt_of before.session start))) (sym ((h.exact tape have ((alike tape).1 (subst (λ o. EndsThere result o used tape) on.going ends)) c by).same ne))
+        ∙ means c tape by.same_spec);
+  }
 
   -- the cells that the visit added
   abbrev more_cells : List Cell
@@ -120,15 +139,15 @@ module _ (s : Spec) (x : Fraction) (F : ℕ) (table : (level node : ℕ) → Bou
   none-waits = ap (λ (w : Option MadeShape). is_some w) no_shape
 
   moved : session.pending ≢ [] → told.Extends before.session.cells session.cells → IsTold stepped.Moved → IsTurn s x F table bits before start answer.Going (counted mid) used
-  moved pending extends exact = record {
-    turned = record { state = state_of (counted mid) used; entry = None; cells = more_cells };
-    state = refl;
-    entry = refl;
-    goes = λ c same k. goes-on s x before.limits c k (state_of (counted mid) used) more_cells session.cells (course-going s x F table bits before b start c same on.going) (added-now c same extends) (ap (λ (a : Attempt). a.cells) (attempt-some mid used no_shape pending)) (course-kept s x F table bits before b start c same) (course-thrown s x F table bits before b start c same);
-    exact = visit-exact stepped.Moved answer.Going (record { state = state_of (counted mid) used; entry = None; cells = more_cells }) (λ e. cc) refl (λ c tape is.
+  moved pending extends exact = by-visit stepped.Moved answer.Going (counted mid)
+    (record { state = state_of (counted mid) used; entry = None; cells = more_cells })
+    refl refl
+    (λ c same k. goes-on s x before.limits c k (state_of (counted mid) used) more_cells session.cells (course-going s x F table bits before b start c same on.going) (added-now c same extends) (ap (λ (a : Attempt). a.cells) (attempt-some mid used no_shape pending)) (course-kept s x F table bits before b start c same) (course-thrown s x F table bits before b start c same))
+    (λ e. cc) refl
+    (λ c tape is.
         went-some (record { chooser = c; limits = before.limits; tape = tape }) (in_turn before (attempt_of session used)) session.pending more_cells pending
-        ∙ ap (λ st. record { state = st; entry = None; cells = more_cells }) (sym (state-at mid (attempt_of session used) used no_shape (attempt-some mid used no_shape pending)))) exact;
-  }
+        ∙ ap (λ st. record { state = st; entry = None; cells = more_cells }) (sym (state-at mid (attempt_of session used) used no_shape (attempt-some mid used no_shape pending))))
+    (λ tape. (λ h. h, λ h. h)) exact
 
   -- the state after an attempt was thrown away
   thrown-state : session.pending ≡ [] → thrown_away (in_turn before (attempt_of session used)) ≡ state_of (thrown_one (counted mid)) used
@@ -138,25 +157,25 @@ module _ (s : Spec) (x : Fraction) (F : ℕ) (table : (level node : ℕ) → Bou
   one-thrown c same = ap (λ n. n + 1) (course-thrown s x F table bits before b start c same)
 
   small : session.pending ≡ [] → told.Extends before.session.cells session.cells → IsIdealShape s x before.limits.max session.tokens session.cells → size_of session.tokens < before.limits.min → IsTold stepped.Made → IsTurn s x F table bits before start answer.Going (thrown_one (counted mid)) used
-  small none extends ideal little exact = record {
-    turned = record { state = state_of (thrown_one (counted mid)) used; entry = None; cells = more_cells };
-    state = refl;
-    entry = refl;
-    goes = λ c same k. goes-small s x before.limits c k (state_of (thrown_one (counted mid)) used) more_cells session.cells (course-going s x F table bits before b start c same on.going) (added-now c same extends) (no-cells (thrown_one (counted mid)) no_shape none) (course-fewer s x F table bits before b start c same on.fewer) session.tokens ideal little (course-kept s x F table bits before b start c same) (one-thrown c same);
-    exact = visit-exact stepped.Made answer.Going (record { state = state_of (thrown_one (counted mid)) used; entry = None; cells = more_cells }) (λ e. cc) refl (λ c tape is.
+  small none extends ideal little exact = by-visit stepped.Made answer.Going (thrown_one (counted mid))
+    (record { state = state_of (thrown_one (counted mid)) used; entry = None; cells = more_cells })
+    refl refl
+    (λ c same k. goes-small s x before.limits c k (state_of (thrown_one (counted mid)) used) more_cells session.cells (course-going s x F table bits before b start c same on.going) (added-now c same extends) (no-cells (thrown_one (counted mid)) no_shape none) (course-fewer s x F table bits before b start c same on.fewer) session.tokens ideal little (course-kept s x F table bits before b start c same) (one-thrown c same))
+    (λ e. cc) refl
+    (λ c tape is.
         went-small (record { chooser = c; limits = before.limits; tape = tape }) (in_turn before (attempt_of session used)) session.pending more_cells none little
-        ∙ ap (λ st. record { state = st; entry = None; cells = more_cells }) (thrown-state none)) exact;
-  }
+        ∙ ap (λ st. record { state = st; entry = None; cells = more_cells }) (thrown-state none))
+    (λ tape. (λ h. h, λ h. h)) exact
 
   over : session.pending ≡ [] → told.Extends before.session.cells session.cells → IsIdealOver s x before.limits.max session.cells → IsTold stepped.Overshot → IsTurn s x F table bits before start answer.Going (thrown_one (counted mid)) used
-  over none extends ideal exact = record {
-    turned = record { state = state_of (thrown_one (counted mid)) used; entry = None; cells = more_cells };
-    state = refl;
-    entry = refl;
-    goes = λ c same k. goes-over s x before.limits c k (state_of (thrown_one (counted mid)) used) more_cells session.cells (course-going s x F table bits before b start c same on.going) (added-now c same extends) (no-cells (thrown_one (counted mid)) no_shape none) (course-fewer s x F table bits before b start c same on.fewer) ideal (course-kept s x F table bits before b start c same) (one-thrown c same);
-    exact = visit-exact stepped.Overshot answer.Going (record { state = state_of (thrown_one (counted mid)) used; entry = None; cells = more_cells }) (λ e. cc) refl (λ c tape is.
-        ap (λ st. record { state = st; entry = None; cells = more_cells }) (thrown-state none)) exact;
-  }
+  over none extends ideal exact = by-visit stepped.Overshot answer.Going (thrown_one (counted mid))
+    (record { state = state_of (thrown_one (counted mid)) used; entry = None; cells = more_cells })
+    refl refl
+    (λ c same k. goes-over s x before.limits c k (state_of (thrown_one (counted mid)) used) more_cells session.cells (course-going s x F table bits before b start c same on.going) (added-now c same extends) (no-cells (thrown_one (counted mid)) no_shape none) (course-fewer s x F table bits before b start c same on.fewer) ideal (course-kept s x F table bits before b start c same) (one-thrown c same))
+    (λ e. cc) refl
+    (λ c tape is.
+        ap (λ st. record { state = st; entry = None; cells = more_cells }) (thrown-state none))
+    (λ tape. (λ h. h, λ h. h)) exact
 
   -- a drawing that kept its shape
   abbrev keeping : DrawingState
@@ -175,16 +194,16 @@ module _ (s : Spec) (x : Fraction) (F : ℕ) (table : (level node : ℕ) → Bou
         (ap size_of (sym shape)) (sym shape) (ap labels_of (sym no_labels)) (no_more ∙ sym cells)
 
     large : s.mode ≡ Mode.Unlabelled → session.pending ≡ [] → told.Extends before.session.cells session.cells → IsIdealShape s x before.limits.max session.tokens session.cells → before.limits.min ≤ size_of session.tokens → IsTold stepped.Made → IsTurn s x F table bits before start (answer.Kept e) keeping used
-    large plain none extends ideal enough exact = record {
-      turned = record { state = state_of keeping used; entry = Some (entry_of e); cells = more_cells };
-      state = refl;
-      entry = refl;
-      goes = λ c same k. goes-kept s x before.limits c k (state_of keeping used) more_cells session.cells (course-going s x F table bits before b start c same on.going) (added-now c same extends) (no-cells keeping no_shape none) (course-fewer s x F table bits before b start c same on.fewer) session.tokens session.cells [] [] (append-nil session.cells) ideal enough (gives-none s plain (size_of session.tokens)) (entry_of e) shape (ap labels_of no_labels) cells (ap (λ n. n + 1) (course-kept s x F table bits before b start c same)) (course-thrown s x F table bits before b start c same);
-      exact = visit-exact stepped.Made (answer.Kept e) (record { state = state_of keeping used; entry = Some (entry_of e); cells = more_cells }) (λ e. cc) refl (λ c tape is.
+    large plain none extends ideal enough exact = by-visit stepped.Made (answer.Kept e) keeping
+      (record { state = state_of keeping used; entry = Some (entry_of e); cells = more_cells })
+      refl refl
+      (λ c same k. goes-kept s x before.limits c k (state_of keeping used) more_cells session.cells (course-going s x F table bits before b start c same on.going) (added-now c same extends) (no-cells keeping no_shape none) (course-fewer s x F table bits before b start c same on.fewer) session.tokens session.cells [] [] (append-nil session.cells) ideal enough (gives-none s plain (size_of session.tokens)) (entry_of e) shape (ap labels_of no_labels) cells (ap (λ n. n + 1) (course-kept s x F table bits before b start c same)) (course-thrown s x F table bits before b start c same))
+      (λ e. cc) refl
+      (λ c tape is.
           went-large (record { chooser = c; limits = before.limits; tape = tape }) (in_turn before (attempt_of session used)) session.pending more_cells Mode.Unlabelled none (ap (λ (t : Spec). t.mode) is ∙ plain) enough
           ∙ ap (λ st. record { state = st; entry = Some (run.entry_of (in_turn before (attempt_of session used)) [] []); cells = more_cells }) (kept-state none)
-          ∙ ap (λ n. record { state = state_of keeping used; entry = Some n; cells = more_cells }) kept-entry) exact;
-    }
+          ∙ ap (λ n. record { state = state_of keeping used; entry = Some n; cells = more_cells }) kept-entry)
+      (λ tape. (λ h. h, λ h. h)) exact
 
   -- a drawing whose shape waits for its labels
   abbrev waiting : DrawingState
@@ -194,15 +213,15 @@ module _ (s : Spec) (x : Fraction) (F : ℕ) (table : (level node : ℕ) → Bou
   waiting-state none = same-state (record (in_turn before (attempt_of session used)) { awaits = true }) (state_of waiting used) (ap (λ es. record (attempt_of session used) { pending = es }) none) refl refl refl (sym (add-one before.turns)) refl
 
   waits : s.mode ≡ Mode.Labelled → session.pending ≡ [] → told.Extends before.session.cells session.cells → before.limits.min ≤ size_of session.tokens → IsTold stepped.Made → IsTurn s x F table bits before start answer.Going waiting used
-  waits labelled none extends enough exact = record {
-    turned = record { state = state_of waiting used; entry = None; cells = more_cells };
-    state = refl;
-    entry = refl;
-    goes = λ c same k. goes-on s x before.limits c k (state_of waiting used) more_cells session.cells (course-going s x F table bits before b start c same on.going) (added-now c same extends) refl (course-kept s x F table bits before b start c same) (course-thrown s x F table bits before b start c same);
-    exact = visit-exact stepped.Made answer.Going (record { state = state_of waiting used; entry = None; cells = more_cells }) (λ e. cc) refl (λ c tape is.
+  waits labelled none extends enough exact = by-visit stepped.Made answer.Going waiting
+    (record { state = state_of waiting used; entry = None; cells = more_cells })
+    refl refl
+    (λ c same k. goes-on s x before.limits c k (state_of waiting used) more_cells session.cells (course-going s x F table bits before b start c same on.going) (added-now c same extends) refl (course-kept s x F table bits before b start c same) (course-thrown s x F table bits before b start c same))
+    (λ e. cc) refl
+    (λ c tape is.
         went-large (record { chooser = c; limits = before.limits; tape = tape }) (in_turn before (attempt_of session used)) session.pending more_cells Mode.Labelled none (ap (λ (t : Spec). t.mode) is ∙ labelled) enough
-        ∙ ap (λ st. record { state = st; entry = None; cells = more_cells }) (waiting-state none)) exact;
-  }
+        ∙ ap (λ st. record { state = st; entry = None; cells = more_cells }) (waiting-state none))
+    (λ tape. (λ h. h, λ h. h)) exact
 
   kept-or-waits : (mode : Mode) → s.mode ≡ mode → (result : Turned) (now : DrawingState) → KeepsOrWaits mode (shape_in session) used (counted (taken_out mid)) result now → session.pending ≡ [] → told.Extends before.session.cells session.cells → IsIdealShape s x before.limits.max session.tokens session.cells → before.limits.min ≤ size_of session.tokens → IsTold stepped.Made → IsTurn s x F table bits before start result now used
   kept-or-waits Mode.Unlabelled plain result now k none extends ideal enough exact = is-turn s x F table bits before b start (answer.Kept k.entry) keeping k.told k.now_is (large k.entry k.number k.place k.shape_is k.labels_are k.cells plain none extends ideal enough exact)
@@ -210,16 +229,16 @@ module _ (s : Spec) (x : Fraction) (F : ℕ) (table : (level node : ℕ) → Bou
 
   -- the visit stopped, at a place
   stopped : (step : Stepped) (e : Ending) → session ≡ stopped_by before.session step → step ≢ stepped.OutOfMemory → option_map (λ given. start + given) (told_fault None (answer.Finished e) (used - start)) ≡ told.fault_place step used
-      → Means step (quiet (run.ended (in_turn before (attempt_of before.session start)) (ending_of e) used)) → IsTold step → IsTurn s x F table bits before start (answer.Finished e) (ended_by (counted mid) e) used
-  stopped step e left ne fault means exact = record {
-    turned = quiet (state_of (ended_by (counted mid) e) used);
-    state = refl;
-    entry = refl;
-    goes = λ c same k. goes-ended s x before.limits c k (state_of (ended_by (counted mid) e) used) (λ none. cc) (course-kept s x F table bits before b start c same) (course-thrown s x F table bits before b start c same);
-    exact = visit-exact step (answer.Finished e) (quiet (state_of (ended_by (counted mid) e) used)) ne fault (λ c tape is.
+      → Means step (quiet (run.ended (in_turn before (attempt_of before.session start)) (ending_of e) used)) → Alike step (answer.Finished e) → IsTold step → IsTurn s x F table bits before start (answer.Finished e) (ended_by (counted mid) e) used
+  stopped step e left ne fault means alike exact = by-visit step (answer.Finished e) (ended_by (counted mid) e)
+    (quiet (state_of (ended_by (counted mid) e) used))
+    refl refl
+    (λ c same k. goes-ended s x before.limits c k (state_of (ended_by (counted mid) e) used) (λ none. cc) (course-kept s x F table bits before b start c same) (course-thrown s x F table bits before b start c same))
+    ne fault
+    (λ c tape is.
         means c tape is
-        ∙ ap quiet (same-state (run.ended (in_turn before (attempt_of before.session start)) (ending_of e) used) (state_of (ended_by (counted mid) e) used) (sym attempt) (sym none-waits) refl refl (sym (add-one before.turns)) refl)) exact;
-  }
+        ∙ ap quiet (same-state (run.ended (in_turn before (attempt_of before.session start)) (ending_of e) used) (state_of (ended_by (counted mid) e) used) (sym attempt) (sym none-waits) refl refl (sym (add-one before.turns)) refl))
+    alike exact
     where
       attempt : attempt_unless before.waiting session used ≡ attempt_of before.session used
       attempt = ap (λ (st : SessionState). attempt_unless before.waiting st used) left ∙ attempt-some (record before { session = stopped_by before.session step }) used no_shape some
@@ -233,11 +252,11 @@ module _ (s : Spec) (x : Fraction) (F : ℕ) (table : (level node : ℕ) → Bou
   visit-turn mode is_mode (stepped.Straddles node cell) result now le leaves draws ideal exact settles ne =
       let e : Ending = ending.Undecided (straddle.Node node cell (table 6 node.0).lo (table 6 node.0).hi) in
       is-turn s x F table bits before b start (answer.Finished e) (ended_by (counted mid) e) settles.0 settles.1
-      (stopped (stepped.Straddles node cell) e leaves (λ e. cc) refl (λ c tape is. ap (λ n. quiet (run.ended (in_turn before (attempt_of before.session start)) (run.Ending.Undecided (run.Open.AtNode node.0 cell)) n)) (sym draws.all_used)) exact)
+      (stopped (stepped.Straddles node cell) e leaves (λ e. cc) refl (λ c tape is. ap (λ n. quiet (run.ended (in_turn before (attempt_of before.session start)) (run.Ending.Undecided (run.Open.AtNode node.0 cell)) n)) (sym draws.all_used)) (λ tape. (λ h. h, λ h. h)) exact)
   visit-turn mode is_mode stepped.Ended result now le leaves draws ideal exact settles ne =
       is-turn s x F table bits before b start (answer.Finished ending.TapeEnded) (ended_by (counted mid) ending.TapeEnded) settles.0 settles.1
-      (stopped stepped.Ended ending.TapeEnded leaves (λ e. cc) refl (λ c tape is. refl) exact)
+      (stopped stepped.Ended ending.TapeEnded leaves (λ e. cc) refl (λ c tape is. refl) (λ tape. (λ h. h, λ h. h)) exact)
   visit-turn mode is_mode stepped.ReadFault result now le leaves draws ideal exact settles ne =
       is-turn s x F table bits before b start (answer.Finished ending.ReadFault) (ended_by (counted mid) ending.ReadFault) settles.0 settles.1
-      (stopped stepped.ReadFault ending.ReadFault leaves (λ e. cc) (ap Some (let whole : start + (used - start) ≡ used = omega arith in whole)) (λ c tape is. refl) exact)
+      (stopped stepped.ReadFault ending.ReadFault leaves (λ e. cc) (ap Some (let whole : start + (used - start) ≡ used = omega arith in whole)) (λ c tape is. refl) (λ tape. (λ h. h, λ h. h)) exact)
   visit-turn mode is_mode stepped.OutOfMemory result now le leaves draws ideal exact settles ne = absurd (ne settles.0)

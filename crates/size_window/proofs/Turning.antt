@@ -7,6 +7,7 @@ use Rattle.std.proofs.lemmas.Option.{get_or_from_slice_get}
 use Rattle.bz_model.specs.declared.cell.Bounds.{Bounds}
 use Rattle.bz_model.specs.Fraction.{Fraction}
 use Rattle.bz_model.specs.Spec.{Spec, body_of}
+use Rattle.bit_tape.proofs.GivenBits.{gave-none}
 use Rattle.choice_draw.specs.Draw.{bit_of}
 use Rattle.shape_sampler.specs.Visit.{Chooser, Attempt, visit, begun}
 use Rattle.shape_sampler.specs.State.{SessionState, attempt_of, begun_state}
@@ -17,7 +18,7 @@ use Rattle.size_window.specs.declared.turned.Turned.TheVariants as answer
 use Rattle.size_window.specs.RunByBits as run
 use Rattle.size_window.specs.RunByBits.{Limits, Sampling, State, Course, added, no_attempt, quiet, ended, visited, shape_turn, label_turn, counted_turn, open_turn, turn_unless, turn, fault_place, followed_by}
 use Rattle.size_window.specs.Drawing.{MadeShape, DrawingState, DrawingBelongs, ending_of, running, attempt_made, attempt_unless, state_of, counted, ended_by, begun_one}
-use Rattle.size_window.specs.Turn.{GoesOn, told_entry, told_fault, IsTurn, IsIdleTurn}
+use Rattle.size_window.specs.Turn.{GoesOn, told_entry, told_fault, EndsThere, IsTurn, IsIdleTurn}
 use Rattle.size_window.specs.Turn as turning
 use Rattle.size_window.proofs.Going.{goes-on, goes-ended}
 
@@ -57,6 +58,14 @@ if-told (Some a) f h = f a h
 pub if-any : {A : Type 0} {Q : A → Type 0} (o : Option A) → ((a : A) → Q a) → IfSome o Q
 if-any None f = tt
 if-any (Some a) f = f a
+
+-- a drawing that had ended meets no end of its tape
+again-ends : (e : Ending) (o : Option Ending) (used : ℕ) (tape : ℕ → Option Bool) → o ≡ Some e → EndsThere (answer.Finished e) o used tape
+again-ends ending.Done o used tape is = tt
+again-ends ending.TapeEnded o used tape is = subst (λ p. EndsThere (answer.Finished ending.TapeEnded) p used tape) (sym is) tt
+again-ends (ending.Undecided straddle) o used tape is = tt
+again-ends ending.TurnLimit o used tape is = tt
+again-ends ending.ReadFault o used tape is = tt
 
 -- the attempt of a drawing where no shape waits
 pub attempt-some : (d : DrawingState) (used : ℕ) → d.waiting ≡ None → d.session.pending ≢ [] → attempt_unless d.waiting d.session used ≡ attempt_of d.session used
@@ -185,7 +194,11 @@ module _ (s : Spec) (x : Fraction) (F : ℕ) (table : (level node : ℕ) → Bou
     state = refl;
     entry = refl;
     goes = λ c same k. goes-ended s x before.limits c k (state_of before start) (λ none. let some : option_map ending_of before.ending ≡ Some (ending_of e) = ap (λ (o : Option Ending). option_map ending_of o) is in cc) (course-kept c same) (course-thrown c same);
-    exact = if-any bits (λ tape c by. sym (turn-again (record { chooser = c; limits = before.limits; tape = tape }) (told_fault before.ending (answer.Finished e) (start - start)) before start refl e is));
+    rests = λ f other. record { told = ap answer.Finished (let same : e ≡ f = let both : Some e ≡ Some f = sym is ∙ other in cc in same); same = refl; unused = refl };
+    given = [];
+    gave = gave-none bits start;
+    ended = if-any bits (λ tape. again-ends e before.ending start tape is);
+    exact = λ tape have ends c by. sym (turn-again (record { chooser = c; limits = before.limits; tape = tape }) (told_fault before.ending (answer.Finished e) (start - start)) before start refl e is);
   }
 
   done-turn : before.ending ≡ None → before.kept ≡ before.limits.count → IsTurn s x F table bits before start (answer.Finished ending.Done) (ended_by before ending.Done) start
@@ -194,7 +207,11 @@ module _ (s : Spec) (x : Fraction) (F : ℕ) (table : (level node : ℕ) → Bou
     state = refl;
     entry = refl;
     goes = λ c same k. goes-ended s x before.limits c k (state_of (ended_by before ending.Done) start) (λ none. cc) (course-kept c same) (course-thrown c same);
-    exact = if-any bits (λ tape c by. sym (turn-done (record { chooser = c; limits = before.limits; tape = tape }) (told_fault before.ending (answer.Finished ending.Done) (start - start)) before start refl going full));
+    rests = λ f other. absurd (let no : ⊥ = cc in no);
+    given = [];
+    gave = gave-none bits start;
+    ended = if-any bits (λ tape. tt);
+    exact = λ tape have ends c by. sym (turn-done (record { chooser = c; limits = before.limits; tape = tape }) (told_fault before.ending (answer.Finished ending.Done) (start - start)) before start refl going full);
   }
 
   spent-turn : before.ending ≡ None → before.kept ≢ before.limits.count → before.turns ≡ before.limits.turns → IsTurn s x F table bits before start (answer.Finished ending.TurnLimit) (ended_by before ending.TurnLimit) start
@@ -203,7 +220,11 @@ module _ (s : Spec) (x : Fraction) (F : ℕ) (table : (level node : ℕ) → Bou
     state = refl;
     entry = refl;
     goes = λ c same k. goes-ended s x before.limits c k (state_of (ended_by before ending.TurnLimit) start) (λ none. cc) (course-kept c same) (course-thrown c same);
-    exact = if-any bits (λ tape c by. sym (turn-spent (record { chooser = c; limits = before.limits; tape = tape }) (told_fault before.ending (answer.Finished ending.TurnLimit) (start - start)) before start refl going fewer spent));
+    rests = λ f other. absurd (let no : ⊥ = cc in no);
+    given = [];
+    gave = gave-none bits start;
+    ended = if-any bits (λ tape. tt);
+    exact = λ tape have ends c by. sym (turn-spent (record { chooser = c; limits = before.limits; tape = tape }) (told_fault before.ending (answer.Finished ending.TurnLimit) (start - start)) before start refl going fewer spent);
   }
 
   -- the attempt that begins is that of the session
@@ -220,9 +241,13 @@ module _ (s : Spec) (x : Fraction) (F : ℕ) (table : (level node : ℕ) → Bou
     state = refl;
     entry = refl;
     goes = λ c same k. goes-on s x before.limits c k (state_of (begun_one before) start) [] [] (course-going c same on.going) (ap (λ cs. cs ++ []) (course-idle c same no_shape none)) (ap (λ (a : Attempt). a.cells) (begun-attempt no_shape)) (course-kept c same) (course-thrown c same);
-    exact = if-any bits (λ tape c by.
+    rests = λ f other. absurd (let going = on.going in let no : ⊥ = cc in no);
+    given = [];
+    gave = gave-none bits start;
+    ended = if-any bits (λ tape. tt);
+    exact = λ tape have ends c by.
         ap quiet (state-at (record before { session = begun_state before.session }) (begun c.spec before.limits.max start) start no_shape (begun-attempt no_shape ∙ begun-same c by.same_spec))
-        ∙ sym (turn-begins (record { chooser = c; limits = before.limits; tape = tape }) (told_fault before.ending answer.Going (start - start)) before start refl on no_shape none));
+        ∙ sym (turn-begins (record { chooser = c; limits = before.limits; tape = tape }) (told_fault before.ending answer.Going (start - start)) before start refl on no_shape none);
   }
     where
       begun-attempt : before.waiting ≡ None → attempt_unless before.waiting (begun_state before.session) start ≡ attempt_of (begun_state before.session) start

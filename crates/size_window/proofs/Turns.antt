@@ -1,12 +1,11 @@
 -- A turn that visits a node, from what each call did to the drawing, which was as it stands in `seen`.
-use Rattle.std.proofs.Common.{◌≡◌, ◌≢◌, ℕ, ◌≤◌, Bool, Option, None, IfSome, sym, subst}
+use Rattle.std.proofs.Common.{◌≡◌, ◌≢◌, ℕ, ◌≤◌, Bool, Option, None, sym, subst}
 use Rattle.bz_model.specs.declared.cell.Bounds.{Bounds}
 use Rattle.bz_model.specs.Fraction.{Fraction}
 use Rattle.bz_model.specs.Spec.{Spec, Mode}
 use Rattle.shape_sampler.specs.declared.stepped.Stepped.{Stepped}
-use Rattle.shape_sampler.specs.Visit.{Chooser}
 use Rattle.shape_sampler.specs.State.{SessionState, SessionBelongs, Leaves}
-use Rattle.shape_sampler.specs.Answer.{ChoosesBy, IsVisit, IsIdealAnswer, Draws}
+use Rattle.shape_sampler.specs.Answer.{IsVisitByBits, IsIdealAnswer, Draws}
 use Rattle.size_window.specs.declared.turned.Turned.{Turned}
 use Rattle.size_window.specs.declared.turned.Turned.TheVariants as answer
 use Rattle.size_window.specs.declared.turned.Outcome.{Outcome}
@@ -44,7 +43,7 @@ module _ (s : Spec) (x : Fraction) (before seen : DrawingState) (same : seen ≡
     pub counted-then : IsCounted before result now
     counted-then = subst (λ d. IsCounted d result now) same (visit-counted s x seen belongs-seen visits-seen session belongs result now mode table step used settles)
 
-    pub turn-then : (F : ℕ) → (bits : Option (ℕ → Option Bool)) (start : ℕ) → start ≤ used → (seen.session.stopped ≡ None → Draws step seen.session session start used) → (seen.session.stopped ≡ None → IfSome bits (λ tape. (c : Chooser) → ChoosesBy s F table c → IsVisit c tape seen.session start step session used)) → result ≢ answer.OutOfMemory → IsTurn s x F table bits before start result now used
+    pub turn-then : (F : ℕ) → (bits : Option (ℕ → Option Bool)) (start : ℕ) → start ≤ used → (seen.session.stopped ≡ None → Draws step seen.session session start used) → (seen.session.stopped ≡ None → IsVisitByBits s F table bits seen.session start step session used) → result ≢ answer.OutOfMemory → IsTurn s x F table bits before start result now used
     turn-then F bits start le draws exact ne =
         subst (λ d. IsTurn s x F table bits d start result now used) same
         (visit-turn s x F table bits seen belongs-seen start visits-seen.on visits-seen.no_shape visits-seen.some session used mode is_mode step result now le (left runs-seen) (draws runs-seen) ideal (exact runs-seen) settles ne)

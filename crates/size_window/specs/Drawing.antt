@@ -4,6 +4,7 @@ use Rattle.std.specs.Option.{is_some}
 use Rattle.bz_model.specs.declared.cell.Cell.{Cell}
 use Rattle.bz_model.specs.Fraction.{Fraction}
 use Rattle.bz_model.specs.Spec.{Spec, Mode}
+use Rattle.bz_model.specs.Cell.{AreCells}
 use Rattle.object_store.specs.declared.token.Token.{Token}
 use Rattle.object_store.specs.Tokens.{size_of}
 use Rattle.shape_sampler.specs.Visit.{Attempt}
@@ -93,12 +94,13 @@ pub record AreLimits (l : Limits) : Type 0 where
   pub some_turns : 1 ≤ l.turns
   pub turns : l.turns ≤ 50000000
 
--- A shape waits in labelled mode, while the session is at rest; it is the ideal one for all numbers in its cells, and of at least the least size.
+-- A shape waits in labelled mode, while the session is at rest; it is the ideal one for all numbers in its cells, which are cells, and of at least the least size.
 pub record Waits (s : Spec) (x : Fraction) (d : DrawingState) (shape : MadeShape) : Type 0 where
   pub labelled : s.mode ≡ Mode.Labelled
   pub rests : d.session.pending ≡ []
   pub ideal : IsIdealShape s x d.limits.max shape.tokens shape.cells
   pub least : d.limits.min ≤ size_of shape.tokens
+  pub cells : AreCells shape.cells
 
 -- A drawing belongs to a specification and x where its session does, a shape that waits for its labels is one that may, the session's whole room is the greatest size, nothing stopped the session while the drawing goes on, and the counts are within the limits.
 pub record DrawingBelongs (s : Spec) (x : Fraction) (d : DrawingState) : Type 0 where

@@ -4,7 +4,7 @@ use Rattle.bz_model.specs.declared.cell.Cell.{Cell}
 use Rattle.object_store.specs.Tokens.{size_of}
 use Rattle.labelling.specs.declared.labelled.Labelled.{Labelled}
 use Rattle.labelling.specs.declared.labelled.Labelled.TheVariants as labelled
-use Rattle.labelling.specs.Answer.{IsLabelling, AreIdealLabels, OnLabels, StraddlesAt}
+use Rattle.labelling.specs.Answer.{IsLabelling, AreIdealLabels, AreCellsOf, OnLabels, StraddlesAt}
 use Rattle.size_window.specs.declared.ending.Ending.{Ending}
 use Rattle.size_window.specs.declared.ending.Ending.TheVariants.{TapeEnded, Undecided, ReadFault}
 use Rattle.size_window.specs.declared.ending.Straddle.TheVariants as straddle
@@ -34,5 +34,6 @@ pub record IsLabelTurn (bits : Option (ℕ → Option Bool)) (shape : MadeShape)
   pub told : Labelled
   pub labelling : IsLabelling bits (size_of shape.tokens) start told used
   pub ideal : OnLabels told (λ labels cells. AreIdealLabels (size_of shape.tokens) labels cells)
+  pub cells : OnLabels told (λ labels cells. AreCellsOf (size_of shape.tokens) cells)
   pub straddles : StraddlesAt (size_of shape.tokens) told
   pub settles : SettlesLabels told shape used before answer now

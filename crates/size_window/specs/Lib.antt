@@ -4,3 +4,5 @@ pub mod Follows
 pub mod Drawing
 pub mod Turn
 pub mod LabelTurn
+pub mod Trace
+pub mod Redrawn

@@ -1,10 +1,12 @@
 -- What one turn of a drawing makes of it.
-use Rattle.std.specs.Prelude.{◌≡◌, ◌≢◌, ℕ, ◌+◌, ◌-◌, ◌*◌, ◌<◌, ◌≤◌, ◌⊎◌, Bool, List, [], Option, Some, None, IfSome}
+use Rattle.std.specs.Prelude.{◌≡◌, ◌≢◌, ℕ, ◌+◌, ◌-◌, ◌*◌, ◌<◌, ◌≤◌, ◌⊎◌, Bool, true, false, List, [], Option, Some, None, IfSome}
 use Rattle.bz_model.specs.declared.cell.Bounds.{Bounds}
 use Rattle.bz_model.specs.declared.cell.Cell.{Cell}
 use Rattle.bz_model.specs.Fraction.{Fraction}
 use Rattle.bz_model.specs.Spec.{Spec, Mode}
+use Rattle.bz_model.specs.Cell.{IsCell, AreCells}
 use Rattle.bz_model.specs.Labels.{AreOneTo}
+use Rattle.bit_tape.specs.Given.{HasBits, Gave}
 use Rattle.class_system.specs.declared.ids.ExprId.{ExprId}
 use Rattle.object_store.specs.Tokens.{size_of}
 use Rattle.shape_sampler.specs.declared.stepped.Stepped.{Stepped}
@@ -50,13 +52,33 @@ pub record GoesOn (d : DrawingState) : Type 0 where
   pub fewer : d.kept ≢ d.limits.count
   pub more : d.turns ≢ d.limits.turns
 
--- A drawing's turn: there are a state, an entry and finished cells such that the state is that of the drawing now, and the entry is the one told. A course that goes as ideal runs do still does with this turn more. Over bits that are told it is the turn that they fix.
+-- The answer is that a read failed, in this turn: the drawing hadn't ended before.
+abbrev pub is_fault : Turned → (ending : Option Ending) → Bool
+is_fault (Finished ReadFault) None = true
+is_fault _ ending = false
+
+-- Where the tape's end ended the drawing in this turn, these bits end at the place used.
+abbrev pub EndsThere : Turned → (ending : Option Ending) → (used : ℕ) → (bits : ℕ → Option Bool) → Type 0
+EndsThere (Finished TapeEnded) None used bits = bits used ≡ None
+EndsThere _ ending used bits = Unit {0}
+
+-- A drawing that had ended answers its ending again, and nothing changes.
+pub record Rests (ending : Ending) (before : DrawingState) (start : ℕ) (answer : Turned) (now : DrawingState) (used : ℕ) : Type 0 where
+  pub told : answer ≡ Finished ending
+  pub same : now ≡ before
+  pub unused : used ≡ start
+
+-- A drawing's turn: there are a state, an entry and finished cells such that the state is that of the drawing now, and the entry is the one told. A drawing that had ended rests. A course that goes as ideal runs do still does with this turn more. The turn was given as many bits as were used, the tape's own where they are told; and over every tape that has these bits there, and ends where the answer says that it did, it is the turn that they fix, for each chooser by the table.
 pub record IsTurn (s : Spec) (x : Fraction) (F : ℕ) (table : (level node : ℕ) → Bounds) (bits : Option (ℕ → Option Bool)) (before : DrawingState) (start : ℕ) (answer : Turned) (now : DrawingState) (used : ℕ) : Type 0 where
   pub turned : run.Turned
   pub state : turned.state ≡ state_of now used
   pub entry : turned.entry ≡ told_entry answer
+  pub rests : (ending : Ending) → before.ending ≡ Some ending → Rests ending before start answer now used
   pub goes : (c : Course) → c.state ≡ state_of before start → Goes s x before.limits c → Goes s x before.limits (followed_by c turned)
-  pub exact : IfSome bits (λ tape. (c : Chooser) → ChoosesBy s F table c → turned ≡ turn (record { chooser = c; limits = before.limits; tape = tape }) (told_fault before.ending answer (used - start)) (state_of before start))
+  pub given : List Bool
+  pub gave : Gave bits start used given
+  pub ended : IfSome bits (EndsThere answer before.ending used)
+  pub exact : (tape : ℕ → Option Bool) → HasBits tape start given → EndsThere answer before.ending used tape → (c : Chooser) → ChoosesBy s F table c → turned ≡ turn (record { chooser = c; limits = before.limits; tape = tape }) (told_fault before.ending answer (used - start)) (state_of before start)
 
 -- How many objects an answer keeps, and their atoms.
 abbrev pub kept_by : Turned → ℕ
@@ -94,12 +116,13 @@ pub record IsCounted (before : DrawingState) (answer : Turned) (now : DrawingSta
   pub thrown : (now.thrown ≡ before.thrown) ⊎ ((answer ≡ Going) × (now.thrown ≡ before.thrown + 1))
   pub ending : now.ending ≡ ending_by before.ending answer
 
--- An entry of a drawing that kept so many objects before, so many bits being used now: it has the next number, its first bit stands before all that its cells spell, and its size is within the window.
+-- An entry of a drawing that kept so many objects before, so many bits being used now: it has the next number, its first bit stands before all that its cells spell, its size is within the window, and its cells are cells.
 pub record IsNext (limits : Limits) (kept used : ℕ) (e : Entry) : Type 0 where
   pub number : e.number ≡ kept + 1
   pub place : e.place ≡ used - bits_in e.cells.items
   pub least : limits.min ≤ size_of e.shape.items
   pub greatest : size_of e.shape.items ≤ limits.max
+  pub cells : AreCells e.cells.items
 
 -- The labels of an entry, in labelled mode: they are there, and are 1 to the number of its atoms in some order.
 pub record AreLabels (atoms : ℕ) (told : Option (List ℕ)) : Type 0 where
@@ -117,10 +140,11 @@ abbrev pub IfKept : Turned → (Entry → Type 0) → Type 0
 IfKept (Kept e) P = P e
 IfKept _ P = Unit {0}
 
--- The bounds told are those of level 6, and the cell has 60 bits.
+-- The bounds told are those of level 6, and the cell is one of 60 bits.
 pub record AreLevelSix (table : (level node : ℕ) → Bounds) (node : ℕ) (cell : Cell) (lo hi : ℕ) : Type 0 where
   pub lower : lo ≡ (table 6 node).lo
   pub upper : hi ≡ (table 6 node).hi
+  pub is_cell : IsCell cell.k cell.b
   pub bits : cell.b ≡ 60
 
 -- The bits that a turn gives to numbers of nodes: none where a shape waits for its labels, else all.
@@ -136,7 +160,7 @@ most_bits (Some shape) = 60 * size_of shape.tokens
 -- What an answer tells of a number left open.
 abbrev pub TellsOpen : (table : (level node : ℕ) → Bounds) → Turned → Type 0
 TellsOpen table (Finished (Undecided (straddle.Node node cell lo hi))) = AreLevelSix table node.0 cell lo hi
-TellsOpen table (Finished (Undecided (straddle.Label m cell))) = (2 ≤ m) × (cell.b ≡ 60)
+TellsOpen table (Finished (Undecided (straddle.Label m cell))) = (2 ≤ m) × IsCell cell.k cell.b × (cell.b ≡ 60)
 TellsOpen table _ = Unit {0}
 
 -- What a visit's answer leaves to do, by a table of bounds.

@@ -1,8 +1,8 @@
 //! Drawings: objects within a window of sizes, one turn at a time.
-ghost use Rattle.std.specs.Prelude.{◌≡◌, ◌≢◌, ℕ, ◌+◌, ◌-◌, ◌*◌, ◌<◌, ◌≤◌, ◌↔◌, ◌∷◌, ◌++◌, max, [], List, length, Option, Some, None, IfSome, IfNone, IsSome, IfOk, OnOk, OnErr};
+ghost use Rattle.std.specs.Prelude.{◌≡◌, ◌≢◌, ◌+◌, ◌-◌, ◌*◌, ◌<◌, ◌≤◌, ◌↔◌, ◌∷◌, ◌++◌, max, [], length, Option, Some, None, IfSome, IfNone, IsSome, IfOk, OnOk, OnErr};
 ghost use Rattle.bz_model.specs.Fraction.{Fraction};
-ghost use Rattle.bz_model.specs.Oracle.{cost_between};
-ghost use Rattle.bit_tape.specs.Tape.{TapeSource, Belongs, bits_of, HasFault};
+ghost use Rattle.bz_model.specs.Oracle.{LeavesOracle};
+ghost use Rattle.bit_tape.specs.Tape.{Belongs, LeavesTape, bits_of};
 ghost use Rattle.class_system.specs.Views.{spec_mode};
 ghost use Rattle.choice_draw.specs.Decision.{level_for};
 ghost use Rattle.labelling.specs.Answer.{OnLabels};
@@ -10,7 +10,7 @@ ghost use Rattle.labelling.specs.LabelsByBits.{bits_in};
 ghost use Rattle.object_store.specs.Tokens.{size_of};
 ghost use Rattle.size_window.specs.RunByBits.{start};
 ghost use Rattle.size_window.specs.Drawing.{limits_of, state_of, shape_of, AreLimits, DrawingBelongs, counted, thrown_one, none_waiting, waiting_with, kept_one_more, ended_by, begun_one};
-ghost use Rattle.size_window.specs.Turn.{IsTurn, turns_by, IsCounted, IfKept, IsNext, HasLabels, node_bits, most_bits, TellsOpen, outcome_of, IsIdleTurn, IfStraddles, Settles, KeepsOrWaits, MaySettle};
+ghost use Rattle.size_window.specs.Turn.{IsTurn, is_fault, turns_by, IsCounted, IfKept, IsNext, HasLabels, node_bits, most_bits, TellsOpen, outcome_of, IsIdleTurn, IfStraddles, Settles, KeepsOrWaits, MaySettle};
 ghost use Rattle.size_window.specs.LabelTurn.{IsLabelTurn, SettlesLabels};
 
 use crate::ending::{Ending, Straddle};
@@ -115,8 +115,11 @@ impl Drawing {
     /// under way is visited. A made shape of at least the least size is kept in unlabelled mode and
     /// waits for its labels in labelled mode; a smaller one, and an attempt over the greatest size,
     /// is thrown away. The bits of thrown attempts stay used. A cell that straddles, the tape's end
-    /// and a failed read end the drawing. The memory of a turn is taken before its first bit;
-    /// `OutOfMemory` leaves drawing, tape, oracle and shelf as they were, and counts no turn.
+    /// and a failed read end the drawing. The answer is fixed by the bits that were given and the
+    /// oracle's table, whether the shelf tells its content or not. A failed read is answered exactly
+    /// where the count of faults of the tape's name rose, by one. The memory of a turn is taken before
+    /// its first bit; `OutOfMemory` leaves drawing, tape, oracle and shelf as they were, and counts no
+    /// turn.
     pub fn turn<const F: u32, O: Oracle<F>, S: Shelf, L: Ledger>(
         &mut self,
         founded: &Founded,
@@ -153,26 +156,15 @@ impl Drawing {
         ensures undecided { self.old.ending ≡ None → TellsOpen (O.table oracle.old) result }
         ensures drawing { DrawingBelongs founded.now (O.x oracle.old) self.new }
 
-        ensures spec { O.spec oracle.new ≡ O.spec oracle.old }
-        ensures x { O.x oracle.new ≡ O.x oracle.old }
-        ensures table { O.table oracle.new ≡ O.table oracle.old }
-        ensures cost { O.cost oracle.new ≡ O.cost oracle.old }
         ensures raised { O.raised oracle.new ≡ max (O.raised oracle.old)
             (level_for (node_bits self.old.waiting (tape.new.used - tape.old.used))) }
         ensures node_bits { node_bits self.old.waiting (tape.new.used - tape.old.used) ≤ 60 }
-        ensures ticks { steps.new ≤ steps.old
-            + cost_between (O.cost oracle.old) (O.raised oracle.old) (O.raised oracle.new) }
-
         ensures used { (tape.old.used ≤ tape.new.used)
             × (tape.new.used ≤ tape.old.used + most_bits self.old.waiting) }
-        ensures source { tape.new.source ≡ tape.old.source }
-        ensures tape { Belongs (S.content shelf.new) tape.new }
-        ensures content { S.content shelf.new ≡ S.content shelf.old }
-        ensures faults { (other : List ℕ) → S.faults shelf.old other ≤ S.faults shelf.new other }
-        ensures cause { self.old.ending ≡ None → result ≡ Turned.Finished Ending.ReadFault
-            → HasFault tape.old.source (S.faults shelf.old) (S.faults shelf.new) }
-        ensures seeded { (seed : ℕ) → tape.old.source ≡ TapeSource.Seeded seed
-            → shelf.new ≡ shelf.old }
+        ensures oracle { LeavesOracle O.spec O.x O.table O.cost O.raised
+            oracle.old oracle.new steps.old steps.new }
+        ensures tape { LeavesTape S.content S.faults (is_fault result self.old.ending)
+            shelf.old shelf.new tape.old tape.new }
     {
         if let Some(turned) = self.idle_turn() {
             return turned;
@@ -241,6 +233,7 @@ impl Drawing {
     }
 
     /// Labels a shape that waited and keeps it. Where its labelling is cut short it waits on.
+    #[tactic(auto, using(crate::proofs::LabelTurns::nothing_labelled))]
     fn label<S: Shelf>(&mut self, mut made: Made, tape: &mut Tape, shelf: &mut S) -> Turned
         requires none_waits { self.old.waiting ≡ None }
         requires size { size_of made.shape.items ≤ 1000000 }
@@ -256,14 +249,8 @@ impl Drawing {
 
         ensures used { (tape.old.used ≤ tape.new.used)
             × (tape.new.used ≤ tape.old.used + 60 * size_of made.shape.items) }
-        ensures source { tape.new.source ≡ tape.old.source }
-        ensures tape { Belongs (S.content shelf.new) tape.new }
-        ensures content { S.content shelf.new ≡ S.content shelf.old }
-        ensures faults { (other : List ℕ) → S.faults shelf.old other ≤ S.faults shelf.new other }
-        ensures cause { result ≡ Turned.Finished Ending.ReadFault
-            → HasFault tape.old.source (S.faults shelf.old) (S.faults shelf.new) }
-        ensures seeded { (seed : ℕ) → tape.old.source ≡ TapeSource.Seeded seed
-            → shelf.new ≡ shelf.old }
+        ensures tape { LeavesTape S.content S.faults (is_fault result None)
+            shelf.old shelf.new tape.old tape.new }
     {
         let atoms = made.shape.size();
         let answer = match made.cells.reserve(atoms as usize) {

@@ -1,10 +1,9 @@
 use Rattle.std.proofs.Common.{◌≡◌, ◌+◌, ◌-◌, ◌≤◌, false, length}
-use Rattle.std.specs.Prelude.{IfSome}
 use Rattle.std.specs.List.{AllByRecursion}
 use Rattle.bz_model.specs.Cell.{IsCell}
 use Rattle.bit_tape.specs.Tape.{LeavesTape, bits_of}
 use Rattle.labelling.specs.LabelsByBits.{bits_in}
-use Rattle.labelling.proofs.LabelsOn.{LabelsOn}
+use Rattle.labelling.proofs.GivenLabels.{IsGivenSoFar}
 use Rattle.labelling.proofs.Naming.{NamesIdeally}
 use Rattle.labelling.proofs.label.give_all.Given as goal
 
@@ -18,7 +17,7 @@ invariant-atoms g l = record {
   each : AllByRecursion (λ c. IsCell c.k c.b) l.progress.cells;
   used : l.tape.used ≡ l.fn.tape.used + bits_in l.progress.cells;
   names : NamesIdeally l.fn.n l.progress;
-  goes : IfSome (bits_of l.fn.tape.source (g.S.Shelf.content l.fn.shelf)) (λ bits. LabelsOn bits l.fn.n l.fn.tape.used l.m l.progress l.tape.used);
+  goes : IsGivenSoFar (bits_of l.fn.tape.source (g.S.Shelf.content l.fn.shelf)) l.fn.n l.fn.tape.used l.m l.progress l.tape.used;
   tape : LeavesTape g.S.Shelf.content g.S.Shelf.faults false l.fn.shelf l.shelf l.fn.tape l.tape;
 }
 

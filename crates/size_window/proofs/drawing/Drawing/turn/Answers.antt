@@ -46,7 +46,7 @@ returns-in-Some-take_waiting-clause-kept g c =
     let made = shape_of c.in-Some-take_waiting.made in
     let shape : c.args.self.now.waiting ≡ Some (shape_of c.in-Some-take_waiting.made) = ap (λ (d : DrawingState). d.waiting) (sym w.1) ∙ taken.0 in
     let labelled : IsLabelTurn bits made (none_waiting c.args.self.now) c.args.tape.now.used c.label.result c.label.new.self c.label.new.tape.used = subst (λ d. IsLabelTurn bits made d c.args.tape.now.used c.label.result c.label.new.self c.label.new.tape.used) (taken.1 ∙ ap none_waiting w.1) c.label.ensures.labelled in
-    labels-kept c.args.founded.now (g.O.Oracle.x c.args.oracle.now) c.args.self.now c.requires.drawing (left-on w.0) made shape labelled.told c.label.new.tape.used c.label.result c.label.new.self labelled.settles
+    labels-kept c.args.founded.now (g.O.Oracle.x c.args.oracle.now) c.args.self.now c.requires.drawing (left-on w.0) made shape labelled.told c.label.new.tape.used c.label.result c.label.new.self labelled.cells labelled.settles
 
 pub returns-in-Some-take_waiting-clause-drawing : goal.returns-in-Some-take_waiting-clause-drawing
 returns-in-Some-take_waiting-clause-drawing g c =
@@ -70,7 +70,7 @@ outcome_by-outcome-requires g c =
     let b = subst (DrawingBelongs s x) (sym same) c.requires.drawing in
     let v = subst Visits (sym same) (left-visits w.0 (ap (λ (d : DrawingState). d.waiting) (sym w.1) ∙ nothing.0)) in
     record {
-      raised = subst (λ (t : Spec). IfStraddles c.step-answer.result (λ node. (6 ≤ raised) × (node.0 < length t.nodes))) (sym (c.step-answer.ensures.spec ∙ c.requires.spec))
+      raised = subst (λ (t : Spec). IfStraddles c.step-answer.result (λ node. (6 ≤ raised) × (node.0 < length t.nodes))) (sym (c.step-answer.ensures.oracle.spec ∙ c.requires.spec))
           (open-node s x (the_view c.self.inside) b c.step-answer.result c.step-answer.new.self c.args.tape.now.used c.step-answer.new.tape.used raised (c.step-answer.ensures.draws (b.runs v.on.going))
           (six-raised raised (g.O.Oracle.raised c.args.oracle.now) c.args.tape.now.used c.step-answer.new.tape.used c.step-answer.ensures.raised));
     }
@@ -115,6 +115,6 @@ returns-clause-turned g c =
     let mode = sym (c.mode.ensures.mode ∙ ap (λ (t : Spec). t.mode) c.system.ensures.system) in
     let settled = subst (λ n. Settles (spec_mode c.mode.result) c.outcome_by-outcome.result n (record (the_view c.self.inside) { session = c.step-answer.new.self }) c.settle.result c.settle.new.self) c.used.ensures c.settle.ensures in
     let table = g.O.Oracle.table c.step-answer.new.oracle in
-    let outcome = ◌∙◌ {b = outcome_of table c.step-answer.result} c.outcome_by-outcome.ensures (ap (λ t. outcome_of t c.step-answer.result) c.step-answer.ensures.table) in
+    let outcome = ◌∙◌ {b = outcome_of table c.step-answer.result} c.outcome_by-outcome.ensures (ap (λ t. outcome_of t c.step-answer.result) c.step-answer.ensures.oracle.table) in
     turn-then c.args.founded.now (g.O.Oracle.x c.args.oracle.now) c.args.self.now (the_view c.self.inside) (c.self.view_is ∙ nothing.1 ∙ w.1) c.requires.drawing v c.step-answer.new.self c.step-answer.ensures.session c.step-answer.result c.step-answer.ensures.leaves c.step-answer.ensures.ideal (g.O.Oracle.table c.args.oracle.now) (spec_mode c.mode.result) mode c.outcome_by-outcome.result outcome c.step-answer.new.tape.used c.settle.result c.settle.new.self settled
     g.row.F (bits_of c.args.tape.now.source (g.S.Shelf.content c.args.shelf.now)) c.args.tape.now.used c.step-answer.ensures.used.0 c.step-answer.ensures.draws c.step-answer.ensures.exact

@@ -1,0 +1,74 @@
+-- A drawing's whole way over its tape, from its start on.
+use Rattle.std.specs.Prelude.{◌≡◌, ℕ, zero, suc, ◌-◌, ◌<◌, max, map, sum, Bool, List, [], ◌++◌, length, Option, Some, None, IfSome, if◌then◌else◌}
+use Rattle.bz_model.specs.declared.cell.Bounds.{Bounds}
+use Rattle.bz_model.specs.declared.cell.Cell.{Cell}
+use Rattle.bz_model.specs.Cell.{AreCells, bits_of, spelled}
+use Rattle.bz_model.specs.Fraction.{Fraction}
+use Rattle.bz_model.specs.Spec.{Spec}
+use Rattle.bit_tape.specs.Given.{HasBits, Gave}
+use Rattle.labelling.specs.Spelled.{AreSpelled}
+use Rattle.shape_sampler.specs.Visit.{Chooser}
+use Rattle.shape_sampler.specs.Answer.{ChoosesBy}
+use Rattle.size_window.specs.declared.ending.Ending.{Ending as Told}
+use Rattle.size_window.specs.declared.ending.Ending.TheVariants as ending
+use Rattle.size_window.specs.RunByBits.{Open, Ending, Limits, Sampling, State, Course, after}
+use Rattle.size_window.specs.Drawing.{DrawingState, state_of}
+use Rattle.size_window.specs.Follows.{Goes}
+
+-- The cell of a number that was left open.
+abbrev pub open_cell : Open → Cell
+open_cell (Open.AtNode node cell) = cell
+open_cell (Open.AtLabel m cell) = cell
+
+-- Bits are those of the number that a drawing left open: none while it goes on and where it ended with Done or the limit of turns; the 60 of a cell that straddles; fewer where the tape's end or its shelf cut the number short.
+abbrev pub AreOpen : Option Ending → List Bool → Type 0
+AreOpen (Some (Ending.Undecided number)) bits = (bits ≡ bits_of (open_cell number).b (open_cell number).k) × ((open_cell number).b ≡ 60)
+AreOpen (Some Ending.TapeEnded) bits = length bits < 60
+AreOpen (Some Ending.ReadFault) bits = length bits < 60
+AreOpen _ bits = bits ≡ []
+
+-- The bits that a course used over a tape are those that its cells spell, in order, each of which is a cell, and then those of the number that was left open.
+pub record IsSpelled (c : Course) (tape : ℕ → Option Bool) : Type 0 where
+  pub open_bits : List Bool
+  pub spelled_there : AreSpelled tape 0 c.cells open_bits c.state.attempt.used
+  pub are_open : AreOpen c.state.ending open_bits
+
+-- The same of the bits that it was given.
+pub record Spells (c : Course) (given : List Bool) : Type 0 where
+  pub open_bits : List Bool
+  pub whole : given ≡ spelled c.cells ++ open_bits
+  pub are_open : AreOpen c.state.ending open_bits
+  pub each : AreCells c.cells
+
+-- The bits that a turn gave to a number of a choice node, which is a union, a sequence, a set or a cycle: all that it used, and none where it labelled a made shape.
+abbrev pub bits_to_node : (before now : State) → ℕ
+bits_to_node before now = if before.awaits then 0 else now.attempt.used - before.attempt.used
+
+-- The greatest number of bits that one number of a choice node was given in the first n turns of the course over a tape's bits.
+unfoldable pub most_given : Sampling → (faults : ℕ → Option ℕ) → (n : ℕ) → ℕ
+most_given s faults zero = 0
+most_given s faults (suc n) = max (most_given s faults n) (bits_to_node (after s faults n).state (after s faults (suc n)).state)
+
+-- Where a drawing ended with the tape's end, these bits end at the place used.
+abbrev pub EndsAt : Option Told → (used : ℕ) → (bits : ℕ → Option Bool) → Type 0
+EndsAt (Some ending.TapeEnded) used bits = bits used ≡ None
+EndsAt _ used bits = Unit {0}
+
+-- A course is that of so many turns over these bits, and `most` is the greatest number of bits that one number of a choice node was given in a turn.
+pub record IsCourseOver (s : Sampling) (faults : ℕ → Option ℕ) (turns : ℕ) (c : Course) (most : ℕ) : Type 0 where
+  pub same : c ≡ after s faults turns
+  pub most_is : most ≡ most_given s faults turns
+
+-- The trace of a drawing that was asked for so many turns: its whole way over its tape, from the tape's first bit and the drawing's start on. Its course has the drawing's state, with so many bits used, and goes as ideal runs do; the drawing's atoms are those of the course's entries. The drawing was given as many bits as it used, the tape's first ones where they are told; its cells and the number left open spell them; and over every tape that begins with them, and ends where the drawing met its end, the course is the one that they fix, for each chooser by the table. The shelf failed in one of its turns only where it ended with a failed read. `most` is the greatest number of bits that one number of a choice node was given in a turn.
+pub record IsTrace (s : Spec) (x : Fraction) (F : ℕ) (table : (level node : ℕ) → Bounds) (limits : Limits) (told : Option (ℕ → Option Bool)) (turns : ℕ) (d : DrawingState) (used most : ℕ) (c : Course) : Type 0 where
+  pub state : c.state ≡ state_of d used
+  pub within : d.limits ≡ limits
+  pub goes : Goes s x limits c
+  pub atoms : d.atoms ≡ sum (map (λ e. e.size) c.entries)
+  pub given : List Bool
+  pub gave : Gave told 0 used given
+  pub ended : IfSome told (EndsAt d.ending used)
+  pub spells : Spells c given
+  pub faults : ℕ → Option ℕ
+  pub disturbed : (turn before : ℕ) → faults turn ≡ Some before → d.ending ≡ Some ending.ReadFault
+  pub exact : (tape : ℕ → Option Bool) → HasBits tape 0 given → EndsAt d.ending used tape → (k : Chooser) → ChoosesBy s F table k → IsCourseOver (record { chooser = k; limits = limits; tape = tape }) faults turns c most
