@@ -28,7 +28,7 @@ use Rattle.size_window.specs.Drawing.{MadeShape, DrawingState, attempt_unless, e
 use Rattle.size_window.specs.Follows.{Goes}
 use Rattle.size_window.specs.Ideally.{chooser_of}
 use Rattle.size_window.specs.Turn.{told_entry, told_fault, entry_of, atoms_by, ending_by, EndsThere, IsTurn, IsCounted, node_bits}
-use Rattle.size_window.specs.Trace.{AreOpen, IsSpelled, Spells, bits_to_node, most_given, EndsAt, IsCourseOver, IsTrace}
+use Rattle.size_window.specs.Trace.{AreOpen, IsSpelled, Spells, bits_to_node, most_given, EndsAt, IsCourseOver, IsTrace, TracesStart, TurnsContinue}
 use Rattle.size_window.proofs.Going.{goes-start}
 use Rattle.size_window.proofs.Turning.{if-told, if-any, attempt-used}
 use Rattle.size_window.proofs.TablesIdeally.{chooses-by}
@@ -139,6 +139,29 @@ table-chooser s F table sound = chooses-by s F table (has_empty s) (λ part. (ma
 sizes-one : (e : Entry) → sum (map (λ (d : Entry). d.size) (e ∷ [])) ≡ e.size
 sizes-one e = let h = sum_by-cons (λ n. n) e.size [] in let z : sum (map (λ (n : ℕ). n) []) ≡ 0 = refl in omega arith
 
+none-ended : (o : Option Told) → option_map ending_of o ≡ None → o ≡ None
+none-ended None e = refl
+none-ended (Some t) e = absurd (cc)
+
+nothing-at : (o : Option Told) (used : ℕ) (tape : ℕ → Option Bool) → o ≡ None → EndsAt o used tape
+nothing-at o used tape is = subst (λ p. EndsAt p used tape) (sym is) tt
+
+pub traces_start : TracesStart
+unfolding most_given
+traces_start s x F table limits told d state within atoms = record {
+  state = sym state;
+  within = within;
+  goes = goes-start s x limits;
+  atoms = atoms;
+  given = [];
+  gave = gave-none told 0;
+  ended = if-any told (λ tape. nothing-at d.ending 0 tape (none-ended d.ending (ap (λ (st : State). st.ending) state)));
+  spells = record { open_bits = []; whole = refl; are_open = refl; each = tt };
+  faults = λ n. None;
+  disturbed = λ turn before is. absurd (cc);
+  exact = λ tape have ends k by. record { same = refl; most_is = refl };
+}
+
 module _ (s : Spec) (x : Fraction) (F : ℕ) (table : (level node : ℕ) → Bounds) (limits : Limits) (told : Option (ℕ → Option Bool)) (sound : IsSound s) where
   -- what a course by the bits given spells
   given-spells : (c : Course) (given : List Bool) (o : Option Told) (used : ℕ) (faults : ℕ → Option ℕ) (turns : ℕ) (most : ℕ) → c.state.attempt.used ≡ used → used ≡ length given → ((tape : ℕ → Option Bool) → HasBits tape 0 given → EndsAt o used tape → (k : Chooser) → ChoosesBy s F table k → IsCourseOver (record { chooser = k; limits = limits; tape = tape }) faults turns c most) → Spells c given
@@ -153,29 +176,6 @@ module _ (s : Spec) (x : Fraction) (F : ℕ) (table : (level node : ℕ) → Bou
         are_open = h.are_open;
         each = h.spelled_there.each;
       }
-
-  none-ended : (o : Option Told) → option_map ending_of o ≡ None → o ≡ None
-  none-ended None e = refl
-  none-ended (Some t) e = absurd (cc)
-
-  nothing-at : (o : Option Told) (used : ℕ) (tape : ℕ → Option Bool) → o ≡ None → EndsAt o used tape
-  nothing-at o used tape is = subst (λ p. EndsAt p used tape) (sym is) tt
-
-  pub trace-starts : (d : DrawingState) → state_of d 0 ≡ start → d.limits ≡ limits → d.atoms ≡ 0 → IsTrace s x F table limits told 0 d 0 0 at_start
-  unfolding most_given
-  trace-starts d state within atoms = record {
-    state = sym state;
-    within = within;
-    goes = goes-start s x limits;
-    atoms = atoms;
-    given = [];
-    gave = gave-none told 0;
-    ended = if-any told (λ tape. nothing-at d.ending 0 tape (none-ended d.ending (ap (λ (st : State). st.ending) state)));
-    spells = record { open_bits = []; whole = refl; are_open = refl; each = tt };
-    faults = λ n. None;
-    disturbed = λ turn before is. absurd (cc);
-    exact = λ tape have ends k by. record { same = refl; most_is = refl };
-  }
 
   module _ (turns : ℕ) (before : DrawingState) (begun most : ℕ) (c : Course) (p : IsTrace s x F table limits told turns before begun most c) (a : Answer) (now : DrawingState) (used : ℕ) (t : IsTurn s x F table told before begun a now used) (counted : IsCounted before a now) where
     fault : Option ℕ
@@ -274,7 +274,7 @@ module _ (s : Spec) (x : Fraction) (F : ℕ) (table : (level node : ℕ) → Bou
         by None = refl
         by (Some shape) = refl
 
-    pub trace-continues : IsTrace s x F table limits told (suc turns) now used (max most (node_bits before.waiting (used - begun))) (followed_by c t.turned)
+    trace-continues : IsTrace s x F table limits told (suc turns) now used (max most (node_bits before.waiting (used - begun))) (followed_by c t.turned)
     trace-continues = subst (λ n. IsTrace s x F table limits told (suc turns) now used (max most n) (followed_by c t.turned)) bits-now (record {
       state = t.state;
       within = counted.limits ∙ p.within;
@@ -289,7 +289,5 @@ module _ (s : Spec) (x : Fraction) (F : ℕ) (table : (level node : ℕ) → Bou
       exact = exact-now;
     })
 
-  -- its entries are made again from their own cells
-  module _ (turns : ℕ) (d : DrawingState) (used most : ℕ) (c : Course) (p : IsTrace s x F table limits told turns d used most c) where
-    pub trace-over : (k : Chooser) → ChoosesBy s F table k → IsCourseOver (record { chooser = k; limits = limits; tape = slice_get p.given }) p.faults turns c most
-    trace-over k by = p.exact (slice_get p.given) (has-own p.given) (ends-alone d.ending p.given used (let g = p.gave.count in omega arith)) k by
+pub turns_continue : TurnsContinue
+turns_continue s x F table limits told sound turns before used most c p a now later turn counted = trace-continues s x F table limits told sound turns before used most c p a now later turn counted

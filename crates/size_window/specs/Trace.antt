@@ -11,9 +11,12 @@ use Rattle.shape_sampler.specs.Visit.{Chooser}
 use Rattle.shape_sampler.specs.Answer.{ChoosesBy}
 use Rattle.size_window.specs.declared.ending.Ending.{Ending as Told}
 use Rattle.size_window.specs.declared.ending.Ending.TheVariants as ending
-use Rattle.size_window.specs.RunByBits.{Open, Ending, Limits, Sampling, State, Course, after}
+use Rattle.size_window.specs.RunByBits.{Open, Ending, Limits, Sampling, State, Course, start, at_start, followed_by, after}
 use Rattle.size_window.specs.Drawing.{DrawingState, state_of}
 use Rattle.size_window.specs.Follows.{Goes}
+use Rattle.size_window.specs.declared.turned.Turned.{Turned}
+use Rattle.size_window.specs.Turn.{IsTurn, IsCounted, node_bits}
+use Rattle.class_system.specs.Sound.{IsSound}
 
 -- The cell of a number that was left open.
 abbrev pub open_cell : Open → Cell
@@ -72,3 +75,11 @@ pub record IsTrace (s : Spec) (x : Fraction) (F : ℕ) (table : (level node : �
   pub faults : ℕ → Option ℕ
   pub disturbed : (turn before : ℕ) → faults turn ≡ Some before → d.ending ≡ Some ending.ReadFault
   pub exact : (tape : ℕ → Option Bool) → HasBits tape 0 given → EndsAt d.ending used tape → (k : Chooser) → ChoosesBy s F table k → IsCourseOver (record { chooser = k; limits = limits; tape = tape }) faults turns c most
+
+-- Every drawing before its first turn has a trace: that of no bit, with no entry and no cell.
+abbrev pub TracesStart : Type 0
+TracesStart = (s : Spec) (x : Fraction) (F : ℕ) (table : (level node : ℕ) → Bounds) (limits : Limits) (told : Option (ℕ → Option Bool)) (d : DrawingState) → state_of d 0 ≡ start → d.limits ≡ limits → d.atoms ≡ 0 → IsTrace s x F table limits told 0 d 0 0 at_start
+
+-- Every turn of a drawing from a sound specification continues its trace: the turn's bits stand after those given before, its entry after the entries, and its cells after the cells.
+abbrev pub TurnsContinue : Type 0
+TurnsContinue = (s : Spec) (x : Fraction) (F : ℕ) (table : (level node : ℕ) → Bounds) (limits : Limits) (told : Option (ℕ → Option Bool)) → IsSound s → (turns : ℕ) (before : DrawingState) (used most : ℕ) (c : Course) → IsTrace s x F table limits told turns before used most c → (answer : Turned) (now : DrawingState) (later : ℕ) (turn : IsTurn s x F table told before used answer now later) → IsCounted before answer now → IsTrace s x F table limits told (suc turns) now later (max most (node_bits before.waiting (later - used))) (followed_by c turn.turned)

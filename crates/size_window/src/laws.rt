@@ -1,5 +1,5 @@
 //! Laws of drawings. Each function's contract is the law; none does anything.
-ghost use Rattle.std.specs.Prelude.{◌≡◌, ◌↔◌, ℕ, suc, ◌-◌, max, Bool, IsTrue, Option};
+ghost use Rattle.std.specs.Prelude.{◌≡◌, ◌↔◌, ℕ, Bool, IsTrue, Option};
 ghost use Rattle.bz_model.specs.Fraction.{Fraction};
 ghost use Rattle.bz_model.specs.declared.cell.Bounds.{Bounds};
 ghost use Rattle.bz_model.specs.Measures.{HasZero};
@@ -8,11 +8,8 @@ ghost use Rattle.bz_model.specs.Spec.{Spec};
 ghost use Rattle.class_system.specs.Sound.{IsSound};
 ghost use Rattle.well_founded.specs.EmptyObjects.{has_empty};
 ghost use Rattle.shape_sampler.specs.Answer.{ChoosesBy};
-ghost use Rattle.size_window.specs.declared.turned.Turned.{Turned};
-ghost use Rattle.size_window.specs.RunByBits.{Limits, Sampling, Course, start, at_start, after, followed_by};
-ghost use Rattle.size_window.specs.Drawing.{DrawingState, state_of};
-ghost use Rattle.size_window.specs.Turn.{IsTurn, IsCounted, node_bits};
-ghost use Rattle.size_window.specs.Trace.{IsSpelled, IsTrace};
+ghost use Rattle.size_window.specs.RunByBits.{Limits, Sampling, at_start, after};
+ghost use Rattle.size_window.specs.Trace.{IsSpelled, TracesStart, TurnsContinue};
 ghost use Rattle.size_window.specs.Redrawn.{AreRedrawn};
 ghost use Rattle.size_window.specs.Ideally.{DecidesIdeally, chooser_of};
 ghost use Rattle.size_window.specs.Follows.{Follows, Goes};
@@ -55,23 +52,13 @@ pub fn a_course_goes_from_its_start()
 
 /// A drawing before its first turn has a trace: that of no bit, with no entry and no cell.
 pub fn a_trace_starts_with_its_drawing()
-    ensures { (s : Spec) (x : Fraction) (F : ℕ) (table : (level node : ℕ) → Bounds) (limits : Limits)
-        (told : Option (ℕ → Option Bool)) → IsSound s → (d : DrawingState) → state_of d 0 ≡ start
-        → d.limits ≡ limits → d.atoms ≡ 0
-        → IsTrace s x F table limits told 0 d 0 0 at_start }
+    ensures { TracesStart }
 {}
 
-/// A turn continues a trace: with the turn's bits after those given before, its entry after the
+/// A turn from a sound specification continues its drawing's trace: with the turn's bits after those given before, its entry after the
 /// entries and its cells after the cells.
 pub fn a_turn_continues_a_trace()
-    ensures { (s : Spec) (x : Fraction) (F : ℕ) (table : (level node : ℕ) → Bounds) (limits : Limits)
-        (told : Option (ℕ → Option Bool)) → IsSound s
-        → (turns : ℕ) (before : DrawingState) (used most : ℕ) (c : Course)
-        → IsTrace s x F table limits told turns before used most c
-        → (answer : Turned) (now : DrawingState) (later : ℕ)
-        → (turn : IsTurn s x F table told before used answer now later) → IsCounted before answer now
-        → IsTrace s x F table limits told (suc turns) now later
-        (max most (node_bits before.waiting (later - used))) (followed_by c turn.turned) }
+    ensures { TurnsContinue }
 {}
 
 /// The cells of a course spell the bits that it used over a tape, in order, wherever the shelf fails;
