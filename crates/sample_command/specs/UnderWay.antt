@@ -27,12 +27,11 @@ abbrev pub has_failed : Option Ending → Bool
 has_failed (Some ReadFault) = true
 has_failed ending = false
 
--- A course so far: that of the drawing's trace, in which each turn that was counted took at most 60 bits for each of at most 1000000 atoms.
+-- A course so far: that of the drawing's trace, in which it was asked for so many turns.
 pub record IsCourseSoFar (s : Spec) (x : Fraction) (F : ℕ) (table : (level node : ℕ) → Bounds) (limits : Limits) (told : Option (ℕ → Option Bool)) (d : DrawingState) (used most : ℕ) : Type 0 where
   pub turns : ℕ
   pub course : Course
   pub trace : IsTrace s x F table limits told turns d used most course
-  pub few : used ≤ 60000000 * d.turns
 
 -- A drawing has a course that goes as ideal runs do, this many bits being used.
 pub record HasCourse (s : Spec) (x : Fraction) (limits : Limits) (d : DrawingState) (used : ℕ) : Type 0 where
@@ -40,13 +39,14 @@ pub record HasCourse (s : Spec) (x : Fraction) (limits : Limits) (d : DrawingSta
   pub state : course.state ≡ state_of d used
   pub goes : Goes s x limits course
 
--- A drawing from a sound specification over a tape can make a turn.
+-- A drawing from a sound specification over a tape can make a turn. Each turn that was counted took at most 60 bits for each of at most 1000000 atoms.
 pub record CanTurn (s : Spec) (x : Fraction) (contents : List ℕ → Option (List ℕ)) (limits : Limits) (d : DrawingState) (tape : TapeState) : Type 0 where
   pub sound : IsSound s
   pub belongs : DrawingBelongs s x d
   pub within : d.limits ≡ limits
   pub goes_on : d.ending ≡ None
   pub ahead : Belongs contents tape
+  pub few : tape.used ≤ 60000000 * d.turns
   pub so_far : HasCourse s x limits d tape.used
 
 -- The line of a number that was left open, with the bounds that the ending states of a node. Other endings have none.

@@ -8,5 +8,6 @@
 
 pub mod drawing;
 pub mod entries;
+mod reading;
 pub mod sample;
 mod starts;

@@ -9,10 +9,11 @@ ghost use Rattle.sample_command.specs.SampleCommand.{CarriesSample, DrawnOver, s
 ghost use Rattle.call_stages.specs.Stages.{files, Based};
 ghost use Rattle.sample_command.specs.UnderWay.{met};
 
+use crate::reading::specified;
 use crate::starts::drawn_over;
 use call_stages::at_fraction;
 use call_stages::report::refused;
-use call_stages::stages::{based, specified};
+use call_stages::stages::based;
 use call_stages::status::Status;
 use bit_tape::tape::Tape;
 use bz_model::fraction::Fraction;
@@ -70,8 +71,7 @@ fn sampled_at<S: Shelf, K: Sink, L: Ledger>(
     steps: &mut Steps<L>,
 ) -> Status
     requires limits { AreLimits (limits_of limits) }
-    ensures ends { (before : List ℕ → ℕ) → ((name : List ℕ) → before name ≤ S.faults shelf.old name)
-        → EndsBy (Based (setting founded.now x.num x.den (fraction_bits fraction)) (DrawnOver fast (setting founded.now x.num x.den (fraction_bits fraction)) (limits_of limits) (met (source_of tape.now) (S.content shelf.old) before (S.faults shelf.new)))) (output (K.written out.old) (K.written out.new) (K.faults out.old) (K.faults out.new) steps.old steps.new) result }
+    ensures ends { EndsBy (Based (setting founded.now x.num x.den (fraction_bits fraction)) (DrawnOver fast (setting founded.now x.num x.den (fraction_bits fraction)) (limits_of limits) (met (source_of tape.now) (S.content shelf.old) (S.faults shelf.old) (S.faults shelf.new)))) (output (K.written out.old) (K.written out.new) (K.faults out.old) (K.faults out.new) steps.old steps.new) result }
     ensures content { S.content shelf.new ≡ S.content shelf.old }
     ensures counts { (name : List ℕ) → S.faults shelf.old name ≤ S.faults shelf.new name }
     ensures writes { K.faults out.old ≤ K.faults out.new }
@@ -93,8 +93,7 @@ fn sampled<const F: u32, S: Shelf, K: Sink, L: Ledger>(
 ) -> Status
     requires fraction_bits { (24 ≤ F) × (F ≤ 56) }
     requires limits { AreLimits (limits_of limits) }
-    ensures ends { (before : List ℕ → ℕ) → ((name : List ℕ) → before name ≤ S.faults shelf.old name)
-        → EndsBy (Based (setting founded.now x.num x.den F) (DrawnOver fast (setting founded.now x.num x.den F) (limits_of limits) (met (source_of tape.now) (S.content shelf.old) before (S.faults shelf.new)))) (output (K.written out.old) (K.written out.new) (K.faults out.old) (K.faults out.new) steps.old steps.new) result }
+    ensures ends { EndsBy (Based (setting founded.now x.num x.den F) (DrawnOver fast (setting founded.now x.num x.den F) (limits_of limits) (met (source_of tape.now) (S.content shelf.old) (S.faults shelf.old) (S.faults shelf.new)))) (output (K.written out.old) (K.written out.new) (K.faults out.old) (K.faults out.new) steps.old steps.new) result }
     ensures content { S.content shelf.new ≡ S.content shelf.old }
     ensures counts { (name : List ℕ) → S.faults shelf.old name ≤ S.faults shelf.new name }
     ensures writes { K.faults out.old ≤ K.faults out.new }

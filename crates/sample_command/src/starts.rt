@@ -49,8 +49,7 @@ pub(crate) fn drawn_over<const F: u32, S: Shelf, K: Sink, L: Ledger>(
     requires limits { AreLimits (limits_of limits) }
     requires unused { tape.used ≡ 0 }
     requires ahead { Belongs (S.content shelf.old) tape }
-    ensures ends { (before : List ℕ → ℕ) → ((name : List ℕ) → before name ≤ S.faults shelf.old name)
-        → EndsBy (DrawnOver fast (setting founded.now x.num x.den F) (limits_of limits) (met tape.source (S.content shelf.old) before (S.faults shelf.new)) base.entry) (output (K.written out.old) (K.written out.new) (K.faults out.old) (K.faults out.new) steps.old steps.new) result }
+    ensures ends { EndsBy (DrawnOver fast (setting founded.now x.num x.den F) (limits_of limits) (met tape.source (S.content shelf.old) (S.faults shelf.old) (S.faults shelf.new)) base.entry) (output (K.written out.old) (K.written out.new) (K.faults out.old) (K.faults out.new) steps.old steps.new) result }
     ensures content { S.content shelf.new ≡ S.content shelf.old }
     ensures counts { (name : List ℕ) → S.faults shelf.old name ≤ S.faults shelf.new name }
     ensures writes { K.faults out.old ≤ K.faults out.new }
@@ -79,8 +78,7 @@ fn drawn_from_zero<const F: u32, S: Shelf, K: Sink, L: Ledger>(
     requires limits { AreLimits (limits_of limits) }
     requires unused { tape.used ≡ 0 }
     requires ahead { Belongs (S.content shelf.old) tape }
-    ensures ends { (before : List ℕ → ℕ) → ((name : List ℕ) → before name ≤ S.faults shelf.old name)
-        → EndsBy (DrawnOver false (setting founded.now x.num x.den F) (limits_of limits) (met tape.source (S.content shelf.old) before (S.faults shelf.new)) base.entry) (output (K.written out.old) (K.written out.new) (K.faults out.old) (K.faults out.new) steps.old steps.new) result }
+    ensures ends { EndsBy (DrawnOver false (setting founded.now x.num x.den F) (limits_of limits) (met tape.source (S.content shelf.old) (S.faults shelf.old) (S.faults shelf.new)) base.entry) (output (K.written out.old) (K.written out.new) (K.faults out.old) (K.faults out.new) steps.old steps.new) result }
     ensures content { S.content shelf.new ≡ S.content shelf.old }
     ensures counts { (name : List ℕ) → S.faults shelf.old name ≤ S.faults shelf.new name }
     ensures writes { K.faults out.old ≤ K.faults out.new }
@@ -113,8 +111,7 @@ fn drawn_fast<const F: u32, S: Shelf, K: Sink, L: Ledger>(
     requires limits { AreLimits (limits_of limits) }
     requires unused { tape.used ≡ 0 }
     requires ahead { Belongs (S.content shelf.old) tape }
-    ensures ends { (before : List ℕ → ℕ) → ((name : List ℕ) → before name ≤ S.faults shelf.old name)
-        → EndsBy (DrawnOver true (setting founded.now x.num x.den F) (limits_of limits) (met tape.source (S.content shelf.old) before (S.faults shelf.new)) base.entry) (output (K.written out.old) (K.written out.new) (K.faults out.old) (K.faults out.new) steps.old steps.new) result }
+    ensures ends { EndsBy (DrawnOver true (setting founded.now x.num x.den F) (limits_of limits) (met tape.source (S.content shelf.old) (S.faults shelf.old) (S.faults shelf.new)) base.entry) (output (K.written out.old) (K.written out.new) (K.faults out.old) (K.faults out.new) steps.old steps.new) result }
     ensures content { S.content shelf.new ≡ S.content shelf.old }
     ensures counts { (name : List ℕ) → S.faults shelf.old name ≤ S.faults shelf.new name }
     ensures writes { K.faults out.old ≤ K.faults out.new }
@@ -171,8 +168,7 @@ fn drawn_from<const F: u32, S: Shelf, K: Sink, L: Ledger>(
     requires limits { AreLimits (limits_of limits) }
     requires unused { tape.used ≡ 0 }
     requires ahead { Belongs (S.content shelf.old) tape }
-    ensures ends { (before : List ℕ → ℕ) → ((name : List ℕ) → before name ≤ S.faults shelf.old name)
-        → EndsBy (DrawnFrom true (setting founded.now x.num x.den F) (limits_of limits) (met tape.source (S.content shelf.old) before (S.faults shelf.new)) base.entry start.entry) (output (K.written out.old) (K.written out.new) (K.faults out.old) (K.faults out.new) steps.old steps.new) result }
+    ensures ends { EndsBy (DrawnFrom true (setting founded.now x.num x.den F) (limits_of limits) (met tape.source (S.content shelf.old) (S.faults shelf.old) (S.faults shelf.new)) base.entry start.entry) (output (K.written out.old) (K.written out.new) (K.faults out.old) (K.faults out.new) steps.old steps.new) result }
     ensures content { S.content shelf.new ≡ S.content shelf.old }
     ensures counts { (name : List ℕ) → S.faults shelf.old name ≤ S.faults shelf.new name }
     ensures writes { K.faults out.old ≤ K.faults out.new }
