@@ -24,10 +24,6 @@ use Rattle.sample_command.specs.Starts.{start_of, format_of, start_ticks, Starte
 use Rattle.sample_command.specs.Starts as starts
 use Rattle.sample_command.proofs.OneDrawing.{one-drawn}
 
--- there is no fast vector, and the line says so
-pub no_start : (t : Setting) (base : List ℕ) (status : Status) (text : List ℕ) → fast_vector t base ≡ None → Says Status.NoFast (no_fast_line t.bits) 0 status text 0 → Started true t base (λ start. Never) status text (start_ticks true t.bits)
-no_start t base status text none says = starts.no_fast none (record { status_is = says.status_is; text_is = says.text_is; ticks_are = refl })
-
 -- memory ran out in the search
 pub start_lacks_memory : (fast : Bool) (t : Setting) (base : List ℕ) (e : Refusal) → e ≡ refusal.OutOfMemory → Started fast t base (λ start. Never) (refusal_status e) (refusal_text e) (start_ticks fast t.bits)
 start_lacks_memory fast t base e is = starts.no_memory (says-nothing (start_ticks fast t.bits) e is)

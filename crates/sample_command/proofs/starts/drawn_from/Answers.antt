@@ -25,8 +25,8 @@ returns-in_default-make-clause-ends g c = λ before below.
     no-drawing cost_at t.spec (ratio t.num t.den) t.bits (level_bounds_from t c.args.start c.args.base) (limits_of c.args.limits) (met c.args.tape.source (g.S.Shelf.content c.args.shelf.now) before (g.S.Shelf.faults c.args.shelf.now)) (drawn_header (format_of true) t c.args.base (limits_of c.args.limits)) _ _ _ _
 
 -- the lower sweeps start from the vector that is given
-pub returns-in-Ok-make-clause-ends : goal.returns-in-Ok-make-clause-ends
-returns-in-Ok-make-clause-ends g c = λ before below.
+pub returns-clause-ends : goal.returns-clause-ends
+returns-clause-ends g c = λ before below.
     let t = setting c.args.founded.now c.args.x.num c.args.x.den g.row.F in
     let tape = met c.args.tape.source (g.S.Shelf.content c.args.shelf.now) before (g.S.Shelf.faults c.drawn.new.shelf) in
     let header =

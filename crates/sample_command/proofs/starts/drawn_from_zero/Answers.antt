@@ -24,8 +24,8 @@ returns-in_default-make-clause-ends g c = λ before below.
     lacks_after_start false t c.args.base (DrawnFrom false t (limits_of c.args.limits) (met c.args.tape.source (g.S.Shelf.content c.args.shelf.now) before (g.S.Shelf.faults c.args.shelf.now)) c.args.base) _ _ _ _ _ (omega arith)
 
 -- zero is a start
-pub returns-in-Ok-make-clause-ends : goal.returns-in-Ok-make-clause-ends
-returns-in-Ok-make-clause-ends g c = λ before below.
+pub returns-clause-ends : goal.returns-clause-ends
+returns-clause-ends g c = λ before below.
     let t = setting c.args.founded.now c.args.x.num c.args.x.den g.row.F in
     let tape = met c.args.tape.source (g.S.Shelf.content c.args.shelf.now) before (g.S.Shelf.faults c.drawn.new.shelf) in
     let header =
