@@ -11,7 +11,7 @@ use Rattle.class_system.specs.Sound.{IsSound}
 use Rattle.shape_sampler.specs.Answer.{ChoosesBy}
 use Rattle.size_window.specs.declared.ending.Ending.{Ending as Told}
 use Rattle.size_window.specs.declared.ending.Ending.TheVariants as told
-use Rattle.size_window.specs.RunByBits.{Limits, State, Course, Entry, Ending, start, at_start}
+use Rattle.size_window.specs.RunByBits.{Limits, State, Ending, start, at_start}
 use Rattle.size_window.specs.Drawing.{DrawingState, DrawingBelongs, state_of, ending_of}
 use Rattle.size_window.specs.Ideally.{chooser_of}
 use Rattle.size_window.specs.Trace.{EndsAt, TracesStart}

@@ -13,14 +13,14 @@ ghost use Rattle.sample_command.specs.UnderWay.{met, has_failed, CanTurn, IsAtEn
 ghost use Rattle.call_stages.specs.declared.report.Stop.TheVariants as stop;
 
 use crate::entries::{append_entry, closing, status_of};
-use call_stages::page::send_enough;
-use call_stages::report::{Stop, written};
-use call_stages::status::Status;
 use bit_tape::tape::Tape;
 use bz_model::oracle::Oracle;
 use bz_model::steps::Steps;
 use bz_outside::shelf::Shelf;
 use bz_outside::sink::Sink;
+use call_stages::page::send_enough;
+use call_stages::report::{Stop, written};
+use call_stages::status::Status;
 use size_window::drawing::Drawing;
 use size_window::ending::Ending;
 use size_window::laws::{

@@ -91,7 +91,9 @@ fn drawn_from_zero<const F: u32, S: Shelf, K: Sink, L: Ledger>(
     let Ok(mut memo) = Memo::make(alloc, founded, x, base) else {
         return Status::OutOfMemory;
     };
-    drawn::<F, _, S, K, L>(alloc, founded, &mut memo, limits, tape, header, shelf, out, steps)
+    drawn::<F, _, S, K, L>(
+        alloc, founded, &mut memo, limits, tape, header, shelf, out, steps,
+    )
 }
 
 /// Searches the fast vector of the base, and draws objects by levels whose lower sweeps start from it.
@@ -181,5 +183,7 @@ fn drawn_from<const F: u32, S: Shelf, K: Sink, L: Ledger>(
     let Ok(mut memo) = FastMemo::make(alloc, founded, x, base, start) else {
         return Status::OutOfMemory;
     };
-    drawn::<F, _, S, K, L>(alloc, founded, &mut memo, limits, tape, header, shelf, out, steps)
+    drawn::<F, _, S, K, L>(
+        alloc, founded, &mut memo, limits, tape, header, shelf, out, steps,
+    )
 }

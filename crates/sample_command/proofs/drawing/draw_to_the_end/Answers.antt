@@ -1,5 +1,4 @@
-use Rattle.std.proofs.Common.{◌≡◌, ◌≤◌, ℕ, List, false, ap, subst, arith}
-use Rattle.std.specs.Prelude.{Bool}
+use Rattle.std.proofs.Common.{false, ap, subst, arith}
 use Rattle.bit_tape.specs.Tape.{LeavesTape, bits_of}
 use Rattle.bit_tape.proofs.Leaving.{leaves-none, leaves-more}
 use Rattle.choice_draw.proofs.Ticks.{oracle-none, oracle-more}

@@ -1,4 +1,4 @@
-use Rattle.std.proofs.Common.{◌≡◌, ◌≤◌, ◌+◌, ◌++◌, List, ℕ, refl, subst}
+use Rattle.std.proofs.Common.{◌≤◌, ◌+◌, ◌++◌, List, ℕ, refl, subst}
 use Rattle.bit_tape.specs.Tape.{bits_of}
 use Rattle.bit_tape.proofs.Leaving.{counts-kept}
 use Rattle.bz_model.specs.Oracle.{cost_between}

@@ -1,10 +1,9 @@
-use Rattle.std.proofs.Common.{◌≡◌, refl, sym, subst, ap, append-nil, []}
-use Rattle.std.specs.Prelude.{Bool}
-use Rattle.bit_tape.specs.Tape.{TapeState, Belongs, LeavesTape, bits_of}
+use Rattle.std.proofs.Common.{refl, sym, subst, ap, append-nil, []}
+use Rattle.bit_tape.specs.Tape.{TapeState, Belongs, bits_of}
 use Rattle.size_window.specs.Turn.{entry_of}
 use Rattle.size_window.specs.declared.turned.Turned.TheVariants as answer
 use Rattle.sample_command.specs.UnderWay.{IsUnderWay}
-use Rattle.sample_command.proofs.OneTurn.{TellsTurn, UsesFew, entry-is-of, can-turn-on, at-end, same-fault}
+use Rattle.sample_command.proofs.OneTurn.{entry-is-of, can-turn-on, at-end}
 use Rattle.sample_command.proofs.Turns.{under-way-on, broken-on, broken-still}
 use Rattle.sample_command.proofs.drawing.turn_once.Goals as goal
 
