@@ -59,7 +59,9 @@ pub(crate) fn drawn<const F: u32, K: Sink, L: Ledger>(
     requires least { 1 ≤ n }
     requires greatest { n ≤ 1000 }
     requires post_fixed { IsPostFixed (setting founded.now x.num x.den F) base }
-    ensures ends { EndsBy (BulkDrawn n (setting founded.now x.num x.den F) base.entry) (output (K.written out.old) (K.written out.new) (K.faults out.old) (K.faults out.new) steps.old steps.new) result }
+    ensures ends { EndsBy (BulkDrawn n (setting founded.now x.num x.den F) base.entry)
+        (output (K.written out.old) (K.written out.new) (K.faults out.old) (K.faults out.new)
+        steps.old steps.new) result }
     ensures writes { K.faults out.old ≤ K.faults out.new }
 {
     let limits = Limits {
@@ -94,7 +96,11 @@ fn finished<K: Sink>(
     bits: u64,
     out: &mut K,
 ) -> Status
-    ensures ends { EndsBy (MaySay (ending_status (ending_of ending)) (bulk_line n (classes_of n) (ending_word (ending_of ending)) counts.kept counts.thrown counts.atoms bits counts.turns) 0) (output (K.written out.old) (K.written out.new) (K.faults out.old) (K.faults out.new) 0 0) result }
+    ensures ends { EndsBy (MaySay (ending_status (ending_of ending))
+        (bulk_line n (classes_of n) (ending_word (ending_of ending)) counts.kept counts.thrown
+        counts.atoms bits counts.turns) 0)
+        (output (K.written out.old) (K.written out.new) (K.faults out.old) (K.faults out.new) 0 0)
+        result }
     ensures writes { K.faults out.old ≤ K.faults out.new }
 {
     match line(alloc, n, class_count(n), word_of(ending), counts, bits) {
@@ -112,7 +118,8 @@ fn line(
     counts: Counts,
     bits: u64,
 ) -> Result<String, AllocError>
-    ensures { IfOk result (λ line. string_bytes line ≡ bulk_line n classes word.now counts.kept counts.thrown counts.atoms bits counts.turns) }
+    ensures { IfOk result (λ line. string_bytes line ≡ bulk_line n classes word.now counts.kept
+        counts.thrown counts.atoms bits counts.turns) }
 {
     let numbers = counted(alloc, counts, bits)?;
     let mut line = format!(in alloc; "bulk {n} classes {classes} end {word}")?;
@@ -122,7 +129,8 @@ fn line(
 
 /// What the line of a run counts.
 fn counted(alloc: Global, counts: Counts, bits: u64) -> Result<String, AllocError>
-    ensures { IfOk result (λ text. string_bytes text ≡ run_counts counts.kept counts.thrown counts.atoms bits counts.turns) }
+    ensures { IfOk result (λ text. string_bytes text ≡ run_counts counts.kept counts.thrown
+        counts.atoms bits counts.turns) }
 {
     let (kept, thrown) = (counts.kept, counts.thrown);
     let (atoms, turns) = (counts.atoms, counts.turns);
@@ -141,16 +149,19 @@ fn draw_to_the_end<const F: u32, O: Oracle<F>, L: Ledger>(
     requires spec { O.spec oracle.old ≡ founded.now }
     requires costs { AreCosts (O.cost oracle.old) }
     requires levels { O.raised oracle.old ≤ 6 }
-    requires can_turn { CanTurn founded.now (O.x oracle.old) empty_files drawing.old.limits drawing.old tape.old }
+    requires can_turn { CanTurn founded.now (O.x oracle.old) empty_files drawing.old.limits
+        drawing.old tape.old }
     ensures under_way { IsRunning founded.now (O.x oracle.old) F (O.table oracle.old)
         drawing.old.limits tape.old.source drawing.old tape.old.used (O.raised oracle.old)
         → IsRunning founded.now (O.x oracle.old) F (O.table oracle.old)
         drawing.old.limits tape.old.source drawing.new tape.new.used (O.raised oracle.new) }
-    ensures ended { IfOk result (IsAtEnd (O.table oracle.old) drawing.old.limits drawing.new tape.new.used) }
+    ensures ended { IfOk result (IsAtEnd (O.table oracle.old) drawing.old.limits drawing.new
+        tape.new.used) }
     ensures oracle { LeavesOracle O.spec O.x O.table O.cost O.raised
         oracle.old oracle.new steps.old steps.new }
     ensures levels { O.raised oracle.new ≤ 6 }
-    ensures reads { CountsFault (has_failed drawing.new.ending) tape.old.source no_faults no_faults }
+    ensures reads { CountsFault (has_failed drawing.new.ending) tape.old.source no_faults
+        no_faults }
 {
     'turns: loop {
         let Ok(turned) = turn_once(founded, oracle, tape, drawing, steps) else {
@@ -172,7 +183,8 @@ fn turn_once<const F: u32, O: Oracle<F>, L: Ledger>(
 ) -> Result<Option<Ending>, AllocError>
     requires fraction { (24 ≤ F) × (F ≤ 56) }
     requires spec { O.spec oracle.old ≡ founded.now }
-    requires can_turn { CanTurn founded.now (O.x oracle.old) empty_files drawing.old.limits drawing.old tape.old }
+    requires can_turn { CanTurn founded.now (O.x oracle.old) empty_files drawing.old.limits
+        drawing.old tape.old }
     ensures under_way { IsRunning founded.now (O.x oracle.old) F (O.table oracle.old)
         drawing.old.limits tape.old.source drawing.old tape.old.used (O.raised oracle.old)
         → IsRunning founded.now (O.x oracle.old) F (O.table oracle.old)
@@ -183,7 +195,8 @@ fn turn_once<const F: u32, O: Oracle<F>, L: Ledger>(
         oracle.old oracle.new steps.old steps.new }
     ensures levels { O.raised oracle.old ≤ 6 → O.raised oracle.new ≤ 6 }
     ensures source { tape.new.source ≡ tape.old.source }
-    ensures reads { CountsFault (has_failed drawing.new.ending) tape.old.source no_faults no_faults }
+    ensures reads { CountsFault (has_failed drawing.new.ending) tape.old.source no_faults
+        no_faults }
 {
     a_turn_continues_a_trace();
     let mut files = NoFiles;
