@@ -1,16 +1,17 @@
 //! Runs whose objects are counted and let go.
-ghost use Rattle.std.specs.Prelude.{◌≡◌, ℕ, ◌+◌, ◌≤◌, ◌++◌, IfOk, OnErr, string_bytes};
-ghost use Rattle.bz_model.specs.Oracle.{AreCosts, cost_between};
+ghost use Rattle.std.specs.Prelude.{◌≡◌, ℕ, ◌≤◌, ◌++◌, IfOk, string_bytes};
+ghost use Rattle.bit_tape.specs.Tape.{CountsFault};
+ghost use Rattle.bz_model.specs.Oracle.{AreCosts, LeavesOracle};
 ghost use Rattle.rounded_map.specs.RoundedMap.{setting, IsPostFixed};
 ghost use Rattle.size_window.specs.Drawing.{ending_of};
 ghost use Rattle.sample_command.specs.Drawn.{ending_word, ending_status};
-ghost use Rattle.sample_command.specs.UnderWay.{CanTurn, GoesOn};
+ghost use Rattle.sample_command.specs.UnderWay.{CanTurn, GoesOn, IsAtEnd, has_failed};
 ghost use Rattle.call_stages.specs.Ends.{EndsBy, output};
 ghost use Rattle.call_stages.specs.Outcomes.{MaySay};
 ghost use Rattle.bulk_command.specs.BulkCommand.{run_counts, bulk_line, BulkDrawn};
 ghost use Rattle.bulk_command.specs.BulkText.{classes_of};
-ghost use Rattle.bulk_command.specs.NoFiles.{empty_files};
-ghost use Rattle.bulk_command.specs.Running.{tape_from, IsRunning, HasRun, AfterTurn};
+ghost use Rattle.bulk_command.specs.NoFiles.{empty_files, no_faults};
+ghost use Rattle.bulk_command.specs.Running.{IsRunning};
 
 use crate::no_files::NoFiles;
 use crate::spec_text::class_count;
@@ -26,6 +27,9 @@ use oracle_memo::Memo;
 use sample_command::entries::{status_of, word_of};
 use size_window::drawing::Drawing;
 use size_window::ending::Ending;
+use size_window::laws::{
+    a_table_has_its_chooser, a_trace_starts_with_its_drawing, a_turn_continues_a_trace,
+};
 use size_window::limits::{Counts, Limits};
 use size_window::turned::Turned;
 use std::alloc::{AllocError, Global};
@@ -55,7 +59,9 @@ pub(crate) fn drawn<const F: u32, K: Sink, L: Ledger>(
     requires least { 1 ≤ n }
     requires greatest { n ≤ 1000 }
     requires post_fixed { IsPostFixed (setting founded.now x.num x.den F) base }
-    ensures ends { EndsBy (BulkDrawn n (setting founded.now x.num x.den F) base.entry) (output (K.written out.old) (K.written out.new) (K.faults out.old) (K.faults out.new) steps.old steps.new) result }
+    ensures ends { EndsBy (BulkDrawn n (setting founded.now x.num x.den F) base.entry)
+        (output (K.written out.old) (K.written out.new) (K.faults out.old) (K.faults out.new)
+        steps.old steps.new) result }
     ensures writes { K.faults out.old ≤ K.faults out.new }
 {
     let limits = Limits {
@@ -72,6 +78,8 @@ pub(crate) fn drawn<const F: u32, K: Sink, L: Ledger>(
         return Status::OutOfMemory;
     };
     memo.known();
+    a_table_has_its_chooser();
+    a_trace_starts_with_its_drawing();
     let mut tape = Tape::seeded(n);
     match draw_to_the_end::<F, _, L>(founded, &mut memo, &mut tape, &mut drawing, steps) {
         Ok(ending) => finished(alloc, n, ending, drawing.counts(), tape.used(), out),
@@ -88,7 +96,11 @@ fn finished<K: Sink>(
     bits: u64,
     out: &mut K,
 ) -> Status
-    ensures ends { EndsBy (MaySay (ending_status (ending_of ending)) (bulk_line n (classes_of n) (ending_word (ending_of ending)) counts.kept counts.thrown counts.atoms bits counts.turns) 0) (output (K.written out.old) (K.written out.new) (K.faults out.old) (K.faults out.new) 0 0) result }
+    ensures ends { EndsBy (MaySay (ending_status (ending_of ending))
+        (bulk_line n (classes_of n) (ending_word (ending_of ending)) counts.kept counts.thrown
+        counts.atoms bits counts.turns) 0)
+        (output (K.written out.old) (K.written out.new) (K.faults out.old) (K.faults out.new) 0 0)
+        result }
     ensures writes { K.faults out.old ≤ K.faults out.new }
 {
     match line(alloc, n, class_count(n), word_of(ending), counts, bits) {
@@ -106,7 +118,8 @@ fn line(
     counts: Counts,
     bits: u64,
 ) -> Result<String, AllocError>
-    ensures { IfOk result (λ line. string_bytes line ≡ bulk_line n classes word.now counts.kept counts.thrown counts.atoms bits counts.turns) }
+    ensures { IfOk result (λ line. string_bytes line ≡ bulk_line n classes word.now counts.kept
+        counts.thrown counts.atoms bits counts.turns) }
 {
     let numbers = counted(alloc, counts, bits)?;
     let mut line = format!(in alloc; "bulk {n} classes {classes} end {word}")?;
@@ -116,7 +129,8 @@ fn line(
 
 /// What the line of a run counts.
 fn counted(alloc: Global, counts: Counts, bits: u64) -> Result<String, AllocError>
-    ensures { IfOk result (λ text. string_bytes text ≡ run_counts counts.kept counts.thrown counts.atoms bits counts.turns) }
+    ensures { IfOk result (λ text. string_bytes text ≡ run_counts counts.kept counts.thrown
+        counts.atoms bits counts.turns) }
 {
     let (kept, thrown) = (counts.kept, counts.thrown);
     let (atoms, turns) = (counts.atoms, counts.turns);
@@ -135,14 +149,19 @@ fn draw_to_the_end<const F: u32, O: Oracle<F>, L: Ledger>(
     requires spec { O.spec oracle.old ≡ founded.now }
     requires costs { AreCosts (O.cost oracle.old) }
     requires levels { O.raised oracle.old ≤ 6 }
-    requires can_turn { CanTurn founded.now (O.x oracle.old) empty_files drawing.old.limits drawing.old tape.old }
-    ensures ended { IfOk result (λ ending. IsRunning founded.now (O.x oracle.old) F (O.table oracle.old) drawing.old.limits (tape_from tape.old.source) drawing.old tape.old.used (O.raised oracle.old)
-        → HasRun founded.now (O.x oracle.old) F (O.table oracle.old) drawing.old.limits (tape_from tape.old.source) drawing.new tape.new.used (O.raised oracle.new) ending) }
-    ensures broken { OnErr result (IsRunning founded.now (O.x oracle.old) F (O.table oracle.old) drawing.old.limits (tape_from tape.old.source) drawing.old tape.old.used (O.raised oracle.old)
-        → IsRunning founded.now (O.x oracle.old) F (O.table oracle.old) drawing.old.limits (tape_from tape.old.source) drawing.new tape.new.used (O.raised oracle.new)) }
-    ensures cost { O.cost oracle.new ≡ O.cost oracle.old }
-    ensures ticks { steps.new ≤ steps.old + cost_between (O.cost oracle.old) (O.raised oracle.old) (O.raised oracle.new) }
+    requires can_turn { CanTurn founded.now (O.x oracle.old) empty_files drawing.old.limits
+        drawing.old tape.old }
+    ensures under_way { IsRunning founded.now (O.x oracle.old) F (O.table oracle.old)
+        drawing.old.limits tape.old.source drawing.old tape.old.used (O.raised oracle.old)
+        → IsRunning founded.now (O.x oracle.old) F (O.table oracle.old)
+        drawing.old.limits tape.old.source drawing.new tape.new.used (O.raised oracle.new) }
+    ensures ended { IfOk result (IsAtEnd (O.table oracle.old) drawing.old.limits drawing.new
+        tape.new.used) }
+    ensures oracle { LeavesOracle O.spec O.x O.table O.cost O.raised
+        oracle.old oracle.new steps.old steps.new }
     ensures levels { O.raised oracle.new ≤ 6 }
+    ensures reads { CountsFault (has_failed drawing.new.ending) tape.old.source no_faults
+        no_faults }
 {
     'turns: loop {
         let Ok(turned) = turn_once(founded, oracle, tape, drawing, steps) else {
@@ -164,20 +183,22 @@ fn turn_once<const F: u32, O: Oracle<F>, L: Ledger>(
 ) -> Result<Option<Ending>, AllocError>
     requires fraction { (24 ≤ F) × (F ≤ 56) }
     requires spec { O.spec oracle.old ≡ founded.now }
-    requires can_turn { CanTurn founded.now (O.x oracle.old) empty_files drawing.old.limits drawing.old tape.old }
-    ensures turned { IfOk result (λ ending. IsRunning founded.now (O.x oracle.old) F (O.table oracle.old) drawing.old.limits (tape_from tape.old.source) drawing.old tape.old.used (O.raised oracle.old)
-        → AfterTurn founded.now (O.x oracle.old) F (O.table oracle.old) drawing.old.limits (tape_from tape.old.source) drawing.new tape.new.used (O.raised oracle.new) ending) }
-    ensures broken { OnErr result ((drawing.new ≡ drawing.old) × (tape.new ≡ tape.old) × (oracle.new ≡ oracle.old)) }
-    ensures goes_on { IfOk result (λ ending. GoesOn founded.now (O.x oracle.old) empty_files drawing.old.limits drawing.old drawing.new tape.new ending) }
-    ensures spec { O.spec oracle.new ≡ O.spec oracle.old }
-    ensures x { O.x oracle.new ≡ O.x oracle.old }
-    ensures table { O.table oracle.new ≡ O.table oracle.old }
-    ensures cost { O.cost oracle.new ≡ O.cost oracle.old }
+    requires can_turn { CanTurn founded.now (O.x oracle.old) empty_files drawing.old.limits
+        drawing.old tape.old }
+    ensures under_way { IsRunning founded.now (O.x oracle.old) F (O.table oracle.old)
+        drawing.old.limits tape.old.source drawing.old tape.old.used (O.raised oracle.old)
+        → IsRunning founded.now (O.x oracle.old) F (O.table oracle.old)
+        drawing.old.limits tape.old.source drawing.new tape.new.used (O.raised oracle.new) }
+    ensures goes_on { IfOk result (GoesOn founded.now (O.x oracle.old) (O.table oracle.old)
+        empty_files drawing.old.limits drawing.old drawing.new tape.new) }
+    ensures oracle { LeavesOracle O.spec O.x O.table O.cost O.raised
+        oracle.old oracle.new steps.old steps.new }
     ensures levels { O.raised oracle.old ≤ 6 → O.raised oracle.new ≤ 6 }
-    ensures raised { O.raised oracle.old ≤ O.raised oracle.new }
-    ensures ticks { steps.new ≤ steps.old + cost_between (O.cost oracle.old) (O.raised oracle.old) (O.raised oracle.new) }
     ensures source { tape.new.source ≡ tape.old.source }
+    ensures reads { CountsFault (has_failed drawing.new.ending) tape.old.source no_faults
+        no_faults }
 {
+    a_turn_continues_a_trace();
     let mut files = NoFiles;
     match drawing.turn(founded, oracle, tape, &mut files, steps) {
         Turned::Going => Ok(None),

@@ -2,9 +2,7 @@ pub mod Courses
 pub mod KeptObjects
 pub mod KeptLabels
 pub mod OneTurn
-pub mod Spelling
-pub mod SpelledLabels
-pub mod SpelledTurns
+pub mod TapeEnds
 pub mod AtTheEnd
 pub mod Turns
 pub mod OneDrawing

@@ -4,9 +4,12 @@ use Rattle.std.specs.Prelude.{Bool, Option, Some, None, IfSome}
 use Rattle.bz_model.specs.declared.cell.Bounds.{Bounds}
 use Rattle.bz_model.specs.Fraction.{Fraction}
 use Rattle.bz_model.specs.Spec.{Spec}
-use Rattle.bit_tape.specs.Tape.{bits_of}
+use Rattle.bit_tape.specs.Given.{HasBits}
+use Rattle.bit_tape.specs.Tape.{bits_of, CountsFault}
+use Rattle.bit_tape.proofs.Leaving.{fault-rose}
 use Rattle.size_window.specs.RunByBits.{Limits, Course, Entry, Ending, after}
-use Rattle.sample_command.specs.Drawn.{TapeMet, HasFailed, sampling, IsCourseOver, IsCourse, IsDrawn, AreLinesOf, Lists, Drawn, closing_lines, ending_status}
+use Rattle.size_window.specs.Trace.{EndsAt}
+use Rattle.sample_command.specs.Drawn.{TapeMet, HasFailed, is_fault, sampling, IsCourse, IsDrawn, AreLinesOf, Lists, Drawn, closing_lines, ending_status}
 use Rattle.sample_command.specs.Drawn as drawn
 use Rattle.call_stages.specs.Outcomes.{IsOne}
 use Rattle.call_stages.specs.declared.status.Status.{Status}
@@ -24,29 +27,32 @@ ending-of c d e f same at_c at_d = cc
 abbrev quiet_course : Spec → (F : ℕ) → ((level node : ℕ) → Bounds) → Limits → (ℕ → Option Bool) → (turns : ℕ) → Course
 quiet_course s F table limits bits turns = after (sampling s F table limits bits) (λ n. None) turns
 
--- the course over a tape's bits is the undisturbed one
-pub is-quiet : (s : Spec) (F : ℕ) (table : (level node : ℕ) → Bounds) (limits : Limits) (t : TapeMet) (c : Course) (given : ℕ) (bits : ℕ → Option Bool) → ¬ (HasFailed t) → (over : IsCourseOver s F table limits t c given bits) → c ≡ quiet_course s F table limits bits over.turns
-is-quiet s F table limits t c given bits calm over = over.same ∙ unfailing (sampling s F table limits bits) over.faults over.turns (λ k. none-fails (over.faults k) (λ before is. calm (over.caused k before is)))
-
 told-bits : (o : Option (ℕ → Option Bool)) (bits : ℕ → Option Bool) (P : (ℕ → Option Bool) → Type 0) → o ≡ Some bits → IfSome o P → P bits
 told-bits o bits P e h = subst (λ z. IfSome z P) e h
 
--- a drawing that came to its end is the undisturbed one
-pub same-course : (s : Spec) (x : Fraction) (F : ℕ) (table : (level node : ℕ) → Bounds) (limits : Limits) (t : TapeMet) (bits : ℕ → Option Bool) → bits_of t.source t.contents ≡ Some bits → ¬ (HasFailed t) → (c : Course) (given : ℕ) (d : Ending) → IsDrawn s x F table limits t c given d → (turns : ℕ) (e : Ending) → (quiet_course s F table limits bits turns).state.ending ≡ Some e → (c ≡ quiet_course s F table limits bits turns) × (d ≡ e)
-same-course s x F table limits t bits are_known calm c given d h turns e at_turns =
-    let over = told-bits (bits_of t.source t.contents) bits (IsCourseOver s F table limits t c given) are_known h.course.by_bits in
-    let sample = sampling s F table limits bits in
-    let quiet = is-quiet s F table limits t c given bits calm over in
-    let same : c ≡ quiet_course s F table limits bits turns = quiet ∙ one_end sample (λ k. None) over.turns turns d e (subst (λ (k : Course). k.state.ending ≡ Some d) quiet h.ended) at_turns in
-    (same, ending-of c (quiet_course s F table limits bits turns) d e same h.ended at_turns)
+module _ (s : Spec) (x : Fraction) (F : ℕ) (table : (level node : ℕ) → Bounds) (limits : Limits) (t : TapeMet) (bits : ℕ → Option Bool) (are_known : bits_of t.source t.contents ≡ Some bits) (calm : ¬ (HasFailed t)) where
+  -- the course over a tape's bits is the undisturbed one
+  is-quiet : (c : Course) (most : ℕ) (h : IsCourse s x F table limits t c most) → c ≡ quiet_course s F table limits bits h.turns
+  is-quiet c most h =
+      let sample = sampling s F table limits bits in
+      let have = told-bits (bits_of t.source t.contents) bits (λ tape. HasBits tape 0 h.given) are_known h.gave.are_told in
+      let over = h.exact bits have (told-bits (bits_of t.source t.contents) bits (EndsAt c.state.ending c.state.attempt.used) are_known h.ends) in
+      over.same ∙ unfailing sample h.faults h.turns (λ k. none-fails (h.faults k) (λ before is. calm (fault-rose t.source t.before t.now (subst (λ o. CountsFault (is_fault o) t.source t.before t.now) (h.disturbed k before is) h.reads))))
 
--- two drawings that came to their ends
-pub one-course : (s : Spec) (x : Fraction) (F : ℕ) (table : (level node : ℕ) → Bounds) (limits : Limits) (t : TapeMet) (bits : ℕ → Option Bool) → bits_of t.source t.contents ≡ Some bits → ¬ (HasFailed t) → (c e : Course) (given more : ℕ) (d f : Ending) → IsDrawn s x F table limits t c given d → IsDrawn s x F table limits t e more f → (c ≡ e) × (d ≡ f)
-one-course s x F table limits t bits are_known calm c e given more d f h k =
-    let over = told-bits (bits_of t.source t.contents) bits (IsCourseOver s F table limits t e more) are_known k.course.by_bits in
-    let quiet = is-quiet s F table limits t e more bits calm over in
-    let same = same-course s x F table limits t bits are_known calm c given d h over.turns f (subst (λ (z : Course). z.state.ending ≡ Some f) quiet k.ended) in
-    (same.0 ∙ sym quiet, same.1)
+  -- a drawing that came to its end is the undisturbed one
+  pub same-course : (c : Course) (most : ℕ) (d : Ending) → IsDrawn s x F table limits t c most d → (turns : ℕ) (e : Ending) → (quiet_course s F table limits bits turns).state.ending ≡ Some e → (c ≡ quiet_course s F table limits bits turns) × (d ≡ e)
+  same-course c most d h turns e at_turns =
+      let sample = sampling s F table limits bits in
+      let quiet = is-quiet c most h.course in
+      let same : c ≡ quiet_course s F table limits bits turns = quiet ∙ one_end sample (λ k. None) h.course.turns turns d e (subst (λ (k : Course). k.state.ending ≡ Some d) quiet h.ended) at_turns in
+      (same, ending-of c (quiet_course s F table limits bits turns) d e same h.ended at_turns)
+
+  -- two drawings that came to their ends
+  pub one-course : (c e : Course) (most more : ℕ) (d f : Ending) → IsDrawn s x F table limits t c most d → IsDrawn s x F table limits t e more f → (c ≡ e) × (d ≡ f)
+  one-course c e most more d f h k =
+      let quiet = is-quiet e more k.course in
+      let same = same-course c most d h k.course.turns f (subst (λ (z : Course). z.state.ending ≡ Some f) quiet k.ended) in
+      (same.0 ∙ sym quiet, same.1)
 
 -- lists with equal last elements
 snoc-front : (a b : List Entry) (x y : Entry) → a ++ x ∷ [] ≡ b ++ y ∷ [] → (a ≡ b) × (x ≡ y)

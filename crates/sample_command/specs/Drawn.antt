@@ -1,20 +1,20 @@
 -- Drawings: what they are functions of, why they end, and what they write.
-use Rattle.std.specs.Prelude.{◌≡◌, ℕ, Bool, List, [], ◌∷◌, ◌++◌, Option, Some, IfSome, codes}
+use Rattle.std.specs.Prelude.{◌≡◌, ℕ, ◌*◌, Bool, true, false, List, [], ◌∷◌, ◌++◌, length, Option, Some, IfSome, codes}
 use Rattle.bz_model.specs.Fraction.{Fraction}
 use Rattle.bz_model.specs.Spec.{Spec}
 use Rattle.bz_model.specs.ObjectText.{object_text}
 use Rattle.bz_model.specs.declared.cell.Bounds.{Bounds}
-use Rattle.bit_tape.specs.Tape.{TapeSource, bits_of, HasFault}
+use Rattle.bit_tape.specs.Given.{HasBits, Gave}
+use Rattle.bit_tape.specs.Tape.{TapeSource, bits_of, CountsFault, HasFault}
 use Rattle.object_store.specs.Tokens.{IsOf}
-use Rattle.size_window.specs.RunByBits.{Limits, Sampling, Entry, Course, Ending, Open, after}
+use Rattle.size_window.specs.RunByBits.{Limits, Sampling, Entry, Course, Ending, Open}
 use Rattle.size_window.specs.Ideally.{chooser_of}
 use Rattle.well_founded.specs.EmptyObjects.{has_empty}
 use Rattle.size_window.specs.Follows.{Follows}
-use Rattle.sample_command.specs.Spelling.{Spells}
+use Rattle.size_window.specs.Trace.{Spells, EndsAt, IsCourseOver}
 use Rattle.choice_draw.specs.Decision.{level_for}
 use Rattle.rounded_map.specs.RoundedMap.{Setting}
 use Rattle.call_stages.specs.Outcomes.{Says}
-use Rattle.sample_command.specs.Sweeps.{Gives, most_bits}
 use Rattle.call_stages.specs.Lines.{header_lines, window_line, base_lines, entry_lines, open_line, open_label_line, end_line}
 use Rattle.call_stages.specs.declared.status.Status.{Status}
 
@@ -33,28 +33,36 @@ pub record TapeMet : Type 0 where
 abbrev pub HasFailed : TapeMet → Type 0
 HasFailed t = HasFault t.source t.before t.now
 
--- A course is that of so many turns over these bits, in which one number of a choice node was given at most so many. The shelf failed in a turn only if a read of the tape failed in the call.
-pub record IsCourseOver (s : Spec) (F : ℕ) (table : (level node : ℕ) → Bounds) (limits : Limits) (t : TapeMet) (c : Course) (given : ℕ) (bits : ℕ → Option Bool) : Type 0 where
+-- A course ended with a failed read.
+abbrev pub is_fault : Option Ending → Bool
+is_fault (Some Ending.ReadFault) = true
+is_fault ending = false
+
+-- A course so far. It follows the ideal run: for all numbers in its cells that run keeps the objects of its entries. It was given as many bits as it used: the tape's first ones where its bits are known, and all of them where it met the tape's end. Its cells, and the bits of a number that it left open, spell these bits. Over every tape that begins with them, and has no more where it met the tape's end, it is the course of so many turns that they fix; `most` is the greatest number of bits that one number of a choice node was given in a turn. The shelf failed in a turn only where the course ended with a failed read. Then the count of the tape's name rose once in the call; else each name's count is what it was when the call began.
+pub record IsCourse (s : Spec) (x : Fraction) (F : ℕ) (table : (level node : ℕ) → Bounds) (limits : Limits) (t : TapeMet) (c : Course) (most : ℕ) : Type 0 where
+  pub follows : Follows s x limits c
+  pub given : List Bool
+  pub gave : Gave (bits_of t.source t.contents) 0 c.state.attempt.used given
+  pub ends : IfSome (bits_of t.source t.contents) (EndsAt c.state.ending c.state.attempt.used)
+  pub spells : Spells c given
   pub turns : ℕ
   pub faults : ℕ → Option ℕ
-  pub caused : (n before : ℕ) → faults n ≡ Some before → HasFailed t
-  pub same : c ≡ after (sampling s F table limits bits) faults turns
-  pub most : given ≡ most_bits (sampling s F table limits bits) faults turns
+  pub exact : (tape : ℕ → Option Bool) → HasBits tape 0 given → EndsAt c.state.ending c.state.attempt.used tape → IsCourseOver (sampling s F table limits tape) faults turns c most
+  pub disturbed : (turn before : ℕ) → faults turn ≡ Some before → c.state.ending ≡ Some Ending.ReadFault
+  pub reads : CountsFault (is_fault c.state.ending) t.source t.before t.now
 
--- A course so far. It follows the ideal run: for all numbers in its cells that run keeps the objects of its entries. Where the tape's bits are known, it is the course over them, and its cells spell the first of them, as many as were used, but for those of a number that was still open. `given` is the greatest number of bits that one number of a choice node was given in a turn.
-pub record IsCourse (s : Spec) (x : Fraction) (F : ℕ) (table : (level node : ℕ) → Bounds) (limits : Limits) (t : TapeMet) (c : Course) (given : ℕ) : Type 0 where
-  pub follows : Follows s x limits c
-  pub by_bits : IfSome (bits_of t.source t.contents) (IsCourseOver s F table limits t c given)
-  pub spells : IfSome (bits_of t.source t.contents) (Spells c)
-  pub gives : Gives c given
+-- So many bits are all that a tape has: eight for each byte of its file, where the file's content is known. A seed's bits don't end.
+abbrev pub AreAll : TapeSource → (contents : List ℕ → Option (List ℕ)) → (used : ℕ) → Type 0
+AreAll (TapeSource.Named name) contents used = IfSome (contents name) (λ bytes. used ≡ 8 * length bytes)
+AreAll (TapeSource.Seeded seed) contents used = ⊥
 
--- A course has come to its end. Done comes only where as many objects as wanted are kept, the limit of turns only where as many were made, and a failed read only if a read of the tape failed in the call.
-pub record IsDrawn (s : Spec) (x : Fraction) (F : ℕ) (table : (level node : ℕ) → Bounds) (limits : Limits) (t : TapeMet) (c : Course) (given : ℕ) (ending : Ending) : Type 0 where
-  pub course : IsCourse s x F table limits t c given
+-- A course has come to its end. Done comes only where as many objects as wanted are kept, the limit of turns only where as many were made, and the tape's end only where all bits of its file are used, and never of a seed.
+pub record IsDrawn (s : Spec) (x : Fraction) (F : ℕ) (table : (level node : ℕ) → Bounds) (limits : Limits) (t : TapeMet) (c : Course) (most : ℕ) (ending : Ending) : Type 0 where
+  pub course : IsCourse s x F table limits t c most
   pub ended : c.state.ending ≡ Some ending
   pub kept : ending ≡ Ending.Done → c.state.kept ≡ limits.count
   pub out_of_turns : ending ≡ Ending.TurnLimit → c.state.turns ≡ limits.turns
-  pub failed : ending ≡ Ending.ReadFault → HasFailed t
+  pub used_up : ending ≡ Ending.TapeEnded → AreAll t.source t.contents c.state.attempt.used
 
 -- The lines of an entry state its number, place and size, its object's text, and its cells. The object is the one that its tokens spell, in whichever way that is seen.
 pub record AreLinesOf (s : Spec) (e : Entry) (lines : List ℕ) : Type 0 where
@@ -98,6 +106,6 @@ drawn_header format t base limits = header_lines format t.spec t.num t.den t.bit
 
 -- Objects are drawn by a table of bounds whose levels cost so much to raise, after these lines of a header. The drawing comes to its end: the header, the lines of the kept objects and the closing are its text, and its end gives the status. Or memory runs out: the text until then is the header with the lines of the first entries of a course so far, or nothing. A level is raised only for the bits that one number of a choice node was given: one for each ten of them begun.
 pub data Drawn (cost : (level : ℕ) → ℕ) (header : List ℕ) (s : Spec) (x : Fraction) (F : ℕ) (table : (level node : ℕ) → Bounds) (limits : Limits) (t : TapeMet) (status : Status) (text : List ℕ) (ticks : ℕ) : Type 0 where
-  ended : (course : Course) (given : ℕ) (ending : Ending) (lines : List ℕ) → IsDrawn s x F table limits t course given ending → Lists s course.entries lines → Says (ending_status ending) (header ++ (lines ++ closing_lines table course ending)) (cost (level_for given)) status text ticks → Drawn cost header s x F table limits t status text ticks
-  so_far : (course : Course) (given : ℕ) (first others : List Entry) (lines : List ℕ) → IsCourse s x F table limits t course given → course.entries ≡ first ++ others → Lists s first lines → Says Status.OutOfMemory (header ++ lines) (cost (level_for given)) status text ticks → Drawn cost header s x F table limits t status text ticks
+  ended : (course : Course) (most : ℕ) (ending : Ending) (lines : List ℕ) → IsDrawn s x F table limits t course most ending → Lists s course.entries lines → Says (ending_status ending) (header ++ (lines ++ closing_lines table course ending)) (cost (level_for most)) status text ticks → Drawn cost header s x F table limits t status text ticks
+  so_far : (course : Course) (most : ℕ) (first others : List Entry) (lines : List ℕ) → IsCourse s x F table limits t course most → course.entries ≡ first ++ others → Lists s first lines → Says Status.OutOfMemory (header ++ lines) (cost (level_for most)) status text ticks → Drawn cost header s x F table limits t status text ticks
   no_memory : Says Status.OutOfMemory [] 0 status text ticks → Drawn cost header s x F table limits t status text ticks

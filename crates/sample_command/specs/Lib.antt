@@ -1,5 +1,3 @@
-pub mod Spelling
-pub mod Sweeps
 pub mod Starts
 pub mod Drawn
 pub mod UnderWay

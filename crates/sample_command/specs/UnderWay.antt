@@ -1,10 +1,10 @@
 -- Drawings under way and at their end, as the code has them.
-use Rattle.std.specs.Prelude.{◌≡◌, ℕ, ◌+◌, List, [], ◌++◌, Option, Some, None, IfSome}
+use Rattle.std.specs.Prelude.{◌≡◌, ℕ, ◌+◌, ◌*◌, ◌^◌, ◌<◌, ◌≤◌, Bool, true, false, List, [], ◌++◌, Option, Some, None}
 use Rattle.bz_model.specs.Fraction.{Fraction}
 use Rattle.bz_model.specs.Spec.{Spec}
 use Rattle.bz_model.specs.declared.cell.Bounds.{Bounds}
 use Rattle.bz_outside.specs.Outside.{AppendsFront}
-use Rattle.bit_tape.specs.Tape.{TapeState, TapeSource, Belongs, bits_of}
+use Rattle.bit_tape.specs.Tape.{TapeState, TapeSource, Belongs}
 use Rattle.choice_draw.specs.Decision.{level_for}
 use Rattle.class_system.specs.Sound.{IsSound}
 use Rattle.size_window.specs.declared.ending.Ending.{Ending}
@@ -13,27 +13,25 @@ use Rattle.size_window.specs.declared.ending.Straddle.TheVariants as straddle
 use Rattle.size_window.specs.RunByBits.{Limits, Course, Entry}
 use Rattle.size_window.specs.Drawing.{DrawingState, DrawingBelongs, state_of, ending_of}
 use Rattle.size_window.specs.Follows.{Goes}
-use Rattle.sample_command.specs.Drawn.{TapeMet, HasFailed, IsCourseOver, IsCourse, Lists, open_lines}
+use Rattle.size_window.specs.Trace.{HasTrace}
+use Rattle.sample_command.specs.Drawn.{TapeMet, Lists, open_lines}
 use Rattle.call_stages.specs.Ends.{IsHeld}
 use Rattle.call_stages.specs.Lines.{open_line, open_label_line}
-use Rattle.sample_command.specs.Sweeps.{Gives}
 
 -- A tape over a shelf, in a call that began with these counts.
 abbrev pub met : (source : TapeSource) (contents : List ℕ → Option (List ℕ)) (before now : List ℕ → ℕ) → TapeMet
 met source contents before now = record { source = source; contents = contents; before = before; now = now }
 
--- A course so far: its state is that of a drawing, this many bits being used. It goes as ideal runs do, and where the tape is known it is the course over the tape's bits. One number of a choice node was given at most so many bits in a turn.
-pub record IsCourseSoFar (s : Spec) (x : Fraction) (F : ℕ) (table : (level node : ℕ) → Bounds) (limits : Limits) (t : TapeMet) (d : DrawingState) (used given : ℕ) : Type 0 where
-  pub course : Course
-  pub state : course.state ≡ state_of d used
-  pub goes : Goes s x limits course
-  pub by_bits : IfSome (bits_of t.source t.contents) (IsCourseOver s F table limits t course given)
-  pub gives : Gives course given
+-- A drawing ended with a failed read.
+abbrev pub has_failed : Option Ending → Bool
+has_failed (Some ReadFault) = true
+has_failed ending = false
 
--- A course so far, of whose entries these are the lines.
-pub record IsSoFar (s : Spec) (x : Fraction) (F : ℕ) (table : (level node : ℕ) → Bounds) (limits : Limits) (t : TapeMet) (d : DrawingState) (used given : ℕ) (lines : List ℕ) : Type 0 where
-  pub so_far : IsCourseSoFar s x F table limits t d used given
-  pub lists : Lists s so_far.course.entries lines
+-- A drawing that was asked for so many turns has a course so far: its trace.
+pub record IsCourseSoFar (s : Spec) (x : Fraction) (F : ℕ) (table : (level node : ℕ) → Bounds) (limits : Limits) (told : Option (ℕ → Option Bool)) (d : DrawingState) (used most : ℕ) : Type 0 where
+  pub turns : ℕ
+  pub course : Course
+  pub drawing : HasTrace s x F table limits told turns d used most course
 
 -- A drawing has a course that goes as ideal runs do, this many bits being used.
 pub record HasCourse (s : Spec) (x : Fraction) (limits : Limits) (d : DrawingState) (used : ℕ) : Type 0 where
@@ -41,13 +39,14 @@ pub record HasCourse (s : Spec) (x : Fraction) (limits : Limits) (d : DrawingSta
   pub state : course.state ≡ state_of d used
   pub goes : Goes s x limits course
 
--- A drawing from a sound specification over a tape can make a turn.
+-- A drawing from a sound specification over a tape can make a turn. Each turn that was counted took at most 60 bits for each of at most 1000000 atoms.
 pub record CanTurn (s : Spec) (x : Fraction) (contents : List ℕ → Option (List ℕ)) (limits : Limits) (d : DrawingState) (tape : TapeState) : Type 0 where
   pub sound : IsSound s
   pub belongs : DrawingBelongs s x d
   pub within : d.limits ≡ limits
   pub goes_on : d.ending ≡ None
   pub ahead : Belongs contents tape
+  pub few : tape.used ≤ 60000000 * d.turns
   pub so_far : HasCourse s x limits d tape.used
 
 -- The line of a number that was left open, with the bounds that the ending states of a node. Other endings have none.
@@ -56,55 +55,36 @@ told_open (Undecided (straddle.Node node cell lo hi)) = open_line node.0 cell (r
 told_open (Undecided (straddle.Label m cell)) = open_label_line m cell
 told_open _ = []
 
--- A drawing has come to this end, and states why.
-pub record IsCourseAtEnd (s : Spec) (x : Fraction) (F : ℕ) (table : (level node : ℕ) → Bounds) (limits : Limits) (t : TapeMet) (d : DrawingState) (used given : ℕ) (ending : Ending) : Type 0 where
-  pub so_far : IsCourseSoFar s x F table limits t d used given
+-- A drawing has come to this end, and states why. It used fewer bits than a tape gives.
+pub record IsAtEnd (table : (level node : ℕ) → Bounds) (limits : Limits) (d : DrawingState) (used : ℕ) (ending : Ending) : Type 0 where
   pub ended : d.ending ≡ Some ending
   pub kept : ending ≡ Done → d.kept ≡ limits.count
   pub out_of_turns : ending ≡ TurnLimit → d.turns ≡ limits.turns
-  pub failed : ending ≡ ReadFault → HasFailed t
+  pub few : used < 2 ^ 63
   pub open_is : told_open ending ≡ open_lines table (ending_of ending)
 
--- A drawing has come to this end, and these are the lines of its entries.
-pub record IsAtEnd (s : Spec) (x : Fraction) (F : ℕ) (table : (level node : ℕ) → Bounds) (limits : Limits) (t : TapeMet) (d : DrawingState) (used given : ℕ) (lines : List ℕ) (ending : Ending) : Type 0 where
-  pub at_end : IsCourseAtEnd s x F table limits t d used given ending
-  pub lists : Lists s at_end.so_far.course.entries lines
-
 -- A drawing is under way: its levels are raised for the bits that its numbers were given, and of the header with the lines of its entries a part was written and the rest is held back.
-pub record IsUnderWay (s : Spec) (x : Fraction) (F : ℕ) (table : (level node : ℕ) → Bounds) (limits : Limits) (t : TapeMet) (d : DrawingState) (used raised : ℕ) (header : List ℕ) (start now : Option (List ℕ)) (held : List ℕ) : Type 0 where
-  pub given : ℕ
+pub record IsUnderWay (s : Spec) (x : Fraction) (F : ℕ) (table : (level node : ℕ) → Bounds) (limits : Limits) (told : Option (ℕ → Option Bool)) (d : DrawingState) (used raised : ℕ) (header : List ℕ) (start now : Option (List ℕ)) (held : List ℕ) : Type 0 where
+  pub most : ℕ
+  pub so_far : IsCourseSoFar s x F table limits told d used most
   pub lines : List ℕ
-  pub so_far : IsSoFar s x F table limits t d used given lines
-  pub raised_is : raised ≡ level_for given
+  pub lists : Lists s so_far.course.entries lines
+  pub raised_is : raised ≡ level_for most
   pub held_is : IsHeld start now held (header ++ lines)
 
--- So is one that has come to this end.
-pub record IsOver (s : Spec) (x : Fraction) (F : ℕ) (table : (level node : ℕ) → Bounds) (limits : Limits) (t : TapeMet) (d : DrawingState) (used raised : ℕ) (header : List ℕ) (start now : Option (List ℕ)) (held : List ℕ) (ending : Ending) : Type 0 where
-  pub given : ℕ
-  pub lines : List ℕ
-  pub at_end : IsAtEnd s x F table limits t d used given lines ending
-  pub raised_is : raised ≡ level_for given
-  pub held_is : IsHeld start now held (header ++ lines)
-
--- A drawing was broken off: of the header with the lines of the first entries of a course so far a prefix was written.
-pub record IsBroken (s : Spec) (x : Fraction) (F : ℕ) (table : (level node : ℕ) → Bounds) (limits : Limits) (t : TapeMet) (raised : ℕ) (header : List ℕ) (start now : Option (List ℕ)) : Type 0 where
-  pub course : Course
-  pub given : ℕ
+-- A drawing was broken off: of the header with the lines of the first entries of its course a prefix was written.
+pub record IsBroken (s : Spec) (x : Fraction) (F : ℕ) (table : (level node : ℕ) → Bounds) (limits : Limits) (told : Option (ℕ → Option Bool)) (d : DrawingState) (used raised : ℕ) (header : List ℕ) (start now : Option (List ℕ)) : Type 0 where
+  pub most : ℕ
+  pub so_far : IsCourseSoFar s x F table limits told d used most
   pub first : List Entry
   pub others : List Entry
+  pub entries : so_far.course.entries ≡ first ++ others
   pub lines : List ℕ
-  pub is_course : IsCourse s x F table limits t course given
-  pub entries : course.entries ≡ first ++ others
   pub lists : Lists s first lines
-  pub raised_is : raised ≡ level_for given
+  pub raised_is : raised ≡ level_for most
   pub front : AppendsFront start now (header ++ lines)
 
--- What a turn leaves of a drawing under way: it goes on, or it has come to its end.
-abbrev pub AfterTurn : (s : Spec) (x : Fraction) (F : ℕ) (table : (level node : ℕ) → Bounds) (limits : Limits) (t : TapeMet) (d : DrawingState) (used raised : ℕ) (header : List ℕ) (start now : Option (List ℕ)) (held : List ℕ) → Option Ending → Type 0
-AfterTurn s x F table limits t d used raised header start now held None = IsUnderWay s x F table limits t d used raised header start now held
-AfterTurn s x F table limits t d used raised header start now held (Some ending) = IsOver s x F table limits t d used raised header start now held ending
-
--- Where a drawing goes on it can make another turn, and has made one more.
-abbrev pub GoesOn : (s : Spec) (x : Fraction) (contents : List ℕ → Option (List ℕ)) (limits : Limits) (before d : DrawingState) (tape : TapeState) → Option Ending → Type 0
-GoesOn s x contents limits before d tape None = CanTurn s x contents limits d tape × (d.turns ≡ before.turns + 1)
-GoesOn s x contents limits before d tape (Some ending) = Unit {0}
+-- Where a drawing goes on it can make another turn, and has made one more; else it has come to its end.
+abbrev pub GoesOn : (s : Spec) (x : Fraction) (table : (level node : ℕ) → Bounds) (contents : List ℕ → Option (List ℕ)) (limits : Limits) (before d : DrawingState) (tape : TapeState) → Option Ending → Type 0
+GoesOn s x table contents limits before d tape None = CanTurn s x contents limits d tape × (d.turns ≡ before.turns + 1)
+GoesOn s x table contents limits before d tape (Some ending) = IsAtEnd table limits d tape.used ending

@@ -1,16 +1,15 @@
 //! Drawings, whose lines are written while they go on.
 ghost use Rattle.std.specs.Prelude.{◌≡◌, ◌≢◌, ◌+◌, ℕ, ◌≤◌, [], ◌++◌, List, length, max, Option, None, Some, IfOk, IfErr, OnErr, IfSome, IfNone, string_bytes};
-ghost use Rattle.bz_model.specs.Oracle.{AreCosts, cost_between};
+ghost use Rattle.bz_model.specs.Oracle.{AreCosts, LeavesOracle};
 ghost use Rattle.bz_outside.specs.Outside.{Rose};
-ghost use Rattle.bit_tape.specs.Tape.{TapeSource, Belongs};
-ghost use Rattle.object_store.specs.Tokens.{IsOf};
+ghost use Rattle.bit_tape.specs.Tape.{Belongs, LeavesTape, bits_of};
 ghost use Rattle.oracle_memo.specs.Levels.{cost_at, costs};
 ghost use Rattle.size_window.specs.Drawing.{AreLimits, ending_of, limits_of};
 ghost use Rattle.sample_command.specs.Drawn.{Drawn, ending_word, ending_status};
 ghost use Rattle.call_stages.specs.Ends.{EndsBy, output};
 ghost use Rattle.call_stages.specs.Lines.{end_line};
 ghost use Rattle.call_stages.specs.Outcomes.{MaySay};
-ghost use Rattle.sample_command.specs.UnderWay.{met, CanTurn, IsUnderWay, IsOver, IsBroken, AfterTurn, GoesOn, told_open};
+ghost use Rattle.sample_command.specs.UnderWay.{met, has_failed, CanTurn, IsAtEnd, IsUnderWay, IsBroken, GoesOn, told_open};
 ghost use Rattle.call_stages.specs.declared.report.Stop.TheVariants as stop;
 
 use crate::entries::{append_entry, closing, status_of};
@@ -24,6 +23,9 @@ use call_stages::report::{Stop, written};
 use call_stages::status::Status;
 use size_window::drawing::Drawing;
 use size_window::ending::Ending;
+use size_window::laws::{
+    a_table_has_its_chooser, a_trace_starts_with_its_drawing, a_turn_continues_a_trace,
+};
 use size_window::limits::{Counts, Limits};
 use size_window::turned::Turned;
 use std::alloc::{AllocError, Global};
@@ -52,14 +54,19 @@ pub fn drawn<const F: u32, O: Oracle<F>, S: Shelf, K: Sink, L: Ledger>(
     requires limits { AreLimits (limits_of limits) }
     requires unused { tape.used ≡ 0 }
     requires ahead { Belongs (S.content shelf.old) tape }
-    ensures ends { (before : List ℕ → ℕ) → ((name : List ℕ) → before name ≤ S.faults shelf.old name)
-        → EndsBy (Drawn cost_at header.items founded.now (O.x oracle.old) F (O.table oracle.old) (limits_of limits) (met tape.source (S.content shelf.old) before (S.faults shelf.new))) (output (K.written out.old) (K.written out.new) (K.faults out.old) (K.faults out.new) steps.old steps.new) result }
+    ensures ends { EndsBy (Drawn cost_at header.items founded.now (O.x oracle.old) F
+        (O.table oracle.old) (limits_of limits)
+        (met tape.source (S.content shelf.old) (S.faults shelf.old) (S.faults shelf.new)))
+        (output (K.written out.old) (K.written out.new) (K.faults out.old) (K.faults out.new)
+        steps.old steps.new) result }
     ensures content { S.content shelf.new ≡ S.content shelf.old }
     ensures counts { (name : List ℕ) → S.faults shelf.old name ≤ S.faults shelf.new name }
     ensures writes { K.faults out.old ≤ K.faults out.new }
 {
     founded.system().known();
     oracle.known();
+    a_table_has_its_chooser();
+    a_trace_starts_with_its_drawing();
     let Ok(mut drawing) = Drawing::new(alloc, founded, limits) else {
         return Status::OutOfMemory;
     };
@@ -88,7 +95,11 @@ fn finished<K: Sink>(
     mut page: Vec<u8>,
     out: &mut K,
 ) -> Status
-    ensures ends { EndsBy (MaySay (ending_status (ending_of ending)) (page.items ++ (told_open ending ++ end_line (ending_word (ending_of ending)) counts.kept counts.thrown bits counts.turns)) 0) (output (K.written out.old) (K.written out.new) (K.faults out.old) (K.faults out.new) 0 0) result }
+    ensures ends { EndsBy (MaySay (ending_status (ending_of ending))
+        (page.items ++ (told_open ending ++ end_line (ending_word (ending_of ending)) counts.kept
+        counts.thrown bits counts.turns)) 0)
+        (output (K.written out.old) (K.written out.new) (K.faults out.old) (K.faults out.new) 0 0)
+        result }
     ensures writes { K.faults out.old ≤ K.faults out.new }
 {
     let Ok(lines) = closing(alloc, ending, counts, bits) else {
@@ -116,19 +127,31 @@ fn draw_to_the_end<const F: u32, O: Oracle<F>, S: Shelf, K: Sink, L: Ledger>(
     requires spec { O.spec oracle.old ≡ founded.now }
     requires costs { AreCosts (O.cost oracle.old) }
     requires levels { O.raised oracle.old ≤ 6 }
-    requires can_turn { CanTurn founded.now (O.x oracle.old) (S.content shelf.old) drawing.old.limits drawing.old tape.old }
-    ensures ended { IfOk result (λ ending. (before : List ℕ → ℕ) → ((name : List ℕ) → before name ≤ S.faults shelf.old name) → (header : List ℕ) (start : Option (List ℕ))
-        → IsUnderWay founded.now (O.x oracle.old) F (O.table oracle.old) drawing.old.limits (met tape.old.source (S.content shelf.old) before (S.faults shelf.old)) drawing.old tape.old.used (O.raised oracle.old) header start (K.written out.old) page.old.items
-        → IsOver founded.now (O.x oracle.old) F (O.table oracle.old) drawing.old.limits (met tape.old.source (S.content shelf.old) before (S.faults shelf.new)) drawing.new tape.new.used (O.raised oracle.new) header start (K.written out.new) page.new.items ending) }
-    ensures broken { IfErr result (λ broken. (before : List ℕ → ℕ) → ((name : List ℕ) → before name ≤ S.faults shelf.old name) → (header : List ℕ) (start : Option (List ℕ))
-        → IsUnderWay founded.now (O.x oracle.old) F (O.table oracle.old) drawing.old.limits (met tape.old.source (S.content shelf.old) before (S.faults shelf.old)) drawing.old tape.old.used (O.raised oracle.old) header start (K.written out.old) page.old.items
-        → IsBroken founded.now (O.x oracle.old) F (O.table oracle.old) drawing.old.limits (met tape.old.source (S.content shelf.old) before (S.faults shelf.new)) (O.raised oracle.new) header start (K.written out.new)) }
-    ensures cause { IfErr result (λ broken. broken ≡ stop.WriteFault → Rose (K.faults out.old) (K.faults out.new)) }
-    ensures cost { O.cost oracle.new ≡ O.cost oracle.old }
-    ensures ticks { steps.new ≤ steps.old + cost_between (O.cost oracle.old) (O.raised oracle.old) (O.raised oracle.new) }
+    requires can_turn { CanTurn founded.now (O.x oracle.old) (S.content shelf.old)
+        drawing.old.limits drawing.old tape.old }
+    ensures under_way { IfOk result (λ _. (header : List ℕ) (start : Option (List ℕ))
+        → IsUnderWay founded.now (O.x oracle.old) F (O.table oracle.old) drawing.old.limits
+        (bits_of tape.old.source (S.content shelf.old)) drawing.old tape.old.used
+        (O.raised oracle.old) header start (K.written out.old) page.old.items
+        → IsUnderWay founded.now (O.x oracle.old) F (O.table oracle.old) drawing.old.limits
+        (bits_of tape.old.source (S.content shelf.old)) drawing.new tape.new.used
+        (O.raised oracle.new) header start (K.written out.new) page.new.items) }
+    ensures ended { IfOk result (IsAtEnd (O.table oracle.old) drawing.old.limits drawing.new
+        tape.new.used) }
+    ensures broken { IfErr result (λ _. (header : List ℕ) (start : Option (List ℕ))
+        → IsUnderWay founded.now (O.x oracle.old) F (O.table oracle.old) drawing.old.limits
+        (bits_of tape.old.source (S.content shelf.old)) drawing.old tape.old.used
+        (O.raised oracle.old) header start (K.written out.old) page.old.items
+        → IsBroken founded.now (O.x oracle.old) F (O.table oracle.old) drawing.old.limits
+        (bits_of tape.old.source (S.content shelf.old)) drawing.new tape.new.used
+        (O.raised oracle.new) header start (K.written out.new)) }
+    ensures cause { IfErr result (λ broken. broken ≡ stop.WriteFault
+        → Rose (K.faults out.old) (K.faults out.new)) }
+    ensures oracle { LeavesOracle O.spec O.x O.table O.cost O.raised
+        oracle.old oracle.new steps.old steps.new }
     ensures levels { O.raised oracle.new ≤ 6 }
-    ensures content { S.content shelf.new ≡ S.content shelf.old }
-    ensures counts { (other : List ℕ) → S.faults shelf.old other ≤ S.faults shelf.new other }
+    ensures tape { LeavesTape S.content S.faults (has_failed drawing.new.ending)
+        shelf.old shelf.new tape.old tape.new }
     ensures writes { K.faults out.old ≤ K.faults out.new }
 {
     'turns: loop {
@@ -157,25 +180,31 @@ fn turn_once<const F: u32, O: Oracle<F>, S: Shelf, L: Ledger>(
 ) -> Result<Option<Ending>, AllocError>
     requires fraction { (24 ≤ F) × (F ≤ 56) }
     requires spec { O.spec oracle.old ≡ founded.now }
-    requires can_turn { CanTurn founded.now (O.x oracle.old) (S.content shelf.old) drawing.old.limits drawing.old tape.old }
-    ensures turned { IfOk result (λ ending. (before : List ℕ → ℕ) → ((name : List ℕ) → before name ≤ S.faults shelf.old name) → (header : List ℕ) (start now : Option (List ℕ))
-        → IsUnderWay founded.now (O.x oracle.old) F (O.table oracle.old) drawing.old.limits (met tape.old.source (S.content shelf.old) before (S.faults shelf.old)) drawing.old tape.old.used (O.raised oracle.old) header start now page.old.items
-        → AfterTurn founded.now (O.x oracle.old) F (O.table oracle.old) drawing.old.limits (met tape.old.source (S.content shelf.old) before (S.faults shelf.new)) drawing.new tape.new.used (O.raised oracle.new) header start now page.new.items ending) }
-    ensures broken { OnErr result ((before : List ℕ → ℕ) → ((name : List ℕ) → before name ≤ S.faults shelf.old name) → (header : List ℕ) (start now : Option (List ℕ))
-        → IsUnderWay founded.now (O.x oracle.old) F (O.table oracle.old) drawing.old.limits (met tape.old.source (S.content shelf.old) before (S.faults shelf.old)) drawing.old tape.old.used (O.raised oracle.old) header start now page.old.items
-        → IsBroken founded.now (O.x oracle.old) F (O.table oracle.old) drawing.old.limits (met tape.old.source (S.content shelf.old) before (S.faults shelf.new)) (O.raised oracle.new) header start now) }
-    ensures goes_on { IfOk result (λ ending. GoesOn founded.now (O.x oracle.old) (S.content shelf.old) drawing.old.limits drawing.old drawing.new tape.new ending) }
-    ensures spec { O.spec oracle.new ≡ O.spec oracle.old }
-    ensures x { O.x oracle.new ≡ O.x oracle.old }
-    ensures table { O.table oracle.new ≡ O.table oracle.old }
-    ensures cost { O.cost oracle.new ≡ O.cost oracle.old }
+    requires can_turn { CanTurn founded.now (O.x oracle.old) (S.content shelf.old)
+        drawing.old.limits drawing.old tape.old }
+    ensures under_way { IfOk result (λ _. (header : List ℕ) (start now : Option (List ℕ))
+        → IsUnderWay founded.now (O.x oracle.old) F (O.table oracle.old) drawing.old.limits
+        (bits_of tape.old.source (S.content shelf.old)) drawing.old tape.old.used
+        (O.raised oracle.old) header start now page.old.items
+        → IsUnderWay founded.now (O.x oracle.old) F (O.table oracle.old) drawing.old.limits
+        (bits_of tape.old.source (S.content shelf.old)) drawing.new tape.new.used
+        (O.raised oracle.new) header start now page.new.items) }
+    ensures broken { OnErr result ((header : List ℕ) (start now : Option (List ℕ))
+        → IsUnderWay founded.now (O.x oracle.old) F (O.table oracle.old) drawing.old.limits
+        (bits_of tape.old.source (S.content shelf.old)) drawing.old tape.old.used
+        (O.raised oracle.old) header start now page.old.items
+        → IsBroken founded.now (O.x oracle.old) F (O.table oracle.old) drawing.old.limits
+        (bits_of tape.old.source (S.content shelf.old)) drawing.new tape.new.used
+        (O.raised oracle.new) header start now) }
+    ensures goes_on { IfOk result (GoesOn founded.now (O.x oracle.old) (O.table oracle.old)
+        (S.content shelf.old) drawing.old.limits drawing.old drawing.new tape.new) }
+    ensures oracle { LeavesOracle O.spec O.x O.table O.cost O.raised
+        oracle.old oracle.new steps.old steps.new }
     ensures levels { O.raised oracle.old ≤ 6 → O.raised oracle.new ≤ 6 }
-    ensures raised { O.raised oracle.old ≤ O.raised oracle.new }
-    ensures ticks { steps.new ≤ steps.old + cost_between (O.cost oracle.old) (O.raised oracle.old) (O.raised oracle.new) }
-    ensures source { tape.new.source ≡ tape.old.source }
-    ensures content { S.content shelf.new ≡ S.content shelf.old }
-    ensures counts { (other : List ℕ) → S.faults shelf.old other ≤ S.faults shelf.new other }
+    ensures tape { LeavesTape S.content S.faults (has_failed drawing.new.ending)
+        shelf.old shelf.new tape.old tape.new }
 {
+    a_turn_continues_a_trace();
     match drawing.turn(founded, oracle, tape, shelf, steps) {
         Turned::Going => Ok(None),
         Turned::Kept(entry) => match append_entry(alloc, founded, &entry, page) {
