@@ -17,3 +17,5 @@ pub mod Redrawing
 pub mod Tracing
 pub mod SizedVisits
 pub mod Ordering
+pub mod FewBits
+pub mod TapeEnds

@@ -12,6 +12,7 @@ ghost use Rattle.size_window.specs.RunByBits.{Limits, Sampling, at_start, after}
 ghost use Rattle.size_window.specs.Trace.{IsSpelled, TracesStart, TurnsContinue};
 ghost use Rattle.size_window.specs.Redrawn.{AreRedrawn};
 ghost use Rattle.size_window.specs.InOrder.{IsInOrder};
+ghost use Rattle.size_window.specs.TapeEnd.{UsesFewBits, FilesEndRightly, SeedsNeverEnd};
 ghost use Rattle.size_window.specs.Ideally.{DecidesIdeally, chooser_of};
 ghost use Rattle.size_window.specs.Follows.{Follows, Goes};
 
@@ -81,4 +82,18 @@ pub fn each_entry_is_redrawn_from_its_cells()
 /// there are as many as the course kept.
 pub fn the_entries_of_a_course_are_in_order()
     ensures { (s : Sampling) (faults : ℕ → Option ℕ) (n : ℕ) → IsInOrder s.limits (after s faults n) }
+{}
+
+/// A course uses few bits: at most 60 for each number that a turn draws, which are one, or those of
+/// the atoms of a shape that is labelled.
+pub fn a_course_uses_few_bits()
+    ensures { (s : Sampling) (faults : ℕ → Option ℕ) (n : ℕ)
+        → UsesFewBits s.limits (after s faults n) }
+{}
+
+/// Over a file a trace ends with the tape's end only where all bits are used, and over a seed it never
+/// does.
+pub fn the_tape_ends_where_its_bits_are_used()
+    ensures files { FilesEndRightly }
+    ensures seeds { SeedsNeverEnd }
 {}
