@@ -19,3 +19,4 @@ pub mod SizedVisits
 pub mod Ordering
 pub mod FewBits
 pub mod TapeEnds
+pub mod TraceEntries

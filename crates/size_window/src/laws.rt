@@ -8,9 +8,9 @@ ghost use Rattle.bz_model.specs.Spec.{Spec};
 ghost use Rattle.class_system.specs.Sound.{IsSound};
 ghost use Rattle.well_founded.specs.EmptyObjects.{has_empty};
 ghost use Rattle.shape_sampler.specs.Answer.{ChoosesBy};
-ghost use Rattle.size_window.specs.RunByBits.{Limits, Sampling, at_start, after};
-ghost use Rattle.size_window.specs.Trace.{IsSpelled, TracesStart, TurnsContinue};
-ghost use Rattle.size_window.specs.Redrawn.{AreRedrawn};
+ghost use Rattle.size_window.specs.RunByBits.{Limits, Sampling, Course, at_start, after};
+ghost use Rattle.size_window.specs.Trace.{IsSpelled, IsTrace, TracesStart, TurnsContinue};
+ghost use Rattle.size_window.specs.Redrawn.{AreRedrawn, AreEntriesOfTrace};
 ghost use Rattle.size_window.specs.InOrder.{IsInOrder};
 ghost use Rattle.size_window.specs.TapeEnd.{UsesFewBits, FilesEndRightly, SeedsNeverEnd};
 ghost use Rattle.size_window.specs.Ideally.{DecidesIdeally, chooser_of};
@@ -96,4 +96,12 @@ pub fn a_course_uses_few_bits()
 pub fn the_tape_ends_where_its_bits_are_used()
     ensures files { FilesEndRightly }
     ensures seeds { SeedsNeverEnd }
+{}
+
+/// The entries of a trace from a sound specification, whether its tape is known or not, are made again
+/// from their own cells, for each chooser by the table, and are in order.
+pub fn the_entries_of_a_trace_are_made_again()
+    ensures { (s : Spec) (x : Fraction) (F : ℕ) (table : (level node : ℕ) → Bounds) (limits : Limits)
+        (told : Option (ℕ → Option Bool)) (turns most : ℕ) (c : Course) → IsSound s
+        → IsTrace s x F table limits told turns most c → AreEntriesOfTrace s F table limits c }
 {}
