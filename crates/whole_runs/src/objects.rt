@@ -16,17 +16,37 @@ fn counts(rt: HostRuntime) -> Result<(), Fail> {
             0,
             "size 0 1\nsize 1 1\nsize 2 2\nsize 3 5\nsize 4 14\nend done\n",
         ),
-        ("count s 70", TREES, 15, "refused rank too many node 2 size 70\n"),
+        (
+            "count s 70",
+            TREES,
+            15,
+            "refused rank too many node 2 size 70\n",
+        ),
         ("count s 501", TREES, 2, "refused value n\n"),
-        ("count s 1", "labelled\nC = Set(Z)\n", 15, "refused rank labelled\n"),
+        (
+            "count s 1",
+            "labelled\nC = Set(Z)\n",
+            15,
+            "refused rank labelled\n",
+        ),
         (
             "count s 1",
             "unlabelled\nC = Z*Seq>=2(Z)\n",
             15,
             "refused rank range node 2\n",
         ),
-        ("count s 1", "unlabelled\nC = C\n", 3, "refused spec no object C\n"),
-        ("count t 1", TREES, 3, "refused spec syntax line 1 column 1\n"),
+        (
+            "count s 1",
+            "unlabelled\nC = C\n",
+            3,
+            "refused spec no object C\n",
+        ),
+        (
+            "count t 1",
+            TREES,
+            3,
+            "refused spec syntax line 1 column 1\n",
+        ),
     ] {
         compare(&rt, words, text, b"", status, want)?;
     }
