@@ -28,11 +28,11 @@ pub returns-in-Spec-clause-ends : goal.returns-in-Spec-clause-ends
 returns-in-Spec-clause-ends g c = subst (λ (k : Command). EndsBy (Carries (files (g.S.Shelf.content c.args.shelf.now) (g.S.Shelf.faults c.args.shelf.now) (g.S.Shelf.faults c.spec.new.shelf)) k) (output (g.K.Sink.written c.args.out.now) (g.K.Sink.written c.spec.new.out) (g.K.Sink.faults c.args.out.now) (g.K.Sink.faults c.spec.new.out) c.args.steps.now c.args.steps.now) c.spec.result) (sym c.in-Spec.is) (c.spec.ensures.ends c.args.steps.now)
 
 -- the size is within the limits
-pub count-requires-greatest : goal.count-requires-greatest
-count-requires-greatest g c = count_limit c.in-Count.file c.in-Count.n (subst IsStoodFor c.in-Count.is c.requires.stood_for)
+pub count-requires : goal.count-requires
+count-requires g c = record { greatest = count_limit c.in-Count.file c.in-Count.n (subst IsStoodFor c.in-Count.is c.requires.stood_for) }
 
-pub unrank-requires-greatest : goal.unrank-requires-greatest
-unrank-requires-greatest g c = unrank_limit c.in-Unrank.file c.in-Unrank.n c.in-Unrank.number (subst IsStoodFor c.in-Unrank.is c.requires.stood_for)
+pub unrank-requires : goal.unrank-requires
+unrank-requires g c = record { greatest = unrank_limit c.in-Unrank.file c.in-Unrank.n c.in-Unrank.number (subst IsStoodFor c.in-Unrank.is c.requires.stood_for) }
 
 -- the command's outcome is one of the call
 pub returns-in-Point-clause-ends : goal.returns-in-Point-clause-ends
