@@ -3,13 +3,16 @@ use Rattle.std.specs.Prelude.{◌≡◌, ℕ, zero, suc, ◌+◌, Bool, List, []
 use Rattle.std.specs.List.{AllByRecursion}
 use Rattle.bz_model.specs.declared.cell.Cell.{Cell}
 use Rattle.bz_model.specs.Cell.{spelled}
-use Rattle.bz_model.specs.Spec.{Mode}
+use Rattle.bz_model.specs.declared.cell.Bounds.{Bounds}
+use Rattle.bz_model.specs.Spec.{Spec, Mode}
 use Rattle.object_store.specs.Tokens.{size_of}
 use Rattle.bit_tape.specs.Given.{HasBits}
 use Rattle.choice_draw.specs.Draw.{Bit, bit_of}
 use Rattle.labelling.specs.LabelsByBits.{Labelling, labelling}
 use Rattle.shape_sampler.specs.Visit.{Chooser, Attempt, Visited, visit, begun}
-use Rattle.size_window.specs.RunByBits.{Entry}
+use Rattle.shape_sampler.specs.Answer.{ChoosesBy}
+use Rattle.size_window.specs.RunByBits.{Limits, Entry, Course}
+use Rattle.size_window.specs.InOrder.{IsInOrder}
 
 -- The next visit of an attempt that went on; none after another end.
 abbrev pub visited_next : Chooser → (bit : ℕ → Bit) → Visited → Visited
@@ -53,3 +56,8 @@ IsRedrawnAlone c greatest e = IsRedrawnAt c greatest (slice_get (spelled e.cells
 -- Each entry is made again, wherever and alone.
 abbrev pub AreRedrawn : Chooser → (greatest : ℕ) → List Entry → Type 0
 AreRedrawn c greatest entries = AllByRecursion (λ e. IsRedrawn c greatest e × IsRedrawnAlone c greatest e) entries
+
+-- The entries of a trace are made again from their own cells, for each chooser by its table, and they are in order.
+pub record AreEntriesOfTrace (s : Spec) (F : ℕ) (table : (level node : ℕ) → Bounds) (limits : Limits) (c : Course) : Type 0 where
+  pub redrawn : (k : Chooser) → ChoosesBy s F table k → AreRedrawn k limits.max c.entries
+  pub in_order : IsInOrder limits c
