@@ -4,26 +4,28 @@
 //!
 //! - `ends`: every call ends with an outcome that its words and files have (`specs/Answers.antt`). The
 //!   whole text of the outcome was written; or memory ran out, or a write failed in the call, and a prefix
-//!   was written (`call_stages`, `specs/Ends.antt`). The sweeps and evaluations that the call made, its steps, are no more
-//!   than the outcome may take. Where objects were drawn, a course of turns lies behind the text: for
-//!   every list of numbers in the cells of its finished attempts the ideal sampler, knowing the generating
-//!   functions exactly, keeps the printed objects, in order. Where the tape's bits are known, the course is
-//!   the one over them from the printed base (`sample_command`, `specs/Drawn.antt`). A level is raised only for the bits that
-//!   one number of a choice node was given: one for each ten of them begun (`specs/Sweeps.antt` there).
+//!   was written (`call_stages`, `specs/Ends.antt`). The sweeps and evaluations that the call made, its
+//!   steps, are no more than the outcome may take. Where objects were drawn, a course of turns lies behind
+//!   the text: for every list of numbers in the cells of its finished attempts the ideal sampler, knowing
+//!   the generating functions exactly, keeps the printed objects, or those that `bulk` counted, in order.
+//!   Where the tape's bits are known, as a seed's always are, the course is the one over them from the base
+//!   (`sample_command`, `specs/Drawn.antt`; `bulk_command`, `specs/BulkCommand.antt`). A level is raised
+//!   only for the bits that one number of a choice node was given: one for each ten of them begun
+//!   (`sample_command`, `specs/Sweeps.antt`).
 //! - `exact`: where the files that the words ask to read are known and no read of them failed, and no write
 //!   failed, the call ends for want of memory or with any outcome that is none. So there is one status with
 //!   one text, and each status comes exactly where its outcome is.
 //! - `unread`: nothing is read for words that are refused.
 //! - `content`, `counts`, `writes`: no call changes what a shelf holds or lowers a count of faults.
 //!
-//! The laws of `laws` say which outcome a call has: what is printed, refused, bounded and drawn. No clause
-//! says that memory suffices, how long a call takes, or that the bits of a tape are random.
+//! The laws of `laws` say which outcome a call has: what is printed, refused, bounded, drawn and counted. No
+//! clause says that memory suffices, how long a call takes, or that the bits of a tape are random.
 //!
 //! To believe it, read in this order: `specs/Answers.antt` (one line for each command); in `call_stages`
 //! `specs/Stages.antt`, `specs/Lines.antt` and `specs/Refusals.antt` (printed bytes) and `specs/Ends.antt`;
 //! the file of each command (`specs/SpecCommand.antt`, `specs/OracleCommand.antt`; in `sample_command`
-//! `specs/SampleCommand.antt` and `specs/Drawn.antt`); and the clauses
-//! of `run`.
+//! `specs/SampleCommand.antt` and `specs/Drawn.antt`; in `bulk_command` `specs/BulkCommand.antt`); and the
+//! clauses of `run`.
 #![tactic(auto)]
 
 pub mod laws;

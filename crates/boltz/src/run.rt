@@ -8,19 +8,19 @@ ghost use Rattle.call_stages.specs.Stages.{files};
 ghost use Rattle.call_stages.specs.declared.status.Status.{Status};
 
 use crate::oracle::oracle;
-use bulk_command::bulk::bulk;
-use call_stages::refusals::{not_yet_refusal, words_refusal};
-use call_stages::report::written;
-use sample_command::sample::sample;
 use crate::spec::spec;
-use call_stages::status::Status;
+use bulk_command::bulk::bulk;
 use bz_model::steps::Steps;
 use bz_outside::shelf::Shelf;
 use bz_outside::sink::Sink;
 use bz_outside::word::Word;
+use call_stages::refusals::{not_yet_refusal, words_refusal};
+use call_stages::report::written;
+use call_stages::status::Status;
 use command_words::command::Command;
 use command_words::fault::WordsFault;
 use command_words::read::read_words;
+use sample_command::sample::sample;
 use std::alloc::Global;
 use std::sync::ledger::Ledger;
 

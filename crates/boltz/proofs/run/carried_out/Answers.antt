@@ -13,11 +13,15 @@ pub sample-requires : goal.sample-requires
 sample-requires g c = sample_limits c.in-Sample.file c.in-Sample.x c.in-Sample.tape c.in-Sample.limits c.in-Sample.fraction c.in-Sample.fast (subst IsStoodFor c.in-Sample.is c.requires.stood_for)
 
 -- the number of a run is within the limits
-pub bulk-requires-least : goal.bulk-requires-least
-bulk-requires-least g c = (bulk_limits c.in-Bulk.n c.in-Bulk.fraction (subst IsStoodFor c.in-Bulk.is c.requires.stood_for)).0
+pub bulk-requires-clause-least : goal.bulk-requires-clause-least
+bulk-requires-clause-least g c = (bulk_limits c.in-Bulk.n c.in-Bulk.fraction (subst IsStoodFor c.in-Bulk.is c.requires.stood_for)).0
 
-pub bulk-requires-greatest : goal.bulk-requires-greatest
-bulk-requires-greatest g c = (bulk_limits c.in-Bulk.n c.in-Bulk.fraction (subst IsStoodFor c.in-Bulk.is c.requires.stood_for)).1
+pub bulk-requires-clause-greatest : goal.bulk-requires-clause-greatest
+bulk-requires-clause-greatest g c = (bulk_limits c.in-Bulk.n c.in-Bulk.fraction (subst IsStoodFor c.in-Bulk.is c.requires.stood_for)).1
+
+-- the run of a number reads no file
+pub returns-in-Bulk-clause-ends : goal.returns-in-Bulk-clause-ends
+returns-in-Bulk-clause-ends g c = subst (λ (k : Command). EndsBy (Carries (files (g.S.Shelf.content c.args.shelf.now) (g.S.Shelf.faults c.args.shelf.now) (g.S.Shelf.faults c.args.shelf.now)) k) (output (g.K.Sink.written c.args.out.now) (g.K.Sink.written c.bulk.new.out) (g.K.Sink.faults c.args.out.now) (g.K.Sink.faults c.bulk.new.out) c.args.steps.now c.bulk.new.steps) c.bulk.result) (sym c.in-Bulk.is) c.bulk.ensures.ends
 
 -- a specification is printed
 pub returns-in-Spec-clause-ends : goal.returns-in-Spec-clause-ends
@@ -26,7 +30,7 @@ returns-in-Spec-clause-ends g c = subst (λ (k : Command). EndsBy (Carries (file
 -- the command isn't built yet
 pub returns-in-Pool-clause-ends : goal.returns-in-Pool-clause-ends
 returns-in-Pool-clause-ends g c =
-    let at = c.not_yet-in-Pool in
+    let at = c.not_yet in
     subst (λ (k : Command). EndsBy (Carries (files (g.S.Shelf.content c.args.shelf.now) (g.S.Shelf.faults c.args.shelf.now) (g.S.Shelf.faults c.args.shelf.now)) k) (output (g.K.Sink.written c.args.out.now) (g.K.Sink.written at.new.out) (g.K.Sink.faults c.args.out.now) (g.K.Sink.faults at.new.out) c.args.steps.now c.args.steps.now) at.result) (sym c.in-Pool.is) (at.ensures.ends c.args.steps.now)
 
 -- the command isn't built yet
