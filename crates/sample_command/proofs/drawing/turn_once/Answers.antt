@@ -71,7 +71,6 @@ returns-in-Finished-clause-under_way g c = λ header start now p.
 pub returns-in-Finished-clause-goes_on : goal.returns-in-Finished-clause-goes_on
 returns-in-Finished-clause-goes_on g c =
     at-end c.args.founded.now (g.O.Oracle.x c.args.oracle.now) (g.S.Shelf.content c.args.shelf.now) (g.O.Oracle.table c.args.oracle.now) c.args.drawing.now.limits c.args.drawing.now c.turn.new.self c.args.tape.now c.in-Finished.ending c.requires.can_turn c.in-Finished.ensures.counted
-    c.turn.ensures.drawing
     (λ e. (c.in-Finished.ensures.done c.requires.can_turn.goes_on).0 e) (λ e. ((c.in-Finished.ensures.turn_limit c.requires.can_turn.goes_on).0 e).1) (c.in-Finished.ensures.undecided c.requires.can_turn.goes_on)
 
 -- a turn had no memory
