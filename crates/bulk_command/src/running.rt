@@ -28,7 +28,8 @@ use sample_command::entries::{status_of, word_of};
 use size_window::drawing::Drawing;
 use size_window::ending::Ending;
 use size_window::laws::{
-    a_table_has_its_chooser, a_trace_starts_with_its_drawing, a_turn_continues_a_trace,
+    a_course_uses_few_bits, a_table_has_its_chooser, a_trace_starts_with_its_drawing,
+    a_turn_continues_a_trace, the_tape_ends_where_its_bits_are_used,
 };
 use size_window::limits::{Counts, Limits};
 use size_window::turned::Turned;
@@ -80,6 +81,8 @@ pub(crate) fn drawn<const F: u32, K: Sink, L: Ledger>(
     memo.known();
     a_table_has_its_chooser();
     a_trace_starts_with_its_drawing();
+    a_course_uses_few_bits();
+    the_tape_ends_where_its_bits_are_used();
     let mut tape = Tape::seeded(n);
     match draw_to_the_end::<F, _, L>(founded, &mut memo, &mut tape, &mut drawing, steps) {
         Ok(ending) => finished(alloc, n, ending, drawing.counts(), tape.used(), out),
@@ -155,8 +158,7 @@ fn draw_to_the_end<const F: u32, O: Oracle<F>, L: Ledger>(
         drawing.old.limits tape.old.source drawing.old tape.old.used (O.raised oracle.old)
         → IsRunning founded.now (O.x oracle.old) F (O.table oracle.old)
         drawing.old.limits tape.old.source drawing.new tape.new.used (O.raised oracle.new) }
-    ensures ended { IfOk result (IsAtEnd (O.table oracle.old) drawing.old.limits drawing.new
-        tape.new.used) }
+    ensures ended { IfOk result (IsAtEnd (O.table oracle.old) drawing.old.limits drawing.new) }
     ensures oracle { LeavesOracle O.spec O.x O.table O.cost O.raised
         oracle.old oracle.new steps.old steps.new }
     ensures levels { O.raised oracle.new ≤ 6 }

@@ -24,7 +24,8 @@ use call_stages::status::Status;
 use size_window::drawing::Drawing;
 use size_window::ending::Ending;
 use size_window::laws::{
-    a_table_has_its_chooser, a_trace_starts_with_its_drawing, a_turn_continues_a_trace,
+    a_course_uses_few_bits, a_table_has_its_chooser, a_trace_starts_with_its_drawing,
+    a_turn_continues_a_trace, the_tape_ends_where_its_bits_are_used,
 };
 use size_window::limits::{Counts, Limits};
 use size_window::turned::Turned;
@@ -67,6 +68,8 @@ pub fn drawn<const F: u32, O: Oracle<F>, S: Shelf, K: Sink, L: Ledger>(
     oracle.known();
     a_table_has_its_chooser();
     a_trace_starts_with_its_drawing();
+    a_course_uses_few_bits();
+    the_tape_ends_where_its_bits_are_used();
     let Ok(mut drawing) = Drawing::new(alloc, founded, limits) else {
         return Status::OutOfMemory;
     };
@@ -136,8 +139,7 @@ fn draw_to_the_end<const F: u32, O: Oracle<F>, S: Shelf, K: Sink, L: Ledger>(
         → IsUnderWay founded.now (O.x oracle.old) F (O.table oracle.old) drawing.old.limits
         (bits_of tape.old.source (S.content shelf.old)) drawing.new tape.new.used
         (O.raised oracle.new) header start (K.written out.new) page.new.items) }
-    ensures ended { IfOk result (IsAtEnd (O.table oracle.old) drawing.old.limits drawing.new
-        tape.new.used) }
+    ensures ended { IfOk result (IsAtEnd (O.table oracle.old) drawing.old.limits drawing.new) }
     ensures broken { IfErr result (λ _. (header : List ℕ) (start : Option (List ℕ))
         → IsUnderWay founded.now (O.x oracle.old) F (O.table oracle.old) drawing.old.limits
         (bits_of tape.old.source (S.content shelf.old)) drawing.old tape.old.used
