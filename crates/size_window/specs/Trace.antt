@@ -1,5 +1,5 @@
 -- A drawing's whole way over its tape, from its start on.
-use Rattle.std.specs.Prelude.{◌≡◌, ℕ, zero, suc, ◌-◌, ◌<◌, max, map, sum, Bool, List, [], ◌++◌, length, Option, Some, None, IfSome, if◌then◌else◌}
+use Rattle.std.specs.Prelude.{◌≡◌, ◌≢◌, ℕ, zero, suc, ◌-◌, ◌<◌, max, map, sum, Bool, List, [], ◌++◌, length, Option, Some, None, IfSome, IsSome, if◌then◌else◌}
 use Rattle.bz_model.specs.declared.cell.Bounds.{Bounds}
 use Rattle.bz_model.specs.declared.cell.Cell.{Cell}
 use Rattle.bz_model.specs.Cell.{AreCells, bits_of, spelled}
@@ -124,3 +124,26 @@ TurnsContinueOf s = (x : Fraction) (F : ℕ) (table : (level node : ℕ) → Bou
 -- So it does from every sound specification.
 abbrev pub TurnsContinue : Type 0
 TurnsContinue = (s : Spec) → IsSound s → TurnsContinueOf s
+
+-- A trace over a tape whose bits are told, where no read failed at its end, is the course over these
+-- bits in which none fails.
+abbrev pub ToldTracesAreCourses : Type 0
+ToldTracesAreCourses = (s : Spec) (x : Fraction) (F : ℕ) (table : (level node : ℕ) → Bounds)
+    (limits : Limits) (tape : ℕ → Option Bool) (turns most : ℕ) (c : Course)
+    → IsTrace s x F table limits (Some tape) turns most c
+    → c.state.ending ≢ Some Ending.ReadFault → (k : Chooser) → ChoosesBy s F table k
+    → IsCourseOver (record { chooser = k; limits = limits; tape = tape }) (λ n. None) turns c most
+
+-- A course has ended, and not with a failed read.
+pub record HasEnded (c : Course) : Type 0 where
+  pub ended : IsSome c.state.ending
+  pub undisturbed : c.state.ending ≢ Some Ending.ReadFault
+
+-- Two traces over one tape whose bits are told, both of which have ended, and neither with a failed
+-- read, are one course, with the same greatest number of bits that a number of a choice node was given.
+abbrev pub EndedTracesAreOne : Type 0
+EndedTracesAreOne = (s : Spec) (x : Fraction) (F : ℕ) (table : (level node : ℕ) → Bounds)
+    (limits : Limits) (tape : ℕ → Option Bool) (k : Chooser) → ChoosesBy s F table k
+    → (turns most : ℕ) (c : Course) → IsTrace s x F table limits (Some tape) turns most c → HasEnded c
+    → (others greatest : ℕ) (d : Course) → IsTrace s x F table limits (Some tape) others greatest d
+    → HasEnded d → (c ≡ d) × (most ≡ greatest)
