@@ -20,3 +20,4 @@ pub mod Ordering
 pub mod FewBits
 pub mod TapeEnds
 pub mod TraceEntries
+pub mod ToldTraces

@@ -9,7 +9,7 @@ ghost use Rattle.class_system.specs.Sound.{IsSound};
 ghost use Rattle.well_founded.specs.EmptyObjects.{has_empty};
 ghost use Rattle.shape_sampler.specs.Answer.{ChoosesBy};
 ghost use Rattle.size_window.specs.RunByBits.{Limits, Sampling, Course, at_start, after};
-ghost use Rattle.size_window.specs.Trace.{IsSpelled, IsTrace, TracesStart, TurnsContinue};
+ghost use Rattle.size_window.specs.Trace.{IsSpelled, IsTrace, TracesStart, TurnsContinue, ToldTracesAreCourses, EndedTracesAreOne};
 ghost use Rattle.size_window.specs.Redrawn.{AreRedrawn, AreEntriesOfTrace};
 ghost use Rattle.size_window.specs.InOrder.{IsInOrder};
 ghost use Rattle.size_window.specs.TapeEnd.{UsesFewBits, FilesEndRightly, SeedsNeverEnd};
@@ -104,4 +104,11 @@ pub fn the_entries_of_a_trace_are_made_again()
     ensures { (s : Spec) (x : Fraction) (F : ℕ) (table : (level node : ℕ) → Bounds) (limits : Limits)
         (told : Option (ℕ → Option Bool)) (turns most : ℕ) (c : Course) → IsSound s
         → IsTrace s x F table limits told turns most c → AreEntriesOfTrace s F table limits c }
+{}
+
+/// Where the tape's bits are told and no read failed at its end, a trace is the course over them in
+/// which none fails; and two such traces that have both ended are one.
+pub fn a_told_trace_is_the_course_of_its_tape()
+    ensures courses { ToldTracesAreCourses }
+    ensures ended { EndedTracesAreOne }
 {}
