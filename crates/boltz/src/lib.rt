@@ -9,9 +9,10 @@
 //!   the text: for every list of numbers in the cells of its finished attempts the ideal sampler, knowing
 //!   the generating functions exactly, keeps the printed objects, or those that `bulk` counted, in order.
 //!   Where the tape's bits are known, as a seed's always are, the course is the one over them from the base
-//!   (`sample_command`, `specs/Drawn.antt`; `bulk_command`, `specs/BulkCommand.antt`). A level is raised
-//!   only for the bits that one number of a choice node was given: one for each ten of them begun
-//!   (`sample_command`, `specs/Sweeps.antt`).
+//!   (`sample_command`, `specs/Drawn.antt`; `bulk_command`, `specs/BulkCommand.antt`), with `--fast` from
+//!   the base's fast vector (`sample_command`, `specs/Starts.antt`). A level is raised only for the bits
+//!   that one number of a choice node was given: one for each ten of them begun (`sample_command`,
+//!   `specs/Sweeps.antt`).
 //! - `exact`: where the files that the words ask to read are known and no read of them failed, and no write
 //!   failed, the call ends for want of memory or with any outcome that is none. So there is one status with
 //!   one text, and each status comes exactly where its outcome is.
@@ -24,8 +25,8 @@
 //! To believe it, read in this order: `specs/Answers.antt` (one line for each command); in `call_stages`
 //! `specs/Stages.antt`, `specs/Lines.antt` and `specs/Refusals.antt` (printed bytes) and `specs/Ends.antt`;
 //! the file of each command (`specs/SpecCommand.antt`, `specs/OracleCommand.antt`; in `sample_command`
-//! `specs/SampleCommand.antt` and `specs/Drawn.antt`; in `bulk_command` `specs/BulkCommand.antt`); and the
-//! clauses of `run`.
+//! `specs/SampleCommand.antt`, `specs/Starts.antt` and `specs/Drawn.antt`; in `bulk_command`
+//! `specs/BulkCommand.antt`); and the clauses of `run`.
 #![tactic(auto)]
 
 pub mod laws;
