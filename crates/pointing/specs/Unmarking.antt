@@ -79,8 +79,8 @@ pub record ReadsLast (place before : ℕ) (after : ToRead) (last : Object) (os :
   pub is_last : last ≡ SeqOf later
   pub rest : after os ((front ++ token.Count (before + 1 + count later) ∷ tail) ++ tokens_all later)
 
--- Read so, the objects make the whole list of tokens and the number of the marked atom, `told` being
--- what was told of it before.
+-- Read so, the objects make the whole list of tokens and the number of the marked atom, `told`
+-- being what was told of it before.
 abbrev pub Reads : Spec → (whole : List Token) → (atom : ℕ) → List Due → (told : ℕ) → ToRead
 Reads s whole atom [] told os written = (os ≡ none) × (written ≡ whole) × (told ≡ atom)
 Reads s whole atom (due.Copied n ∷ ds) told os written =

@@ -15,8 +15,8 @@ pub(crate) enum Due {
     Marked(ExprId),
     /// A tuple of a product with an atom of its part at a place marked.
     Tuple(ExprId, usize),
-    /// Of a sequence of this part what stands before the marked object, that object, and what stands
-    /// after it.
+    /// Of a sequence of this part what stands before the marked object, that object, and what
+    /// stands after it.
     Split(ExprId),
     /// What stands after the marked object of a sequence: the place where its number of parts is
     /// written, and how many of them stand before that object.

@@ -1,8 +1,8 @@
 //! An object with an atom marked, visit by visit.
 //!
 //! Off the way to the atom all tokens stay. On it a pick tells the choice among the parts that have
-//! an atom, a tuple is picked likewise, and a sequence comes apart into that before the marked part,
-//! the part, and that after it.
+//! an atom, a tuple is picked likewise, and a sequence comes apart into what stands before the marked
+//! part, that part, and what stands after it.
 ghost use Rattle.std.specs.Prelude.{◌≡◌, ℕ, ◌-◌, ◌<◌, ◌++◌, [], ◌∷◌, List, length, option_to_list, IfOk, OnOk, IfNone};
 ghost use Rattle.bz_model.specs.Spec.{Spec, node_at};
 ghost use Rattle.bz_model.specs.Object.{none};
