@@ -13,7 +13,7 @@ use Rattle.size_window.specs.Drawing.{ending_of}
 use Rattle.size_window.specs.Trace.{atoms_in, IsTrace, HasEnded, ToldTracesAreCourses, EndedTracesAreOne}
 use Rattle.session_pool.specs.Member.{MemberState}
 use Rattle.session_pool.specs.Pool.{sources_of}
-use Rattle.session_pool.specs.Interleaving.{Setting, IsMemberAfter, IsPoolAfter, AreAlikeWhere, times, AreAlike}
+use Rattle.session_pool.specs.Interleaving.{Setting, IsMemberAfter, AreAlikeWhere, times, AreAlike}
 
 -- sources in one list of sources are the same
 same-source : (sources : List TapeSource) (pool other : List MemberState) → sources_of pool ≡ sources → sources_of other ≡ sources → (number : ℕ) (m n : MemberState) → slice_get pool number ≡ Some m → slice_get other number ≡ Some n → m.tape.source ≡ n.tape.source

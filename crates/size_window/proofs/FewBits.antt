@@ -1,5 +1,5 @@
 -- A course uses few bits.
-use Rattle.std.proofs.Common.{◌≡◌, ◌≢◌, ℕ, zero, suc, ◌+◌, ◌*◌, ◌<◌, ◌≤◌, max, arith, Bool, true, false, cond, List, [], ◌∷◌, ◌++◌, length, refl, sym, ◌∙◌, ap, subst}
+use Rattle.std.proofs.Common.{◌≡◌, ◌≢◌, ℕ, zero, suc, ◌+◌, ◌*◌, ◌≤◌, arith, Bool, true, false, cond, List, [], ◌∷◌, ◌++◌, refl, sym, subst}
 use Rattle.std.specs.Prelude.{Option, Some, None, nat_eq, nat_lt, remove, slice_index}
 use Rattle.std.proofs.lemmas.Bool.{eqb-false}
 use Rattle.bz_model.specs.declared.cell.Cell.{Cell}
@@ -8,11 +8,11 @@ use Rattle.bz_model.specs.Labels.{numbers_from}
 use Rattle.object_store.specs.Tokens.{size_of}
 use Rattle.choice_draw.specs.Decision.{Choice, whole_decision}
 use Rattle.choice_draw.specs.Draw.{Draw, bit_of, draw}
-use Rattle.choice_draw.specs.LeastCell.{AreBetween, SpellsDraw}
+use Rattle.choice_draw.specs.LeastCell.{SpellsDraw}
 use Rattle.choice_draw.proofs.SpelledDraws.{draws_spell}
 use Rattle.labelling.specs.LabelsByBits.{Labelling, labels_from, labelling}
 use Rattle.shape_sampler.specs.Visit.{Chooser, Attempt, Visited, visit, visit_among, node_visited, after_draw, union_answered, counted_answered, room_for, atom_visited}
-use Rattle.size_window.specs.RunByBits.{Limits, Sampling, State, Turned, Course, Ending, quiet, with_attempt, added, thrown_away, kept_or_waits, went, visited, shape_turn, counted_turn, label_turn, labelled_with, turn_unless, fault_place, after, ended}
+use Rattle.size_window.specs.RunByBits.{Sampling, State, Turned, Ending, quiet, with_attempt, added, thrown_away, kept_or_waits, went, visited, shape_turn, counted_turn, label_turn, labelled_with, turn_unless, fault_place, after, ended}
 use Rattle.size_window.specs.TapeEnd.{bits_a_turn, UsesFewBits}
 use Rattle.size_window.proofs.Ordering.{KeepsSize, course-size}
 

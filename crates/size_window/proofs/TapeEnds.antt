@@ -1,22 +1,19 @@
 -- When a trace meets its tape's end.
-use Rattle.std.proofs.Common.{◌≡◌, ◌≢◌, ℕ, zero, suc, ◌+◌, ◌*◌, ◌/◌, ◌%◌, ◌^◌, ◌<◌, ◌≤◌, ◌⊎◌, inl, inr, max, min, arith, Bool, true, false, cond, List, [], ◌∷◌, length, refl, sym, ◌∙◌, ap, subst}
-use Rattle.std.specs.Prelude.{Option, Some, None, IfSome, nat_lt, slice_get, option_map}
+use Rattle.std.proofs.Common.{◌≡◌, ℕ, zero, suc, ◌+◌, ◌*◌, ◌/◌, ◌%◌, ◌^◌, ◌<◌, ◌≤◌, ◌⊎◌, inl, inr, min, arith, Bool, true, false, cond, List, [], ◌∷◌, length, refl, sym, ◌∙◌, ap, subst}
+use Rattle.std.specs.Prelude.{Option, Some, None, nat_lt, slice_get, option_map}
 use Rattle.std.proofs.lemmas.Bool.{ltb-true, ltb-false}
 use Rattle.std.proofs.lemmas.Option.{slice_get_within}
 use Rattle.std.proofs.Math.Nat.{mul-le-mul}
 use Rattle.std.proofs.lemmas.Nat.{mod_below, div-add-mod'}
-use Rattle.bz_model.specs.declared.cell.Bounds.{Bounds}
-use Rattle.bz_model.specs.Spec.{Spec}
 use Rattle.bit_tape.specs.Bits.{byte_bit, word_bit, seed_word, file_bit, seed_bit}
 use Rattle.bit_tape.specs.Given.{HasBits}
-use Rattle.class_system.specs.Sound.{IsSound}
 use Rattle.well_founded.specs.EmptyObjects.{has_empty}
-use Rattle.size_window.specs.RunByBits.{Limits, Sampling, Course, Ending, after}
+use Rattle.size_window.specs.RunByBits.{Limits}
 use Rattle.size_window.specs.Drawing.{AreLimits}
 use Rattle.size_window.specs.Ideally.{chooser_of}
-use Rattle.size_window.specs.Trace.{EndsAt, IsTrace}
+use Rattle.size_window.specs.Trace.{EndsAt}
 use Rattle.size_window.specs.TapeEnd.{bits_a_turn, UsesFewBits, FilesEndRightly, SeedsNeverEnd}
-use Rattle.size_window.proofs.Tracing.{table-chooser, ends-alone}
+use Rattle.size_window.proofs.Tracing.{table-chooser}
 use Rattle.size_window.proofs.FewBits.{course-few}
 
 -- the last of some bits is there

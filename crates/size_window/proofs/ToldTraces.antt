@@ -1,14 +1,10 @@
 -- Traces over told bits: they are courses, and those that have ended are one.
-use Rattle.std.proofs.Common.{◌≡◌, ◌≢◌, ℕ, zero, suc, ◌+◌, ◌-◌, ◌≤◌, max, arith, Bool, true, false, cond, [], ◌++◌, append-nil, refl, sym, ◌∙◌, ap}
+use Rattle.std.proofs.Common.{◌≡◌, ℕ, zero, suc, ◌+◌, ◌-◌, max, arith, Bool, true, false, cond, [], ◌++◌, append-nil, refl, sym, ◌∙◌, ap}
 use Rattle.std.specs.Prelude.{Option, Some, None, List, is_some}
 use Rattle.std.proofs.Math.Decide.{dec_le}
-use Rattle.bz_model.specs.declared.cell.Bounds.{Bounds}
 use Rattle.bz_model.specs.declared.cell.Cell.{Cell}
-use Rattle.bz_model.specs.Fraction.{Fraction}
-use Rattle.bz_model.specs.Spec.{Spec}
-use Rattle.shape_sampler.specs.Visit.{Chooser}
-use Rattle.size_window.specs.RunByBits.{Limits, Ending, Sampling, State, Entry, Course, quiet, turn_unless, followed_by, after}
-use Rattle.size_window.specs.Trace.{bits_to_node, most_given, IsCourseOver, ToldTracesAreCourses, EndedTracesAreOne}
+use Rattle.size_window.specs.RunByBits.{Ending, Sampling, State, Entry, Course, quiet, turn_unless, followed_by, after}
+use Rattle.size_window.specs.Trace.{bits_to_node, most_given, ToldTracesAreCourses, EndedTracesAreOne}
 use Rattle.size_window.proofs.Tracing.{agree, agree-given}
 
 -- no turn fails where the course didn't end so

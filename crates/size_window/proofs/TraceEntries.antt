@@ -1,5 +1,5 @@
 -- The entries of a trace are those of a course by bits.
-use Rattle.std.proofs.Common.{◌≡◌, ℕ, Bool, arith, sym, subst}
+use Rattle.std.proofs.Common.{ℕ, Bool, arith, sym, subst}
 use Rattle.std.specs.Prelude.{Option, slice_get}
 use Rattle.bz_model.specs.declared.cell.Bounds.{Bounds}
 use Rattle.bz_model.specs.Fraction.{Fraction}
