@@ -11,8 +11,8 @@
 //!   Where the tape's bits are known, as a seed's always are, the course is the one over them from the base
 //!   (`sample_command`, `specs/Drawn.antt`; `bulk_command`, `specs/BulkCommand.antt`), with `--fast` from
 //!   the base's fast vector (`sample_command`, `specs/Starts.antt`). A level is raised only for the bits
-//!   that one number of a choice node was given: one for each ten of them begun (`sample_command`,
-//!   `specs/Sweeps.antt`).
+//!   that one number of a choice node was given: one for each ten of them begun (`size_window`,
+//!   `specs/Trace.antt`).
 //! - `exact`: where the files that the words ask to read are known and no read of them failed, and no write
 //!   failed, the call ends for want of memory or with any outcome that is none. So there is one status with
 //!   one text, and each status comes exactly where its outcome is.
