@@ -1,0 +1,187 @@
+//! Replays: an attempt and a labelling over the bits that cells spell.
+ghost use Rattle.std.specs.Prelude.{◌≡◌, ◌≢◌, ℕ, ◌+◌, ◌<◌, ◌≤◌, ◌↔◌, ◌++◌, [], List, Bool, true, false, IsTrue, IfOk, IfSome, IfNone, OnOk, Some, None};
+ghost use Rattle.bz_model.specs.Cell.{AreCells};
+ghost use Rattle.bz_model.specs.Oracle.{LeavesOracle};
+ghost use Rattle.bz_model.specs.declared.cell.Cell.{Cell};
+ghost use Rattle.bit_tape.specs.Bits.{file_bit};
+ghost use Rattle.bit_tape.specs.Tape.{Belongs, bits_of};
+ghost use Rattle.class_system.specs.Views.{spec_mode};
+ghost use Rattle.object_store.specs.declared.token.Token.{Token};
+ghost use Rattle.shape_sampler.specs.Belonging.{IsIdealShape};
+ghost use Rattle.shape_sampler.specs.State.{SessionBelongs, attempt_of};
+ghost use Rattle.size_window.specs.Follows.{IsMadeOfItsCells};
+ghost use Rattle.entry_replay.specs.Replay.{entry_with, AreMadeOf, IsMadeByTable, IsNeverMade, GetLabels, AreIdeally};
+
+use crate::packing::packed;
+use bit_tape::tape::Tape;
+use bz_model::cell::Cell;
+use bz_model::cells::Cells;
+use bz_model::oracle::Oracle;
+use bz_model::steps::Steps;
+use bz_outside::steady::SteadyShelf;
+use bz_outside::word::Word;
+use class_system::draft::Mode;
+use labelling::label::label;
+use labelling::labelled::Labelled;
+use labelling::labels::Labels;
+use object_store::shape::Shape;
+use shape_sampler::session::Session;
+use shape_sampler::stepped::Stepped;
+use std::alloc::{AllocError, Global};
+use std::sync::ledger::Ledger;
+use well_founded::examination::Founded;
+
+/// An object that was made again: its shape and, in token order, the labels of its atoms, of which
+/// there are none in unlabelled mode.
+#[derive(Drop)]
+pub struct Redrawn {
+    pub shape: Shape,
+    pub labels: Labels,
+}
+
+/// Makes an object and its labels from exactly the bits that the cells spell.
+///
+/// `None` exactly where these bits don't make an object with exactly these cells: where a number that
+/// is drawn has another cell, a bit is left or one more wanted, 60 bits decide nothing, or the attempt
+/// is over the session's room. The session may have any attempt before. Takes memory for the bits,
+/// the shape, the labels and their cells. After 2^64 - 1 visits it answers as out of memory.
+pub fn replay<const F: u32, O: Oracle<F>, L: Ledger>(
+    alloc: Global,
+    founded: &Founded,
+    oracle: &mut O,
+    session: &mut Session,
+    cells: &[Cell],
+    steps: &mut Steps<L>,
+) -> Result<Option<Redrawn>, AllocError>
+    requires fraction { (24 ≤ F) × (F ≤ 56) }
+    requires spec { O.spec oracle.old ≡ founded.now }
+    requires session { SessionBelongs founded.now (O.x oracle.old) session.old }
+    requires cells { AreCells cells.now }
+
+    ensures made { IfOk result (λ answer. IfSome answer (λ made.
+        AreMadeOf founded.now F (O.table oracle.old) session.old.whole cells.now
+        made.shape.items made.labels)) }
+    ensures none { IfOk result (λ answer. IfNone answer ((tokens : List Token) (labels : List ℕ)
+        → ¬ (AreMadeOf founded.now F (O.table oracle.old) session.old.whole cells.now
+        tokens labels))) }
+    ensures ideal { IfOk result (λ answer. IfSome answer (λ made.
+        IsMadeOfItsCells founded.now (O.x oracle.old) session.old.whole
+        (entry_with made.shape.items made.labels cells.now))) }
+
+    ensures session { SessionBelongs founded.now (O.x oracle.old) session.new }
+    ensures whole { session.new.whole ≡ session.old.whole }
+    ensures oracle { LeavesOracle O.spec O.x O.table O.cost O.raised
+        oracle.old oracle.new steps.old steps.new }
+{
+    let mut shelf = SteadyShelf::new(packed(alloc, cells)?);
+    let mut tape = Tape::over(Word::from_bytes(alloc, b"")?);
+    if !attempt(founded, oracle, session, &mut tape, &mut shelf, steps)? {
+        return Ok(None);
+    }
+    let (shape, own) = session.take_made();
+    let Some(rest) = behind(own.items(), cells) else {
+        return Ok(None);
+    };
+    let mode = founded.system().mode();
+    let Some((labels, more)) = labels_of(alloc, mode, shape.size(), &mut tape, &mut shelf)? else {
+        return Ok(None);
+    };
+    if !are_same(more.items(), rest) {
+        return Ok(None);
+    }
+    Ok(Some(Redrawn { shape, labels }))
+}
+
+/// Makes an attempt from its beginning to its end; false where it isn't made.
+fn attempt<const F: u32, O: Oracle<F>, L: Ledger>(
+    founded: &Founded,
+    oracle: &mut O,
+    session: &mut Session,
+    tape: &mut Tape,
+    shelf: &mut SteadyShelf,
+    steps: &mut Steps<L>,
+) -> Result<bool, AllocError>
+    requires fraction { (24 ≤ F) × (F ≤ 56) }
+    requires spec { O.spec oracle.old ≡ founded.now }
+    requires session { SessionBelongs founded.now (O.x oracle.old) session.old }
+    requires belongs { Belongs (λ name. Some shelf.old) tape.old }
+    requires told { bits_of tape.old.source (λ name. Some shelf.old) ≡ Some (file_bit shelf.old) }
+
+    ensures made { IfOk result (λ done. done ≡ true → IsMadeByTable founded.now F
+        (O.table oracle.old) session.old.whole (file_bit shelf.old) tape.old.used
+        (attempt_of session.new tape.new.used)) }
+    ensures rests { IfOk result (λ done. done ≡ true → session.new.pending ≡ []) }
+    ensures ideal { IfOk result (λ done. done ≡ true → IsIdealShape founded.now (O.x oracle.old)
+        session.old.whole session.new.tokens session.new.cells) }
+    ensures never { IfOk result (λ done. done ≡ false → IsNeverMade founded.now F
+        (O.table oracle.old) session.old.whole (file_bit shelf.old) tape.old.used) }
+
+    ensures session { SessionBelongs founded.now (O.x oracle.old) session.new }
+    ensures whole { session.new.whole ≡ session.old.whole }
+    ensures oracle { LeavesOracle O.spec O.x O.table O.cost O.raised
+        oracle.old oracle.new steps.old steps.new }
+    ensures belongs { Belongs (λ name. Some shelf.new) tape.new }
+    ensures source { tape.new.source ≡ tape.old.source }
+    ensures shelf { shelf.new ≡ shelf.old }
+{
+    session.begin()?;
+    'visits: for visit in 0..u64::MAX {
+        match session.step(founded, oracle, tape, shelf, steps) {
+            Stepped::Moved => {}
+            Stepped::Made => return Ok(true),
+            Stepped::OutOfMemory => return Err(AllocError),
+            Stepped::Overshot
+            | Stepped::Straddles { .. }
+            | Stepped::Ended
+            | Stepped::ReadFault => return Ok(false),
+        }
+        oracle.known();
+    }
+    Err(AllocError)
+}
+
+/// The labels of `n` atoms with the cells of the numbers drawn for them; `None` where they aren't
+/// drawn.
+fn labels_of(
+    alloc: Global,
+    mode: Mode,
+    n: u64,
+    tape: &mut Tape,
+    shelf: &mut SteadyShelf,
+) -> Result<Option<(Labels, Cells)>, AllocError>
+    requires within_limit { n ≤ 1000000 }
+    requires belongs { Belongs (λ name. Some shelf.old) tape.old }
+    requires told { bits_of tape.old.source (λ name. Some shelf.old) ≡ Some (file_bit shelf.old) }
+
+    ensures some { IfOk result (λ answer. IfSome answer (λ p.
+        GetLabels (spec_mode mode) (file_bit shelf.old) n tape.old.used p.0 p.1.items tape.new.used)) }
+    ensures ideal { IfOk result (λ answer. IfSome answer (λ p.
+        AreIdeally (spec_mode mode) n p.0 p.1.items)) }
+    ensures none { IfOk result (λ answer. IfNone answer ((labels : List ℕ) (cells : List Cell)
+        (end : ℕ)
+        → ¬ (GetLabels (spec_mode mode) (file_bit shelf.old) n tape.old.used labels cells end))) }
+{
+    match mode {
+        Mode::Unlabelled => Ok(Some((Labels::new(alloc), Cells::new(alloc)))),
+        Mode::Labelled => match label(alloc, n, tape, shelf) {
+            Labelled::Labels { labels, cells } => Ok(Some((labels, cells))),
+            Labelled::OutOfMemory => Err(AllocError),
+            Labelled::Straddles { .. } | Labelled::Ended | Labelled::ReadFault => Ok(None),
+        },
+    }
+}
+
+/// The cells behind these at the front of others.
+fn behind<'a>(front: &[Cell], cells: &'a [Cell]) -> Option<&'a [Cell]>
+    ensures found { IfSome result (λ rest. cells.now ≡ front.now ++ rest.now) }
+    ensures none { IfNone result ((rest : List Cell) → cells.now ≢ front.now ++ rest) }
+{
+    cells.strip_prefix(front)
+}
+
+/// Whether cells are the same.
+fn are_same(these: &[Cell], those: &[Cell]) -> bool
+    ensures { IsTrue result ↔ (these.now ≡ those.now) }
+{
+    these == those
+}
