@@ -1,1 +1,6 @@
-
+pub mod Resting
+pub mod Moving
+pub mod Replays
+pub mod Refusals
+pub mod Attempts
+pub mod FileBits

@@ -3,6 +3,7 @@ ghost use Rattle.std.specs.Prelude.{◌≡◌, ◌≢◌, ◌+◌, ◌*◌, ◌/
 ghost use Rattle.bz_model.specs.Cell.{AreCells, IsCell, bits_of, spelled};
 ghost use Rattle.bit_tape.specs.Bits.{file_bit};
 ghost use Rattle.bit_tape.specs.Given.{HasBits};
+ghost use Rattle.choice_draw.specs.Draw.{bit_number};
 
 use bz_model::cell::Cell;
 use std::alloc::{AllocError, Global};
@@ -74,7 +75,7 @@ impl Packing {
     fn push(&mut self, bit: bool) -> Result<(), AllocError>
         ensures { OnOk result (self.new ≡ self.old ++ bit ∷ []) }
     {
-        let last = 2 * self.last + u8::from(bit);
+        let last = 2 * self.last + number_of(bit);
         if self.count < 7 {
             self.last = last;
             self.count += 1;
@@ -89,15 +90,23 @@ impl Packing {
         Ok(())
     }
 
-    /// The bytes, with zeros after the last bit.
+    /// The bytes that are full after seven more zeros: they have all bits.
     fn into_bytes(mut self) -> Result<Vec<u8>, AllocError>
         ensures { IfOk result (λ bytes. HasBits (file_bit bytes.items) 0 self) }
     {
-        'zeros: while self.count > 0 {
+        for _zero in 0..7 {
             self.push(false)?;
         }
         Ok(self.bytes)
     }
+}
+
+/// A bit as a number.
+fn number_of(bit: bool) -> u8
+    ensures number { result ≡ bit_number bit }
+    ensures small { result ≤ 1 }
+{
+    if bit { 1 } else { 0 }
 }
 
 /// The bit of a number at a place, counted from the lowest.

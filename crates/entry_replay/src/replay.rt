@@ -124,18 +124,18 @@ fn attempt<const F: u32, O: Oracle<F>, L: Ledger>(
     ensures source { tape.new.source ≡ tape.old.source }
     ensures shelf { shelf.new ≡ shelf.old }
 {
+    oracle.known();
     session.begin()?;
     'visits: for visit in 0..u64::MAX {
-        match session.step(founded, oracle, tape, shelf, steps) {
+        let answer = session.step(founded, oracle, tape, shelf, steps);
+        oracle.known();
+        match answer {
             Stepped::Moved => {}
             Stepped::Made => return Ok(true),
             Stepped::OutOfMemory => return Err(AllocError),
-            Stepped::Overshot
-            | Stepped::Straddles { .. }
-            | Stepped::Ended
-            | Stepped::ReadFault => return Ok(false),
+            // Over the room, or cut short: no read of the shelf fails.
+            _ => return Ok(false),
         }
-        oracle.known();
     }
     Err(AllocError)
 }

@@ -1,0 +1,65 @@
+-- What was replayed over a tape that begins with the bits of the cells is made of the cells.
+use Rattle.std.proofs.Common.{◌≡◌, ℕ, ◌+◌, arith, Bool, List, [], ◌∷◌, ◌++◌, length, refl, sym, ◌∙◌, ap, subst}
+use Rattle.std.specs.Prelude.{Option, None, slice_get}
+use Rattle.bz_model.specs.declared.cell.Bounds.{Bounds}
+use Rattle.bz_model.specs.declared.cell.Cell.{Cell}
+use Rattle.bz_model.specs.Cell.{spelled}
+use Rattle.bz_model.specs.Fraction.{Fraction}
+use Rattle.bz_model.specs.Spec.{Spec, Mode}
+use Rattle.bit_tape.specs.Given.{HasBits}
+use Rattle.bit_tape.proofs.GivenBits.{has_bits-first, has_bits-more}
+use Rattle.labelling.proofs.SpelledLabels.{spelled-both}
+use Rattle.object_store.specs.declared.token.Token.{Token}
+use Rattle.object_store.specs.Tokens.{size_of}
+use Rattle.shape_sampler.specs.Answer.{ChoosesBy}
+use Rattle.shape_sampler.specs.Belonging.{IsIdealShape}
+use Rattle.shape_sampler.specs.Visit.{Chooser, Attempt}
+use Rattle.size_window.specs.Follows.{IsMadeOfItsCells}
+use Rattle.size_window.specs.RunByBits.{Limits, Entry}
+use Rattle.size_window.proofs.Going.{GivesLabels, gives-none, gives-ideal, made-of-its-cells}
+use Rattle.size_window.proofs.Redrawing.{has-own}
+use Rattle.entry_replay.specs.Replay.{entry_with, AreMadeOf, IsMadeFrom, IsMadeByTable, GetLabels, AreIdeally}
+use Rattle.entry_replay.proofs.Moving.{places, made-used, get-moves, SameLabels, get-one, IsReplayed, redrawn-replayed, replayed-redrawn, replayed-moves}
+
+-- What was drawn over a tape: an attempt, and then labels with these further cells.
+pub record HasDrawn (s : Spec) (F : ℕ) (table : (level node : ℕ) → Bounds) (greatest : ℕ) (bits : ℕ → Option Bool) (made : Attempt) (labels : List ℕ) (more : List Cell) (end : ℕ) : Type 0 where
+  pub attempt : IsMadeByTable s F table greatest bits 0 made
+  pub labelled : GetLabels s.mode bits (size_of made.tokens) made.used labels more end
+
+module _ (s : Spec) (F : ℕ) (table : (level node : ℕ) → Bounds) (greatest : ℕ) (bits : ℕ → Option Bool) (made : Attempt) (labels : List ℕ) (more cells : List Cell) (end : ℕ) where
+  -- the bits used end where those of the cells do
+  own-end : (c : Chooser) → ChoosesBy s F table c → HasDrawn s F table greatest bits made labels more end → cells ≡ made.cells ++ more → HasBits bits 0 (spelled cells) → IsReplayed c greatest bits 0 (entry_with made.tokens labels cells)
+  own-end c by d is have =
+      let from = d.attempt.made_so c by in
+      let both : HasBits bits 0 (spelled made.cells ++ spelled more) = subst (HasBits bits 0) (ap spelled is ∙ spelled-both made.cells more) have in
+      let used = made-used c greatest bits 0 made from (has_bits-first bits 0 (spelled made.cells) (spelled more) both) in
+      let further : HasBits bits made.used (spelled more) = subst (λ n. HasBits bits n (spelled more)) (sym used) (has_bits-more bits 0 (spelled made.cells) (spelled more) both) in
+      let again = get-moves s.mode bits (size_of made.tokens) made.used labels more end d.labelled bits made.used further in
+      let ends : made.used + length (spelled more) ≡ 0 + length (spelled cells) = ap (λ n. n + length (spelled more)) used ∙ places 0 made.cells more cells is in
+      record {
+        made = made;
+        from = from;
+        tokens = refl;
+        size = refl;
+        more = more;
+        cells = is;
+        labels = subst (λ m. GetLabels m bits (size_of made.tokens) made.used labels more (0 + length (spelled cells))) (ap (λ (t : Spec). t.mode) (sym by.same_spec))
+            (subst (GetLabels s.mode bits (size_of made.tokens) made.used labels more) ends again);
+      }
+
+  -- it is made of the cells
+  pub drawn-made : HasDrawn s F table greatest bits made labels more end → cells ≡ made.cells ++ more → HasBits bits 0 (spelled cells) → AreMadeOf s F table greatest cells made.tokens labels
+  drawn-made d is have = record {
+    redrawn = λ c by.
+        replayed-redrawn c greatest (slice_get (spelled cells)) 0 (entry_with made.tokens labels cells)
+        (replayed-moves c greatest bits 0 (entry_with made.tokens labels cells) (own-end c by d is have) (slice_get (spelled cells)) 0 (has-own (spelled cells)));
+  }
+
+gives : (s : Spec) (mode : Mode) → s.mode ≡ mode → (n : ℕ) (labels : List ℕ) (cells : List Cell) → AreIdeally mode n labels cells → GivesLabels s n labels cells
+gives s Mode.Unlabelled is n labels cells h = subst (λ ls. GivesLabels s n ls cells) (sym h.0) (subst (λ cs. GivesLabels s n [] cs) (sym h.1) (gives-none s is n))
+gives s Mode.Labelled is n labels cells h = gives-ideal s is n labels cells h
+
+-- and ideal making makes it
+pub drawn-ideally : (s : Spec) (x : Fraction) (greatest : ℕ) (tokens : List Token) (own more cells : List Cell) (labels : List ℕ) → IsIdealShape s x greatest tokens own → AreIdeally s.mode (size_of tokens) labels more → cells ≡ own ++ more → IsMadeOfItsCells s x greatest (entry_with tokens labels cells)
+drawn-ideally s x greatest tokens own more cells labels shape ideal is =
+    made-of-its-cells s x (record { min = 0; max = greatest; count = 0; turns = 0 }) tokens own more labels shape (gives s s.mode refl (size_of tokens) labels more ideal) (entry_with tokens labels cells) refl refl is
