@@ -6,3 +6,6 @@ pub mod Ranges
 pub mod Reading
 pub mod Stages
 pub mod Stops
+pub mod Verdicts
+pub mod Checks
+pub mod Soundness

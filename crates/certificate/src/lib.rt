@@ -15,10 +15,13 @@
 pub mod certificate;
 pub mod closing;
 pub mod digest;
+mod entry_tests;
 mod fields;
 pub mod laws;
 mod lines;
 mod pattern;
 pub mod read;
+pub mod reason;
 mod stages;
+pub mod verify;
 pub mod write;

@@ -1,12 +1,14 @@
 -- The bits of a file's bytes, and bits put one after the other into bytes.
-use Rattle.std.proofs.Common.{◌≡◌, ℕ, zero, suc, ◌+◌, ◌-◌, ◌*◌, ◌/◌, ◌%◌, ◌^◌, ◌<◌, ◌≤◌, arith, Bool, List, [], ◌∷◌, ◌++◌, length, replicate, cond, append-nil, append_assoc, length-append, Option, Some, None, refl, sym, ◌∙◌, ap, subst}
+use Rattle.std.proofs.Common.{◌≡◌, ℕ, zero, suc, ◌+◌, ◌-◌, ◌*◌, ◌/◌, ◌%◌, ◌^◌, ◌<◌, ◌≤◌, arith, Bool, List, [], ◌∷◌, ◌++◌, length, replicate, take, get_or, cond, append-nil, append_assoc, length-append, Option, Some, None, refl, sym, ◌∙◌, ap, subst}
 use Rattle.std.proofs.lemmas.Bool.{lt-ltb}
+use Rattle.std.proofs.lemmas.List.{take_more}
 use Rattle.std.specs.Prelude.{slice_get, option_map, nat_eq, nat_lt, true, false}
 use Rattle.bz_model.specs.declared.cell.Cell.{Cell}
 use Rattle.bz_model.specs.Cell.{bits_of, bits_of_bytes, spelled}
 use Rattle.bit_tape.specs.Bits.{file_bit, byte_bit, within_tape}
 use Rattle.bit_tape.specs.Given.{HasBits}
 use Rattle.bit_tape.proofs.GivenBits.{has_bits-append, has_bits-first}
+use Rattle.labelling.proofs.SpelledLabels.{spelled-both}
 use Rattle.choice_draw.specs.Draw.{bit_number}
 use Rattle.choice_draw.proofs.LeastCells.{bits-length, halved-bits}
 
@@ -110,3 +112,11 @@ bits-left front left next k bit all is at h =
     ∙ ap (λ b. front ++ (b ∷ bits_of next k)) at
     ∙ ap (λ n. front ++ bits_of n k) (let z : suc next ≡ left = omega arith in z)
     ∙ h
+
+-- the bits of one cell more
+pub spelled-more : (cells : List Cell) (i : ℕ) (d : Cell) (before next : List Bool) → i < length cells → before ≡ spelled (take i cells) → next ≡ before ++ bits_of (get_or cells i d).b (get_or cells i d).k → next ≡ spelled (take (i + 1) cells)
+spelled-more cells i d before next h is more =
+    let cell = get_or cells i d in
+    let one : spelled (take (i + 1) cells) ≡ spelled (take i cells) ++ bits_of (get_or cells i d).b (get_or cells i d).k =
+        ap spelled (take_more cells i d h) ∙ spelled-both (take i cells) (get_or cells i d ∷ []) ∙ ap (λ bs. spelled (take i cells) ++ bs) (append-nil (bits_of (get_or cells i d).b (get_or cells i d).k)) in
+    more ∙ ap (λ bs. bs ++ bits_of (get_or cells i d).b (get_or cells i d).k) is ∙ sym one

@@ -4,3 +4,4 @@ pub mod Replays
 pub mod Refusals
 pub mod Attempts
 pub mod FileBits
+pub mod Fronts

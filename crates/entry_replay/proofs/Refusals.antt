@@ -1,6 +1,5 @@
 -- When cells make no object, and that they make one at most.
 use Rattle.std.proofs.Common.{◌≡◌, ◌≢◌, ℕ, ◌+◌, Bool, List, [], ◌++◌, length, refl, sym, ◌∙◌, ap, subst}
-use Rattle.std.proofs.lemmas.List.{append_cancel_left}
 use Rattle.std.specs.Prelude.{Option, None, slice_get}
 use Rattle.bz_model.specs.declared.cell.Bounds.{Bounds}
 use Rattle.bz_model.specs.declared.cell.Cell.{Cell}
@@ -17,7 +16,7 @@ use Rattle.size_window.proofs.TablesIdeally.{chooses-by}
 use Rattle.well_founded.specs.EmptyObjects.{has_empty}
 use Rattle.well_founded.proofs.Orderly.{orderly}
 use Rattle.well_founded.proofs.Stages.{marked-zero, zero-marked}
-use Rattle.entry_replay.specs.Replay.{entry_with, AreMadeOf, IsMadeByTable, IsNeverMade, GetLabels}
+use Rattle.entry_replay.specs.Replay.{entry_with, AreMadeOf, IsMadeByTable, IsNeverMade, IsNotLabelled, GetLabels}
 use Rattle.entry_replay.proofs.Resting.{made-one}
 use Rattle.entry_replay.proofs.Moving.{SameLabels, get-one, IsReplayed, redrawn-replayed, replayed-moves}
 
@@ -64,20 +63,9 @@ module _ (s : Spec) (sound : IsSound s) (F : ℕ) (table : (level node : ℕ) �
           moded : (r : IsReplayed chooser greatest bits 0 (entry_with tokens labels cells)) → GetLabels s.mode bits (size_of r.made.tokens) r.made.used labels r.more (0 + length (spelled cells))
           moded r = subst (λ (t : Spec). GetLabels t.mode bits (size_of r.made.tokens) r.made.used labels r.more (0 + length (spelled cells))) by-table.same_spec r.labels
 
-      -- its cells aren't at the front
-      pub not-behind : ((rest : List Cell) → cells ≢ made.cells ++ rest) → ⊥
-      not-behind none = let e = same in none e.more e.cells_are
-
-      -- its atoms get no labels
-      pub not-labelled : ((ls : List ℕ) (more : List Cell) (end : ℕ) → ¬ (GetLabels s.mode bits (size_of made.tokens) made.used ls more end)) → ⊥
-      not-labelled none = let e = same in none labels e.more e.end e.labelled
-
-      -- they get labels with other cells
-      pub other-cells : (ls : List ℕ) (more rest : List Cell) (end : ℕ) → GetLabels s.mode bits (size_of made.tokens) made.used ls more end → cells ≡ made.cells ++ rest → more ≢ rest → ⊥
-      other-cells ls more rest end got is differ =
-          let e = same in
-          let one = get-one s.mode bits (size_of made.tokens) made.used labels ls e.more more e.end end e.labelled got in
-          differ (sym one.cells_are ∙ append_cancel_left made.cells e.more rest (sym e.cells_are ∙ is))
+      -- it isn't labelled with these cells
+      pub not-labelled : IsNotLabelled s.mode bits (size_of made.tokens) made.used made.cells cells → ⊥
+      not-labelled n = let e = same in n.none labels e.more e.end e.labelled e.cells_are
 
   -- two objects made of the same cells are one
   pub made-of-one : (cells : List Cell) (tokens others : List Token) (labels told : List ℕ) → AreMadeOf s F table greatest cells tokens labels → AreMadeOf s F table greatest cells others told → (tokens ≡ others) × (labels ≡ told)

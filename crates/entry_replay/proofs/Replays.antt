@@ -1,9 +1,12 @@
 -- What was replayed over a tape that begins with the bits of the cells is made of the cells.
-use Rattle.std.proofs.Common.{◌≡◌, ℕ, ◌+◌, arith, Bool, List, [], ◌∷◌, ◌++◌, length, refl, sym, ◌∙◌, ap, subst}
-use Rattle.std.specs.Prelude.{Option, None, slice_get}
+use Rattle.std.proofs.Common.{◌≡◌, ℕ, ◌+◌, arith, Bool, List, [], ◌∷◌, ◌++◌, length, append-nil, refl, sym, ◌∙◌, ap, subst}
+use Rattle.std.specs.Prelude.{Option, Some, None, Result, Ok, Err, IfOk, IfSome, IfNone, slice_get}
 use Rattle.bz_model.specs.declared.cell.Bounds.{Bounds}
 use Rattle.bz_model.specs.declared.cell.Cell.{Cell}
-use Rattle.bz_model.specs.Cell.{spelled}
+use Rattle.bz_model.specs.Cell.{spelled, AreInCells}
+use Rattle.bz_model.specs.Making.{ClassMakes, Just}
+use Rattle.bz_model.specs.Measures.{size}
+use Rattle.bz_model.specs.Run.{KeepsLabels}
 use Rattle.bz_model.specs.Fraction.{Fraction}
 use Rattle.bz_model.specs.Spec.{Spec, Mode}
 use Rattle.bit_tape.specs.Given.{HasBits}
@@ -11,12 +14,15 @@ use Rattle.bit_tape.proofs.GivenBits.{has_bits-first, has_bits-more}
 use Rattle.labelling.proofs.SpelledLabels.{spelled-both}
 use Rattle.object_store.specs.declared.token.Token.{Token}
 use Rattle.object_store.specs.Tokens.{size_of}
+use Rattle.object_store.proofs.Sizes.{size_of-tokens}
 use Rattle.shape_sampler.specs.Answer.{ChoosesBy}
 use Rattle.shape_sampler.specs.Belonging.{IsIdealShape}
 use Rattle.shape_sampler.specs.Visit.{Chooser, Attempt}
+use Rattle.shape_sampler.proofs.Numbers.{apart}
 use Rattle.size_window.specs.Follows.{IsMadeOfItsCells}
 use Rattle.size_window.specs.RunByBits.{Limits, Entry}
-use Rattle.size_window.proofs.Going.{GivesLabels, gives-none, gives-ideal, made-of-its-cells}
+use Rattle.size_window.specs.Follows.{MakesOf}
+use Rattle.size_window.proofs.Going.{GivesLabels, gives-none, gives-ideal}
 use Rattle.size_window.proofs.Redrawing.{has-own}
 use Rattle.entry_replay.specs.Replay.{entry_with, AreMadeOf, IsMadeFrom, IsMadeByTable, GetLabels, AreIdeally}
 use Rattle.entry_replay.proofs.Moving.{places, made-used, get-moves, SameLabels, get-one, IsReplayed, redrawn-replayed, replayed-redrawn, replayed-moves}
@@ -61,5 +67,36 @@ gives s Mode.Labelled is n labels cells h = gives-ideal s is n labels cells h
 
 -- and ideal making makes it
 pub drawn-ideally : (s : Spec) (x : Fraction) (greatest : ℕ) (tokens : List Token) (own more cells : List Cell) (labels : List ℕ) → IsIdealShape s x greatest tokens own → AreIdeally s.mode (size_of tokens) labels more → cells ≡ own ++ more → IsMadeOfItsCells s x greatest (entry_with tokens labels cells)
-drawn-ideally s x greatest tokens own more cells labels shape ideal is =
-    made-of-its-cells s x (record { min = 0; max = greatest; count = 0; turns = 0 }) tokens own more labels shape (gives s s.mode refl (size_of tokens) labels more ideal) (entry_with tokens labels cells) refl refl is
+drawn-ideally s x greatest tokens own more cells labels shape ideal is = record {
+  kept = record { object = shape.object; labels = labels };
+  entry = record { tokens = shape.spelled; labels = refl };
+  made = λ us inside. makes us (subst (λ cs. AreInCells us cs) is inside);
+}
+  where
+    sized : size_of tokens ≡ size shape.object
+    sized = ap size_of (sym shape.spelled) ∙ size_of-tokens shape.object
+
+    gives-these : GivesLabels s (size_of tokens) labels more
+    gives-these = gives s s.mode refl (size_of tokens) labels more ideal
+
+    makes : (us : List Fraction) → AreInCells us (own ++ more) → MakesOf s x greatest us (record { object = shape.object; labels = labels })
+    makes us inside =
+        let p = apart us own more inside in
+        record {
+          room_left = shape.room_left;
+          after = p.back;
+          makes = subst (λ vs. ClassMakes s x 0 greatest vs (Just shape.object shape.room_left) p.back) (sym p.whole) (shape.made p.front p.back p.in_front);
+          labels = subst (λ vs. KeepsLabels s.mode (size shape.object) vs labels []) (append-nil p.back) (subst (λ n. KeepsLabels s.mode n (p.back ++ []) labels []) sized (gives-these.gives p.back [] p.in_back));
+        }
+
+-- what holds of an answer that is there
+pub some-of : {A E : Type 0} (P Q : A → Type 0) → ((a : A) → P a → Q a) → (r : Result (Option A) E) → IfOk r (λ o. IfSome o P) → IfOk r (λ o. IfSome o Q)
+some-of P Q f (Ok None) h = tt
+some-of P Q f (Ok (Some a)) h = f a h
+some-of P Q f (Err e) h = tt
+
+-- and where there is none
+pub none-of : {A E : Type 0} (P Q : Type 0) → (P → Q) → (r : Result (Option A) E) → IfOk r (λ o. IfNone o P) → IfOk r (λ o. IfNone o Q)
+none-of P Q f (Ok None) h = f h
+none-of P Q f (Ok (Some a)) h = tt
+none-of P Q f (Err e) h = tt

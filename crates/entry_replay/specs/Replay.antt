@@ -1,5 +1,5 @@
 -- What is made of the bits that cells spell.
-use Rattle.std.specs.Prelude.{◌≡◌, ℕ, Bool, List, [], ◌++◌, Option, None}
+use Rattle.std.specs.Prelude.{◌≡◌, ◌≢◌, ℕ, Bool, List, [], ◌++◌, Option, None}
 use Rattle.bz_model.specs.declared.cell.Bounds.{Bounds}
 use Rattle.bz_model.specs.declared.cell.Cell.{Cell}
 use Rattle.bz_model.specs.Spec.{Spec, Mode}
@@ -44,3 +44,15 @@ GetLabels Mode.Labelled bits n place labels cells end = labelling (bit_of bits N
 abbrev pub AreIdeally : Mode → (n : ℕ) → (labels : List ℕ) → List Cell → Type 0
 AreIdeally Mode.Unlabelled n labels cells = (labels ≡ []) × (cells ≡ [])
 AreIdeally Mode.Labelled n labels cells = AreIdealLabels n labels cells
+
+-- A shape of n atoms with its own cells is labelled: the atoms get these labels, ideally, from the place on, and the cells are its own followed by those of the labels.
+pub record IsLabelledBy (mode : Mode) (bits : ℕ → Option Bool) (n place : ℕ) (own cells : List Cell) (labels : List ℕ) : Type 0 where
+  pub more : List Cell
+  pub end : ℕ
+  pub got : GetLabels mode bits n place labels more end
+  pub ideally : AreIdeally mode n labels more
+  pub whole : cells ≡ own ++ more
+
+-- The cells aren't its own followed by those of labels.
+pub record IsNotLabelled (mode : Mode) (bits : ℕ → Option Bool) (n place : ℕ) (own cells : List Cell) : Type 0 where
+  pub none : (labels : List ℕ) (more : List Cell) (end : ℕ) → GetLabels mode bits n place labels more end → cells ≢ own ++ more

@@ -94,7 +94,7 @@ impl Packing {
     fn into_bytes(mut self) -> Result<Vec<u8>, AllocError>
         ensures { IfOk result (λ bytes. HasBits (file_bit bytes.items) 0 self) }
     {
-        for _zero in 0..7 {
+        for _zero in 0..7_u32 {
             self.push(false)?;
         }
         Ok(self.bytes)

@@ -1,16 +1,17 @@
 //! Replays: an attempt and a labelling over the bits that cells spell.
-ghost use Rattle.std.specs.Prelude.{◌≡◌, ◌≢◌, ℕ, ◌+◌, ◌<◌, ◌≤◌, ◌↔◌, ◌++◌, [], List, Bool, true, false, IsTrue, IfOk, IfSome, IfNone, OnOk, Some, None};
+ghost use Rattle.std.specs.Prelude.{◌≡◌, ◌≢◌, ℕ, ◌+◌, ◌<◌, ◌≤◌, ◌↔◌, ◌∷◌, ◌++◌, [], List, Bool, true, false, IsTrue, IfOk, IfSome, IfNone, OnOk, Some, None};
 ghost use Rattle.bz_model.specs.Cell.{AreCells};
 ghost use Rattle.bz_model.specs.Oracle.{LeavesOracle};
 ghost use Rattle.bz_model.specs.declared.cell.Cell.{Cell};
 ghost use Rattle.bit_tape.specs.Bits.{file_bit};
 ghost use Rattle.bit_tape.specs.Tape.{Belongs, bits_of};
 ghost use Rattle.class_system.specs.Views.{spec_mode};
+ghost use Rattle.object_store.specs.Tokens.{size_of};
 ghost use Rattle.object_store.specs.declared.token.Token.{Token};
 ghost use Rattle.shape_sampler.specs.Belonging.{IsIdealShape};
 ghost use Rattle.shape_sampler.specs.State.{SessionBelongs, attempt_of};
 ghost use Rattle.size_window.specs.Follows.{IsMadeOfItsCells};
-ghost use Rattle.entry_replay.specs.Replay.{entry_with, AreMadeOf, IsMadeByTable, IsNeverMade, GetLabels, AreIdeally};
+ghost use Rattle.entry_replay.specs.Replay.{entry_with, AreMadeOf, IsMadeByTable, IsNeverMade, GetLabels, AreIdeally, IsLabelledBy, IsNotLabelled};
 
 use crate::packing::packed;
 use bit_tape::tape::Tape;
@@ -73,23 +74,57 @@ pub fn replay<const F: u32, O: Oracle<F>, L: Ledger>(
     ensures oracle { LeavesOracle O.spec O.x O.table O.cost O.raised
         oracle.old oracle.new steps.old steps.new }
 {
-    let mut shelf = SteadyShelf::new(packed(alloc, cells)?);
+    let system = founded.system();
+    system.known();
+    let bytes = packed(alloc, cells)?;
+    let mut shelf = SteadyShelf::new(bytes);
     let mut tape = Tape::over(Word::from_bytes(alloc, b"")?);
-    if !attempt(founded, oracle, session, &mut tape, &mut shelf, steps)? {
+    let done = attempt(founded, oracle, session, &mut tape, &mut shelf, steps)?;
+    if !done {
         return Ok(None);
     }
     let (shape, own) = session.take_made();
-    let Some(rest) = behind(own.items(), cells) else {
+    label_again(alloc, system.mode(), shape, &own, cells, &mut tape, &mut shelf)
+}
+
+/// Labels a shape that was made with its own cells, where the cells are these followed by those of its
+/// labels.
+fn label_again(
+    alloc: Global,
+    mode: Mode,
+    shape: Shape,
+    own: &Cells,
+    cells: &[Cell],
+    tape: &mut Tape,
+    shelf: &mut SteadyShelf,
+) -> Result<Option<Redrawn>, AllocError>
+    requires within_limit { size_of shape.items ≤ 1000000 }
+    requires belongs { Belongs (λ name. Some shelf.old) tape.old }
+    requires told { bits_of tape.old.source (λ name. Some shelf.old) ≡ Some (file_bit shelf.old) }
+
+    ensures some { IfOk result (λ answer. IfSome answer (λ made.
+        (made.shape.items ≡ shape.items) × IsLabelledBy (spec_mode mode) (file_bit shelf.old)
+        (size_of shape.items) tape.old.used own.now.items cells.now made.labels)) }
+    ensures none { IfOk result (λ answer. IfNone answer (IsNotLabelled (spec_mode mode)
+        (file_bit shelf.old) (size_of shape.items) tape.old.used own.now.items cells.now)) }
+{
+    let Some(given) = labels_of(alloc, mode, shape.size(), tape, shelf)? else {
         return Ok(None);
     };
-    let mode = founded.system().mode();
-    let Some((labels, more)) = labels_of(alloc, mode, shape.size(), &mut tape, &mut shelf)? else {
-        return Ok(None);
-    };
-    if !are_same(more.items(), rest) {
+    if !are_joined(own.items(), given.cells.items(), cells) {
         return Ok(None);
     }
-    Ok(Some(Redrawn { shape, labels }))
+    Ok(Some(Redrawn {
+        shape,
+        labels: given.labels,
+    }))
+}
+
+/// The labels of a shape, with the cells of the numbers drawn for them.
+#[derive(Drop)]
+struct Given {
+    labels: Labels,
+    cells: Cells,
 }
 
 /// Makes an attempt from its beginning to its end; false where it isn't made.
@@ -148,27 +183,45 @@ fn labels_of(
     n: u64,
     tape: &mut Tape,
     shelf: &mut SteadyShelf,
-) -> Result<Option<(Labels, Cells)>, AllocError>
+) -> Result<Option<Given>, AllocError>
     requires within_limit { n ≤ 1000000 }
     requires belongs { Belongs (λ name. Some shelf.old) tape.old }
     requires told { bits_of tape.old.source (λ name. Some shelf.old) ≡ Some (file_bit shelf.old) }
 
-    ensures some { IfOk result (λ answer. IfSome answer (λ p.
-        GetLabels (spec_mode mode) (file_bit shelf.old) n tape.old.used p.0 p.1.items tape.new.used)) }
-    ensures ideal { IfOk result (λ answer. IfSome answer (λ p.
-        AreIdeally (spec_mode mode) n p.0 p.1.items)) }
+    ensures some { IfOk result (λ answer. IfSome answer (λ given.
+        GetLabels (spec_mode mode) (file_bit shelf.old) n tape.old.used given.labels
+        given.cells.items tape.new.used)) }
+    ensures ideal { IfOk result (λ answer. IfSome answer (λ given.
+        AreIdeally (spec_mode mode) n given.labels given.cells.items)) }
     ensures none { IfOk result (λ answer. IfNone answer ((labels : List ℕ) (cells : List Cell)
         (end : ℕ)
         → ¬ (GetLabels (spec_mode mode) (file_bit shelf.old) n tape.old.used labels cells end))) }
 {
     match mode {
-        Mode::Unlabelled => Ok(Some((Labels::new(alloc), Cells::new(alloc)))),
+        Mode::Unlabelled => Ok(Some(Given {
+            labels: Labels::new(alloc),
+            cells: Cells::new(alloc),
+        })),
         Mode::Labelled => match label(alloc, n, tape, shelf) {
-            Labelled::Labels { labels, cells } => Ok(Some((labels, cells))),
+            Labelled::Labels { labels, cells } => Ok(Some(Given { labels, cells })),
             Labelled::OutOfMemory => Err(AllocError),
             Labelled::Straddles { .. } | Labelled::Ended | Labelled::ReadFault => Ok(None),
         },
     }
+}
+
+/// Whether cells are these followed by those.
+fn are_joined(own: &[Cell], more: &[Cell], cells: &[Cell]) -> bool
+    ensures joined { result ≡ true → cells.now ≡ own.now ++ more.now }
+    ensures other { result ≡ false → cells.now ≢ own.now ++ more.now }
+{
+    let Some(rest) = behind(own, cells) else {
+        return false;
+    };
+    let Some(left) = behind(more, rest) else {
+        return false;
+    };
+    left.is_empty()
 }
 
 /// The cells behind these at the front of others.
@@ -176,12 +229,37 @@ fn behind<'a>(front: &[Cell], cells: &'a [Cell]) -> Option<&'a [Cell]>
     ensures found { IfSome result (λ rest. cells.now ≡ front.now ++ rest.now) }
     ensures none { IfNone result ((rest : List Cell) → cells.now ≢ front.now ++ rest) }
 {
-    cells.strip_prefix(front)
+    let mut rest = cells;
+    for cell in front {
+        let Some(next) = behind_one(*cell, rest) else {
+            return None;
+        };
+        rest = next;
+    }
+    Some(rest)
+}
+
+/// The cells behind this one at the front of others.
+fn behind_one(cell: Cell, cells: &[Cell]) -> Option<&[Cell]>
+    ensures found { IfSome result (λ rest. cells.now ≡ cell ∷ rest.now) }
+    ensures none { IfNone result ((rest : List Cell) → cells.now ≢ cell ∷ rest) }
+{
+    match cells {
+        [first, rest @ ..] => {
+            if is_same(*first, cell) {
+                Some(rest)
+            } else {
+                None
+            }
+        }
+        [] => None,
+    }
 }
 
 /// Whether cells are the same.
-fn are_same(these: &[Cell], those: &[Cell]) -> bool
-    ensures { IsTrue result ↔ (these.now ≡ those.now) }
+fn is_same(this: Cell, that: Cell) -> bool
+    ensures same { result ≡ true → this ≡ that }
+    ensures other { result ≡ false → this ≢ that }
 {
-    these == those
+    this.k == that.k && this.b == that.b
 }

@@ -21,16 +21,16 @@ returns-in-Made-clause-made g c =
 pub returns-in-Made-clause-shelf : goal.returns-in-Made-clause-shelf
 returns-in-Made-clause-shelf g c = same-shelf c.visits.shelf c.step-answer.new.shelf _ _ refl refl c.step-answer.ensures.tape.content ∙ c.visits.invariant.shelf
 
-pub returns-in_default-answer-clause-shelf : goal.returns-in_default-answer-clause-shelf
-returns-in_default-answer-clause-shelf g c = same-shelf c.visits.shelf c.step-answer.new.shelf _ _ refl refl c.step-answer.ensures.tape.content ∙ c.visits.invariant.shelf
+pub returns-in_default-clause-shelf : goal.returns-in_default-clause-shelf
+returns-in_default-clause-shelf g c = same-shelf c.visits.shelf c.step-answer.new.shelf _ _ refl refl c.step-answer.ensures.tape.content ∙ c.visits.invariant.shelf
 
-pub returns-in_default-answer-clause-never : goal.returns-in_default-answer-clause-never
-returns-in_default-answer-clause-never g c =
+pub returns-in_default-clause-never : goal.returns-in_default-clause-never
+returns-in_default-clause-never g c =
     let inv = c.visits.invariant in
     let told = still-told c.visits.tape.source c.args.tape.now.source c.args.shelf.now c.visits.shelf (Some (file_bit c.args.shelf.now)) inv.source inv.shelf c.requires.told in
     let exact = subst (λ t. IsVisitByBits c.args.founded.now g.row.F t (bits_of c.visits.tape.source (λ name. Some c.visits.shelf)) c.visits.session c.visits.tape.used c.step-answer.result c.step-answer.new.self c.step-answer.new.tape.used) inv.oracle.table (c.step-answer.ensures.exact inv.stopped) in
     let steady = no-fault-answer c.step-answer.result c.visits.session.stopped c.visits.tape.source inv.stopped c.step-answer.ensures.tape.faults in
-    λ done. way-never c.args.founded.now g.row.F (g.O.Oracle.table c.args.oracle.now) (file_bit c.args.shelf.now) c.args.tape.now.used c.args.session.now.whole c.visits.visit c.visits.session c.step-answer.new.self c.visits.tape.used c.step-answer.new.tape.used c.step-answer.result (bits_of c.visits.tape.source (λ name. Some c.visits.shelf)) told inv.way exact c.in_default-answer.not-OutOfMemory steady c.in_default-answer.not-Moved c.in_default-answer.not-Made
+    λ done. way-never c.args.founded.now g.row.F (g.O.Oracle.table c.args.oracle.now) (file_bit c.args.shelf.now) c.args.tape.now.used c.args.session.now.whole c.visits.visit c.visits.session c.step-answer.new.self c.visits.tape.used c.step-answer.new.tape.used c.step-answer.result (bits_of c.visits.tape.source (λ name. Some c.visits.shelf)) told inv.way exact c.in_default.not-OutOfMemory steady c.in_default.not-Moved c.in_default.not-Made
 
 pub visits-preserved : goal.visits-preserved
 visits-preserved g c =

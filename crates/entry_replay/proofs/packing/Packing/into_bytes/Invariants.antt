@@ -3,5 +3,5 @@ use Rattle.std.specs.Prelude.{false}
 use Rattle.entry_replay.proofs.packing.Packing.into_bytes.Given as goal
 
 -- so many zeros were put
-abbrev pub invariant-loop-_zero : goal.invariant-loop-_zero
-invariant-loop-_zero l = l.self ≡ l.initial.self ++ replicate l._zero false
+abbrev pub invariant-loop-zero : goal.invariant-loop-zero
+invariant-loop-zero l = l.self ≡ l.initial.self ++ replicate l._zero false
