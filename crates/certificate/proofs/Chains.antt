@@ -24,3 +24,20 @@ one-verdict (c ∷ cs) v w (inl p) (inl q) = one-verdict cs v w p.1 q.1
 one-verdict (c ∷ cs) v w (inl p) (inr q) = absurd (q.0 p.0)
 one-verdict (c ∷ cs) v w (inr p) (inl q) = absurd (p.0 q.0)
 one-verdict (c ∷ cs) v w (inr p) (inr q) = p.1 ∙ sym q.1
+
+-- The tests of a certificate: of its lines before the base, of the names, of the values, of the entries and of the closing.
+module _ (header names values entries closing : List Check) (v : Verdict) where
+  pub at-header : FirstFails header v → v ≢ Valid → FirstFails (header ++ ((names ++ values) ++ (entries ++ closing))) v
+  at-header h n = fails-first header ((names ++ values) ++ (entries ++ closing)) v h n
+
+  pub at-names : FirstFails header Valid → FirstFails names v → v ≢ Valid → FirstFails (header ++ ((names ++ values) ++ (entries ++ closing))) v
+  at-names a h n = passes-then header ((names ++ values) ++ (entries ++ closing)) v a (fails-first (names ++ values) (entries ++ closing) v (fails-first names values v h n) n)
+
+  pub at-values : FirstFails header Valid → FirstFails names Valid → FirstFails values v → v ≢ Valid → FirstFails (header ++ ((names ++ values) ++ (entries ++ closing))) v
+  at-values a b h n = passes-then header ((names ++ values) ++ (entries ++ closing)) v a (fails-first (names ++ values) (entries ++ closing) v (passes-then names values v b h) n)
+
+  pub at-entries : FirstFails header Valid → FirstFails names Valid → FirstFails values Valid → FirstFails entries v → v ≢ Valid → FirstFails (header ++ ((names ++ values) ++ (entries ++ closing))) v
+  at-entries a b c h n = passes-then header ((names ++ values) ++ (entries ++ closing)) v a (passes-then (names ++ values) (entries ++ closing) v (passes-then names values Valid b c) (fails-first entries closing v h n))
+
+  pub at-closing : FirstFails header Valid → FirstFails names Valid → FirstFails values Valid → FirstFails entries Valid → FirstFails closing v → FirstFails (header ++ ((names ++ values) ++ (entries ++ closing))) v
+  at-closing a b c d h = passes-then header ((names ++ values) ++ (entries ++ closing)) v a (passes-then (names ++ values) (entries ++ closing) v (passes-then names values Valid b c) (passes-then entries closing v d h))

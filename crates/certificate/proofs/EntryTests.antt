@@ -1,10 +1,12 @@
 -- The tests of an entry, from what was made of its cells.
-use Rattle.std.proofs.Common.{◌≡◌, ◌≢◌, ℕ, suc, ◌+◌, ◌≤◌, arith, inl, inr, List, [], ◌∷◌, ◌++◌, length, take, drop, refl, sym, ◌∙◌, ap, subst}
+use Rattle.std.proofs.Common.{◌≡◌, ◌≢◌, ℕ, zero, suc, ◌+◌, ◌<◌, ◌≤◌, arith, get_or, drop-cons, inl, inr, List, [], ◌∷◌, ◌++◌, length, take, drop, refl, sym, ◌∙◌, ap, subst}
+use Rattle.std.proofs.lemmas.List.{take_more}
 use Rattle.std.specs.List.{AllByRecursion}
 use Rattle.bz_model.specs.declared.cell.Bounds.{Bounds}
 use Rattle.bz_model.specs.Fraction.{Fraction}
 use Rattle.bz_model.specs.Measures.{size}
 use Rattle.bz_model.specs.Object.{Object}
+use Rattle.bz_model.specs.ObjectText.{object_text}
 use Rattle.bz_model.specs.Run.{Kept, KeepsLabels}
 use Rattle.bz_model.specs.Spec.{Spec, Mode}
 use Rattle.bz_laws.proofs.Labelled.{one_to}
@@ -54,11 +56,12 @@ module _ (s : Spec) (x : Fraction) (greatest : ℕ) (tokens : List Token) (label
     where
       text-sound : IsSized least greatest (size_of tokens) e → FirstFails (check (IsTextWith s tokens labels e.text) (line + 1) reason.Text ∷ []) Valid → IsSoundEntry s x least greatest e
       text-sound sized (inl q) =
-          let of = made-is-of in
+          let c = first-made.makes in
+          let of : IsOf s 0 tokens = record { body = c.0; is_body = c.1; object = m.kept.object; belongs = (fine s x c.2).0; spelled = m.entry.tokens } in
           record {
             kept = m.kept;
             made = m.made;
-            text = record { body = of.body; is_body = of.is_body; belongs = of.belongs; text_is = q.0.text_is of ∙ ? };
+            text = record { body = of.body; is_body = of.is_body; belongs = of.belongs; text_is = q.0.text_is of ∙ ap (object_text s of.body of.object of.belongs) (sym m.entry.labels) };
             size_is = size-is ∙ sized.size_is;
             from = sized.from;
             to = sized.to;
@@ -97,3 +100,51 @@ module _ (s : Spec) (sound : IsSound s) (F : ℕ) (table : (level node : ℕ) �
 pub record AreTested (s : Spec) (F : ℕ) (table : (level node : ℕ) → Bounds) (x : Fraction) (least greatest first : ℕ) (entries : List CertEntry) (index number place line : ℕ) : Type 0 where
   pub further : (v : Verdict) → FirstFails (entries_checks s F table least greatest number place line (drop index entries)) v → FirstFails (entries_checks s F table least greatest 0 0 first entries) v
   pub sound : AllByRecursion (IsSoundEntry s x least greatest) (take index entries)
+
+module _ (s : Spec) (F : ℕ) (table : (level node : ℕ) → Bounds) (x : Fraction) (least greatest first : ℕ) (entries : List CertEntry) where
+  -- none was tested yet
+  pub tested-none : AreTested s F table x least greatest first entries 0 0 0 first
+  tested-none = record { further = λ v h. h; sound = tt }
+
+  module _ (index number place line : ℕ) (t : AreTested s F table x least greatest first entries index number place line) (e : CertEntry) (is : e ≡ get_or entries index e) (inside : index < length entries) where
+    split : drop index entries ≡ e ∷ drop (suc index) entries
+    split = drop-cons entries index e inside ∙ ap (λ d. d ∷ drop (suc index) entries) (sym is)
+
+    whole : (v : Verdict) → FirstFails (entries_checks s F table least greatest number place line (e ∷ drop (suc index) entries)) v → FirstFails (entries_checks s F table least greatest 0 0 first entries) v
+    whole v h = t.further v (subst (λ es. FirstFails (entries_checks s F table least greatest number place line es) v) (sym split) h)
+
+    -- one more passes
+    pub tested-more : (next there : ℕ) → next ≡ number + 1 → there ≡ line + 3 → FirstFails (entry_checks s F table least greatest number place line e) Valid → IsSoundEntry s x least greatest e → AreTested s F table x least greatest first entries (index + 1) next (e.place + bits_in e.cells.items) there
+    tested-more next there one three ok sound = record {
+      further = λ v h. whole v (passes-then (entry_checks s F table least greatest number place line e) (entries_checks s F table least greatest (suc number) (e.place + bits_in e.cells.items) (line + 3) (drop (suc index) entries)) v ok
+          (subst (λ n. FirstFails (entries_checks s F table least greatest n (e.place + bits_in e.cells.items) (line + 3) (drop (suc index) entries)) v) (let z : next ≡ suc number = omega arith in z)
+          (subst (λ l. FirstFails (entries_checks s F table least greatest next (e.place + bits_in e.cells.items) l (drop (suc index) entries)) v) three
+          (subst (λ i. FirstFails (entries_checks s F table least greatest next (e.place + bits_in e.cells.items) there (drop i entries)) v) (let z : index + 1 ≡ suc index = omega arith in z) h))));
+      sound = subst (AllByRecursion (IsSoundEntry s x least greatest)) (sym (take_more entries index e inside)) (all-more (take index entries) (get_or entries index e) t.sound (subst (IsSoundEntry s x least greatest) is sound));
+    }
+      where
+        all-more : (es : List CertEntry) (d : CertEntry) → AllByRecursion (IsSoundEntry s x least greatest) es → IsSoundEntry s x least greatest d → AllByRecursion (IsSoundEntry s x least greatest) (es ++ d ∷ [])
+        all-more [] d h i = (i, tt)
+        all-more (b ∷ es) d h i = (h.0, all-more es d h.1 i)
+
+    -- or fails
+    pub tested-fails : (v : Verdict) → FirstFails (entry_checks s F table least greatest number place line e) v → v ≢ Valid → FirstFails (entries_checks s F table least greatest 0 0 first entries) v
+    tested-fails v h n = whole v (fails-first (entry_checks s F table least greatest number place line e) (entries_checks s F table least greatest (suc number) (e.place + bits_in e.cells.items) (line + 3) (drop (suc index) entries)) v h n)
+
+  -- all pass
+  pub tested-all : (index number place line : ℕ) → length entries ≤ index → AreTested s F table x least greatest first entries index number place line → FirstFails (entries_checks s F table least greatest 0 0 first entries) Valid × AllByRecursion (IsSoundEntry s x least greatest) entries
+  tested-all index number place line past t =
+      (t.further Valid (subst (λ es. FirstFails (entries_checks s F table least greatest number place line es) Valid) (sym (drop_past entries index past)) refl),
+      subst (AllByRecursion (IsSoundEntry s x least greatest)) (take_past entries index past) t.sound)
+    where
+      drop_past : (es : List CertEntry) (i : ℕ) → length es ≤ i → drop i es ≡ []
+      drop_past [] zero h = refl
+      drop_past [] (suc i) h = refl
+      drop_past (d ∷ es) zero h = let no : ⊥ = omega arith in absurd no
+      drop_past (d ∷ es) (suc i) h = drop_past es i (omega arith)
+
+      take_past : (es : List CertEntry) (i : ℕ) → length es ≤ i → take i es ≡ es
+      take_past [] zero h = refl
+      take_past [] (suc i) h = refl
+      take_past (d ∷ es) zero h = let no : ⊥ = omega arith in absurd no
+      take_past (d ∷ es) (suc i) h = ap (λ r. d ∷ r) (take_past es i (omega arith))

@@ -14,3 +14,6 @@ pub mod ReadLines
 pub mod StageLines
 pub mod WordFronts
 pub mod Writing
+pub mod BaseTests
+pub mod Chains
+pub mod EntryTests

@@ -67,13 +67,15 @@ pub(crate) fn test_entries<const F: u32, O: Oracle<F>, L: Ledger>(
     ensures oracle { LeavesOracle O.spec O.x O.table O.cost O.raised
         oracle.old oracle.new steps.old steps.new }
 {
+    oracle.known();
     let mut before = Before {
         number: 0,
         place: 0,
         line,
     };
-    'entries: for entry in entries {
+    'tests: for entry in entries {
         let tested = test_entry(alloc, founded, oracle, session, window, entry, before, steps)?;
+        oracle.known();
         let Verdict::Valid = tested else {
             return Ok(tested);
         };

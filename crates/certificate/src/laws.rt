@@ -2,7 +2,11 @@
 //!
 //! Each law is a function without effect, whose clauses hold of all values that they name.
 ghost use Rattle.std.specs.Prelude.{◌≡◌, ℕ, List};
+ghost use Rattle.bz_model.specs.Spec.{Spec};
 ghost use Rattle.certificate.specs.declared.certificate.Certificate.{Certificate};
+ghost use Rattle.certificate.specs.declared.reason.Verdict.{Verdict};
+ghost use Rattle.certificate.specs.Checks.{checks};
+ghost use Rattle.certificate.specs.Verdicts.{FirstFails};
 ghost use Rattle.certificate.specs.Certificates.{IsCertificate, certificate_lines};
 ghost use Rattle.certificate.specs.Lines.{text_of};
 ghost use Rattle.certificate.specs.Ranges.{IsInRange};
@@ -25,4 +29,10 @@ pub fn one_text_one_certificate()
 pub fn first_bad_line_is_one()
     ensures { (bytes : List ℕ) (line other : ℕ) → IsFirstBad bytes line → IsFirstBad bytes other
         → line ≡ other }
+{}
+
+/// A certificate has one verdict: the tests in order tell at most one.
+pub fn a_certificate_has_one_verdict()
+    ensures { (s : Spec) (F : ℕ) (c : Certificate) (told other : Verdict)
+        → FirstFails (checks s F c) told → FirstFails (checks s F c) other → told ≡ other }
 {}

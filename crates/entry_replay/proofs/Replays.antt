@@ -9,6 +9,7 @@ use Rattle.bz_model.specs.Measures.{size}
 use Rattle.bz_model.specs.Run.{KeepsLabels}
 use Rattle.bz_model.specs.Fraction.{Fraction}
 use Rattle.bz_model.specs.Spec.{Spec, Mode}
+use Rattle.bit_tape.specs.Bits.{file_bit}
 use Rattle.bit_tape.specs.Given.{HasBits}
 use Rattle.bit_tape.proofs.GivenBits.{has_bits-first, has_bits-more}
 use Rattle.labelling.proofs.SpelledLabels.{spelled-both}
@@ -24,7 +25,7 @@ use Rattle.size_window.specs.RunByBits.{Limits, Entry}
 use Rattle.size_window.specs.Follows.{MakesOf}
 use Rattle.size_window.proofs.Going.{GivesLabels, gives-none, gives-ideal}
 use Rattle.size_window.proofs.Redrawing.{has-own}
-use Rattle.entry_replay.specs.Replay.{entry_with, AreMadeOf, IsMadeFrom, IsMadeByTable, GetLabels, AreIdeally}
+use Rattle.entry_replay.specs.Replay.{entry_with, AreMadeOf, IsMadeFrom, IsMadeByTable, GetLabels, AreIdeally, IsLabelledBy}
 use Rattle.entry_replay.proofs.Moving.{places, made-used, get-moves, SameLabels, get-one, IsReplayed, redrawn-replayed, replayed-redrawn, replayed-moves}
 
 -- What was drawn over a tape: an attempt, and then labels with these further cells.
@@ -100,3 +101,23 @@ pub none-of : {A E : Type 0} (P Q : Type 0) → (P → Q) → (r : Result (Optio
 none-of P Q f (Ok None) h = f h
 none-of P Q f (Ok (Some a)) h = tt
 none-of P Q f (Err e) h = tt
+
+-- what is said of a labelling, in other words for the same mode, shelf, tokens and cells
+pub moved : (P : Mode → (ℕ → Option Bool) → ℕ → List Cell → Type 0) (m n : Mode) (shelf bytes : List ℕ) (tokens others : List Token) (own cells : List Cell) → m ≡ n → shelf ≡ bytes → tokens ≡ others → own ≡ cells → P m (file_bit shelf) (size_of tokens) own → P n (file_bit bytes) (size_of others) cells
+moved P m n shelf bytes tokens others own cells one two three four h =
+    subst (λ k. P k (file_bit bytes) (size_of others) cells) one
+    (subst (λ b. P m (file_bit b) (size_of others) cells) two
+    (subst (λ t. P m (file_bit shelf) (size_of t) cells) three
+    (subst (λ c. P m (file_bit shelf) (size_of tokens) c) four h)))
+
+-- a labelled attempt is made of the cells
+pub labelled-made : (s : Spec) (F : ℕ) (table : (level node : ℕ) → Bounds) (greatest : ℕ) (bits : ℕ → Option Bool) (made : Attempt) (labels : List ℕ) (cells : List Cell) (tokens : List Token) → IsMadeByTable s F table greatest bits 0 made → tokens ≡ made.tokens → IsLabelledBy s.mode bits (size_of made.tokens) made.used made.cells cells labels → HasBits bits 0 (spelled cells) → AreMadeOf s F table greatest cells tokens labels
+labelled-made s F table greatest bits made labels cells tokens attempt is l have =
+    subst (λ ts. AreMadeOf s F table greatest cells ts labels) (sym is)
+    (drawn-made s F table greatest bits made labels l.more cells l.end (record { attempt = attempt; labelled = l.got }) l.whole have)
+
+-- and ideally
+pub labelled-ideally : (s : Spec) (x : Fraction) (greatest : ℕ) (bits : ℕ → Option Bool) (place : ℕ) (made : List Token) (own cells : List Cell) (labels : List ℕ) (tokens : List Token) → IsIdealShape s x greatest made own → tokens ≡ made → IsLabelledBy s.mode bits (size_of made) place own cells labels → IsMadeOfItsCells s x greatest (entry_with tokens labels cells)
+labelled-ideally s x greatest bits place made own cells labels tokens shape is l =
+    subst (λ ts. IsMadeOfItsCells s x greatest (entry_with ts labels cells)) (sym is)
+    (drawn-ideally s x greatest made own l.more cells labels shape l.ideally l.whole)

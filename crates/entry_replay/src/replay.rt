@@ -57,6 +57,7 @@ pub fn replay<const F: u32, O: Oracle<F>, L: Ledger>(
     requires fraction { (24 ≤ F) × (F ≤ 56) }
     requires spec { O.spec oracle.old ≡ founded.now }
     requires session { SessionBelongs founded.now (O.x oracle.old) session.old }
+    requires room { session.old.whole ≤ 1000000 }
     requires cells { AreCells cells.now }
 
     ensures made { IfOk result (λ answer. IfSome answer (λ made.
