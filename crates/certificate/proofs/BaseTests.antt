@@ -14,7 +14,7 @@ told : (line place there : ℕ) → suc line + place ≡ there → Invalid (suc 
 told line place there is = ap (λ n. Invalid n reason.Base) is
 
 -- names that agree up to a place
-pub abbrev Agree : (names classes : List (List ℕ)) → (places : ℕ) → Type 0
+abbrev pub Agree : (names classes : List (List ℕ)) → (places : ℕ) → Type 0
 Agree names classes places = (i : ℕ) → i < places → slice_get names i ≡ slice_get classes i
 
 later : (n c : List ℕ) (names classes : List (List ℕ)) (places : ℕ) → Agree (n ∷ names) (c ∷ classes) (suc places) → Agree names classes places

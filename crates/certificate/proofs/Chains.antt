@@ -1,5 +1,6 @@
 -- Verdicts on tests that follow one another.
 use Rattle.std.proofs.Common.{◌≡◌, ◌≢◌, ℕ, ◌⊎◌, inl, inr, List, [], ◌∷◌, ◌++◌, refl, sym, ◌∙◌}
+use Rattle.std.specs.Prelude.{Result, Ok, Err, IfOk}
 use Rattle.certificate.specs.declared.reason.Verdict.{Verdict}
 use Rattle.certificate.specs.declared.reason.Verdict.TheVariants.{Valid, Invalid}
 use Rattle.certificate.specs.Verdicts.{Check, FirstFails}
@@ -41,3 +42,8 @@ module _ (header names values entries closing : List Check) (v : Verdict) where
 
   pub at-closing : FirstFails header Valid → FirstFails names Valid → FirstFails values Valid → FirstFails entries Valid → FirstFails closing v → FirstFails (header ++ ((names ++ values) ++ (entries ++ closing))) v
   at-closing a b c d h = passes-then header ((names ++ values) ++ (entries ++ closing)) v a (passes-then (names ++ values) (entries ++ closing) v (passes-then names values Valid b c) (passes-then entries closing v d h))
+
+-- what holds of a result that is there
+pub ok-of : {A E : Type 0} (P Q : A → Type 0) → ((a : A) → P a → Q a) → (r : Result A E) → IfOk r P → IfOk r Q
+ok-of P Q f (Ok a) h = f a h
+ok-of P Q f (Err e) h = tt

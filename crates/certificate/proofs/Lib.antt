@@ -17,3 +17,6 @@ pub mod Writing
 pub mod BaseTests
 pub mod Chains
 pub mod EntryTests
+pub mod HeaderTests
+pub mod Tests
+pub mod Complete

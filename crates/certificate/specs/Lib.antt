@@ -9,3 +9,4 @@ pub mod Stops
 pub mod Verdicts
 pub mod Checks
 pub mod Soundness
+pub mod Completeness

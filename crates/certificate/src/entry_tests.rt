@@ -57,6 +57,7 @@ pub(crate) fn test_entries<const F: u32, O: Oracle<F>, L: Ledger>(
     requires spec { O.spec oracle.old ≡ founded.now }
     requires session { SessionBelongs founded.now (O.x oracle.old) session.old }
     requires room { session.old.whole ≡ window.greatest }
+    requires within { window.greatest ≤ 1000000 }
     requires few { length entries.now ≤ 2 ^ 60 }
     requires small { line ≤ 71 }
     ensures verdict { IfOk result (FirstFails (entries_checks founded.now F (O.table oracle.old) window.least
@@ -126,6 +127,7 @@ fn test_entry<const F: u32, O: Oracle<F>, L: Ledger>(
     requires spec { O.spec oracle.old ≡ founded.now }
     requires session { SessionBelongs founded.now (O.x oracle.old) session.old }
     requires room { session.old.whole ≡ window.greatest }
+    requires within { window.greatest ≤ 1000000 }
     requires number { before.number < 2 ^ 60 }
     requires line { before.line < 2 ^ 63 }
     ensures verdict { IfOk result (FirstFails (entry_checks founded.now F (O.table oracle.old) window.least
@@ -137,13 +139,17 @@ fn test_entry<const F: u32, O: Oracle<F>, L: Ledger>(
     ensures oracle { LeavesOracle O.spec O.x O.table O.cost O.raised
         oracle.old oracle.new steps.old steps.new }
 {
+    let system = founded.system();
+    system.known();
     if !is_next(entry, before) {
         return Ok(Verdict::Invalid {
             line: before.line,
             reason: Reason::Object,
         });
     }
-    let Some(made) = replay(alloc, founded, oracle, session, entry.cells.items(), steps)? else {
+    let cells = entry.cells.items();
+    let answer = replay(alloc, founded, oracle, session, cells, steps)?;
+    let Some(made) = answer else {
         return Ok(Verdict::Invalid {
             line: before.line + 2,
             reason: Reason::Cells,

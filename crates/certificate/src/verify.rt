@@ -1,6 +1,7 @@
 //! Testing a certificate against a specification.
-ghost use Rattle.std.specs.Prelude.{◌≡◌, ◌≢◌, true, false, slice_get, ◌^◌, ◌+◌, ◌*◌, ◌<◌, ◌≤◌, ◌∷◌, [], map, length, Option, Some, IfOk, IfErr, unwrap_or};
+ghost use Rattle.std.specs.Prelude.{◌≡◌, ◌≢◌, ◌↔◌, IsTrue, true, false, slice_get, ◌^◌, ◌+◌, ◌*◌, ◌<◌, ◌≤◌, ◌∷◌, [], map, length, Option, Some, IfOk, IfErr, unwrap_or};
 ghost use Rattle.bz_model.specs.Fraction.{ratio};
+ghost use Rattle.class_system.specs.Views.{spec_mode};
 ghost use Rattle.oracle_memo.specs.Levels.{cost_at};
 ghost use Rattle.rounded_map.specs.Bounding.{AreAbove};
 ghost use Rattle.rounded_map.specs.RoundedMap.{IsPostFixed, values_up, bodies_up};
@@ -17,6 +18,7 @@ use crate::digest::SpecDigest;
 use crate::entry_tests::{Window, test_entries};
 use crate::reason::{Reason, Verdict};
 use bz_model::steps::Steps;
+use class_system::draft::Mode;
 use class_system::ids::ClassId;
 use class_system::names::Names;
 use class_system::system::System;
@@ -99,19 +101,37 @@ pub fn verify<const F: u32, L: Ledger>(
 fn test_header<const F: u32>(system: &System, header: &Header) -> Result<Verdict, AllocError>
     ensures { IfOk result (FirstFails (header_checks system.now F header.now)) }
 {
-    if header.mode != system.mode() {
+    if !are_same(header.mode, system.mode()) {
         return Ok(Verdict::Invalid {
             line: 2,
             reason: Reason::Mode,
         });
     }
-    if !is_digest_of(&header.digest, system)? {
+    let has_digest = is_digest_of(&header.digest, system)?;
+    if !has_digest {
         return Ok(Verdict::Invalid {
             line: 3,
             reason: Reason::Spec,
         });
     }
     Ok(test_limits::<F>(header))
+}
+
+/// Whether two modes are the same.
+fn are_same(this: Mode, that: Mode) -> bool
+    ensures same { result ≡ true → spec_mode this ≡ spec_mode that }
+    ensures other { result ≡ false → spec_mode this ≢ spec_mode that }
+{
+    match this {
+        Mode::Unlabelled => match that {
+            Mode::Unlabelled => true,
+            Mode::Labelled => false,
+        },
+        Mode::Labelled => match that {
+            Mode::Unlabelled => false,
+            Mode::Labelled => true,
+        },
+    }
 }
 
 /// Whether a digest, where there is one, is that of the specification's canonical text.
@@ -135,19 +155,33 @@ fn test_limits<const F: u32>(header: &Header) -> Verdict
         ∷ check (HasWindow header.now) (5 + digest_count header.now.digest) reason.Window ∷ []) result }
 {
     let line = base_line(&header.digest);
-    if header.fraction != F || (header.version == 1 && F != 48) {
+    if !has_fraction::<F>(header) {
         return Verdict::Invalid {
             line: line - 2,
             reason: Reason::Fraction,
         };
     }
-    if header.min > header.max || header.max > 1_000_000 {
+    if !has_window(header) {
         return Verdict::Invalid {
             line: line - 1,
             reason: Reason::Window,
         };
     }
     Verdict::Valid
+}
+
+/// Whether the fraction bits are those of the call, and 48 in version 1.
+fn has_fraction<const F: u32>(header: &Header) -> bool
+    ensures { IsTrue result ↔ HasFraction F header.now }
+{
+    header.fraction == F && (header.version != 1 || F == 48)
+}
+
+/// Whether the window is one of sizes up to 1000000.
+fn has_window(header: &Header) -> bool
+    ensures { IsTrue result ↔ HasWindow header.now }
+{
+    header.min <= header.max && header.max <= 1_000_000
 }
 
 /// The first line of the base, with a line for the digest where there is one.
