@@ -43,6 +43,10 @@ module _ (header names values entries closing : List Check) (v : Verdict) where
   pub at-closing : FirstFails header Valid → FirstFails names Valid → FirstFails values Valid → FirstFails entries Valid → FirstFails closing v → FirstFails (header ++ ((names ++ values) ++ (entries ++ closing))) v
   at-closing a b c d h = passes-then header ((names ++ values) ++ (entries ++ closing)) v a (passes-then (names ++ values) (entries ++ closing) v (passes-then names values Valid b c) (passes-then entries closing v d h))
 
+  -- what follows the base
+  pub at-rest : FirstFails header Valid → FirstFails names Valid → FirstFails values Valid → FirstFails (entries ++ closing) v → FirstFails (header ++ ((names ++ values) ++ (entries ++ closing))) v
+  at-rest a b c h = passes-then header ((names ++ values) ++ (entries ++ closing)) v a (passes-then (names ++ values) (entries ++ closing) v (passes-then names values Valid b c) h)
+
 -- what holds of a result that is there
 pub ok-of : {A E : Type 0} (P Q : A → Type 0) → ((a : A) → P a → Q a) → (r : Result A E) → IfOk r P → IfOk r Q
 ok-of P Q f (Ok a) h = f a h

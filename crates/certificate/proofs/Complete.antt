@@ -9,7 +9,7 @@ use Rattle.certificate.specs.declared.certificate.CertEntry.{CertEntry}
 use Rattle.certificate.specs.declared.certificate.Certificate.{Certificate}
 use Rattle.certificate.specs.declared.reason.Reason.TheVariants as reason
 use Rattle.certificate.specs.declared.reason.Verdict.TheVariants.{Valid}
-use Rattle.certificate.specs.Checks.{check, checks, header_checks, name_checks, value_checks, base_line, entries_line, end_line, setting_of, levels_of, entry_checks, entries_checks}
+use Rattle.certificate.specs.Checks.{check, checks, header_checks, name_checks, value_checks, first_base_line, first_entry_line, last_line, setting_of, levels_of, entry_checks, entries_checks}
 use Rattle.certificate.specs.Completeness.{IsKept, AreKept, IsOfDrawing}
 use Rattle.certificate.specs.Verdicts.{FirstFails}
 use Rattle.certificate.proofs.BaseTests.{names-pass, values-pass}
@@ -31,13 +31,13 @@ same-names line names = names-pass line (length names) names names refl refl (λ
 pub complete : (s : Spec) (F : ℕ) (c : Certificate) → IsSound s → IsOfDrawing s F c → FirstFails (checks s F c) Valid
 complete s F c sound d =
     at-closing (header_checks s F c.header)
-    (name_checks (base_line c.header) c.header.names s.names)
-    (value_checks (base_line c.header) (bodies_up (setting_of s F c.header) (values_up (setting_of s F c.header) c.header.base)) c.header.base)
-    (entries_checks s F (levels_of s F c.header) c.header.min c.header.max 0 0 (entries_line c.header) c.entries)
-    (check (c.closing.kept ≡ length c.entries) (end_line c) reason.Closing ∷ [])
+    (name_checks (first_base_line c.header) c.header.names s.names)
+    (value_checks (first_base_line c.header) (bodies_up (setting_of s F c.header) (values_up (setting_of s F c.header) c.header.base)) c.header.base)
+    (entries_checks s F (levels_of s F c.header) c.header.min c.header.max 0 0 (first_entry_line c.header) c.entries)
+    (check (c.closing.kept ≡ length c.entries) (last_line (first_entry_line c.header) c) reason.Closing ∷ [])
     Valid
     (header-rest s F c.header Valid d.mode d.digest (limits-pass F c.header d.fraction d.window))
-    (subst (λ ns. FirstFails (name_checks (base_line c.header) c.header.names ns) Valid) d.names (same-names (base_line c.header) c.header.names))
-    (values-pass (base_line c.header) (bodies_up (setting_of s F c.header) (values_up (setting_of s F c.header) c.header.base)) c.header.base d.post_fixed.each)
-    (entries-pass s sound F (levels_of s F c.header) c.header.min c.header.max 0 0 (entries_line c.header) c.entries d.entries)
+    (subst (λ ns. FirstFails (name_checks (first_base_line c.header) c.header.names ns) Valid) d.names (same-names (first_base_line c.header) c.header.names))
+    (values-pass (first_base_line c.header) (bodies_up (setting_of s F c.header) (values_up (setting_of s F c.header) c.header.base)) c.header.base d.post_fixed.each)
+    (entries-pass s sound F (levels_of s F c.header) c.header.min c.header.max 0 0 (first_entry_line c.header) c.entries d.entries)
     (inl (d.closing, refl))

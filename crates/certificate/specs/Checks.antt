@@ -56,8 +56,8 @@ header_checks s F h =
     ∷ []))
 
 -- The first line of the base.
-abbrev pub base_line : Header → ℕ
-base_line h = 6 + digest_count h.digest
+abbrev pub first_base_line : Header → ℕ
+first_base_line h = 6 + digest_count h.digest
 
 -- The lines of the base name the classes in order, all of them and no other; a line that is missing fails where it should stand.
 abbrev pub name_checks : (line : ℕ) → (names classes : List (List ℕ)) → List Check
@@ -78,8 +78,8 @@ setting_of s F h = setting s h.x.num h.x.den F
 -- The tests of the base.
 abbrev pub base_checks : Spec → (F : ℕ) → Header → List Check
 base_checks s F h =
-    name_checks (base_line h) h.names s.names
-    ++ value_checks (base_line h) (bodies_up (setting_of s F h) (values_up (setting_of s F h) h.base)) h.base
+    name_checks (first_base_line h) h.names s.names
+    ++ value_checks (first_base_line h) (bodies_up (setting_of s F h) (values_up (setting_of s F h) h.base)) h.base
 
 -- The table of bounds of the levels of the base.
 abbrev pub levels_of : Spec → (F : ℕ) → Header → (level node : ℕ) → Bounds
@@ -141,17 +141,22 @@ entries_checks s F table least greatest number place line (e ∷ es) =
     ++ entries_checks s F table least greatest (suc number) (e.place + bits_in e.cells.items) (line + 3) es
 
 -- The first line after the base.
-abbrev pub entries_line : Header → ℕ
-entries_line h = base_line h + length h.names
+abbrev pub first_entry_line : Header → ℕ
+first_entry_line h = first_base_line h + length h.names
 
--- The last line.
-abbrev pub end_line : Certificate → ℕ
-end_line c = entries_line c.header + (3 * length c.entries + length (open_lines c.closing.straddle))
+-- The last line, the first line of the entries being this.
+abbrev pub last_line : (first : ℕ) → Certificate → ℕ
+last_line first c = first + (3 * length c.entries + length (open_lines c.closing.straddle))
 
--- The tests of a certificate in order: of the lines before the base, of the base, of the entries, and of the closing, whose number of kept objects is that of the entries.
+-- The tests of the entries, the first of which is on this line, and of the closing, whose number of kept objects is that of the entries.
+abbrev pub rest_checks : Spec → (F : ℕ) → (first : ℕ) → Certificate → List Check
+rest_checks s F first c =
+    entries_checks s F (levels_of s F c.header) c.header.min c.header.max 0 0 first c.entries
+    ++ check (c.closing.kept ≡ length c.entries) (last_line first c) reason.Closing ∷ []
+
+-- The tests of a certificate in order: of the lines before the base, of the base, of the entries, and of the closing.
 abbrev pub checks : Spec → (F : ℕ) → Certificate → List Check
 checks s F c =
     header_checks s F c.header
     ++ (base_checks s F c.header
-    ++ (entries_checks s F (levels_of s F c.header) c.header.min c.header.max 0 0 (entries_line c.header) c.entries
-    ++ check (c.closing.kept ≡ length c.entries) (end_line c) reason.Closing ∷ []))
+    ++ rest_checks s F (first_entry_line c.header) c)

@@ -1,13 +1,14 @@
 //! Testing a certificate against a specification.
 ghost use Rattle.std.specs.Prelude.{◌≡◌, ◌≢◌, ◌↔◌, IsTrue, true, false, slice_get, ◌^◌, ◌+◌, ◌*◌, ◌<◌, ◌≤◌, ◌∷◌, [], map, length, Option, Some, IfOk, IfErr, unwrap_or};
+ghost use Rattle.std.specs.List.{AllByRecursion};
 ghost use Rattle.bz_model.specs.Fraction.{ratio};
 ghost use Rattle.class_system.specs.Views.{spec_mode};
 ghost use Rattle.oracle_memo.specs.Levels.{cost_at};
 ghost use Rattle.rounded_map.specs.Bounding.{AreAbove};
 ghost use Rattle.rounded_map.specs.RoundedMap.{IsPostFixed, values_up, bodies_up};
 ghost use Rattle.certificate.specs.Certificates.{FitsHeader, open_lines};
-ghost use Rattle.certificate.specs.Checks.{checks, header_checks, digest_checks, digest_count, name_checks, value_checks, base_line, entries_line, setting_of, end_line, HasFraction, HasWindow, check};
-ghost use Rattle.certificate.specs.Soundness.{IsSoundCertificate};
+ghost use Rattle.certificate.specs.Checks.{checks, rest_checks, header_checks, digest_checks, digest_count, name_checks, value_checks, first_base_line, first_entry_line, setting_of, last_line, HasFraction, HasWindow, check};
+ghost use Rattle.certificate.specs.Soundness.{IsSoundEntry, IsSoundCertificate};
 ghost use Rattle.certificate.specs.Verdicts.{FirstFails};
 ghost use Rattle.certificate.specs.declared.reason.Reason.TheVariants as reason;
 ghost use Rattle.certificate.specs.declared.reason.Verdict.TheVariants as verdict;
@@ -54,47 +55,72 @@ pub fn verify<const F: u32, L: Ledger>(
     let system = founded.system();
     system.known();
     let header = &cert.header;
-    let tested = test_header::<F>(system, header)?;
-    let Verdict::Valid = tested else {
-        return Ok(tested);
+    let of_header = test_header::<F>(system, header)?;
+    let Verdict::Valid = of_header else {
+        return Ok(of_header);
     };
-    let line = base_line(&header.digest);
-    let tested = test_names(system, &header.names, line);
-    let Verdict::Valid = tested else {
-        return Ok(tested);
+    let line = first_base_line(&header.digest);
+    let of_names = test_names(system, &header.names, line);
+    let Verdict::Valid = of_names else {
+        return Ok(of_names);
     };
     let values = header.base.items().to_vec(alloc)?;
-    let base = match Base::<F>::check(alloc, founded, header.x, values, steps) {
-        Ok(base) => base,
-        Err(BaseFault::NotPostFixed(fault)) => {
-            return Ok(Verdict::Invalid {
-                line: line + u64::from(fault.class_id.0),
-                reason: Reason::Base,
-            });
+    match Base::<F>::check(alloc, founded, header.x, values, steps) {
+        Ok(base) => {
+            let first = line + u64::from(system.class_count());
+            test_from_base(alloc, founded, cert, base, first, steps)
         }
-        Err(BaseFault::OutOfMemory) => return Err(AllocError),
-    };
+        Err(BaseFault::NotPostFixed(fault)) => Ok(Verdict::Invalid {
+            line: line + u64::from(fault.class_id.0),
+            reason: Reason::Base,
+        }),
+        Err(BaseFault::OutOfMemory) => Err(AllocError),
+    }
+}
+
+/// Tests the entries, the first of which is on this line, and the closing, over the levels of a base.
+fn test_from_base<const F: u32, L: Ledger>(
+    alloc: Global,
+    founded: &Founded,
+    cert: &Certificate,
+    base: Base<F>,
+    first: u64,
+    steps: &mut Steps<L>,
+) -> Result<Verdict, AllocError>
+    requires fraction { (24 ≤ F) × (F ≤ 56) }
+    requires window { cert.now.header.max ≤ 1000000 }
+    requires small { first ≤ 71 }
+    requires base { base ≡ cert.now.header.base }
+    requires post_fixed { IsPostFixed (setting_of founded.now F cert.now.header) cert.now.header.base }
+    ensures verdict { IfOk result (FirstFails (rest_checks founded.now F first cert.now)) }
+    ensures sound { IfOk result (λ told. told ≡ verdict.Valid
+        → AllByRecursion (IsSoundEntry founded.now (ratio cert.now.header.x.num cert.now.header.x.den)
+        cert.now.header.min cert.now.header.max) cert.now.entries) }
+    ensures ticks { steps.new ≤ steps.old + cost_at 6 }
+{
+    let header = &cert.header;
     let mut memo = Memo::make(alloc, founded, header.x, base)?;
+    memo.known();
     let mut session = Session::new(alloc, founded, header.max)?;
-    let line = line + u64::from(system.class_count());
+    let window = Window {
+        least: header.min,
+        greatest: header.max,
+    };
     let entries = cert.entries.items();
-    let tested = test_entries::<F, _, L>(
+    let of_entries = test_entries::<F, _, L>(
         alloc,
         founded,
         &mut memo,
         &mut session,
-        Window {
-            least: header.min,
-            greatest: header.max,
-        },
+        window,
         entries,
-        line,
+        first,
         steps,
     )?;
-    let Verdict::Valid = tested else {
-        return Ok(tested);
+    let Verdict::Valid = of_entries else {
+        return Ok(of_entries);
     };
-    Ok(test_closing(&cert.closing, entries.len() as u64, line))
+    Ok(test_closing(&cert.closing, entries.len() as u64, first))
 }
 
 /// Tests the lines before the base.
@@ -154,7 +180,7 @@ fn test_limits<const F: u32>(header: &Header) -> Verdict
     ensures { FirstFails (check (HasFraction F header.now) (4 + digest_count header.now.digest) reason.Fraction
         ∷ check (HasWindow header.now) (5 + digest_count header.now.digest) reason.Window ∷ []) result }
 {
-    let line = base_line(&header.digest);
+    let line = first_base_line(&header.digest);
     if !has_fraction::<F>(header) {
         return Verdict::Invalid {
             line: line - 2,
@@ -185,7 +211,7 @@ fn has_window(header: &Header) -> bool
 }
 
 /// The first line of the base, with a line for the digest where there is one.
-fn base_line(digest: &Option<SpecDigest>) -> u64
+fn first_base_line(digest: &Option<SpecDigest>) -> u64
     ensures line { result ≡ 6 + digest_count digest.now }
     ensures small { result ≤ 7 }
 {

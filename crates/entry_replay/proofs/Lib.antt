@@ -5,3 +5,4 @@ pub mod Refusals
 pub mod Attempts
 pub mod FileBits
 pub mod Fronts
+pub mod Traces

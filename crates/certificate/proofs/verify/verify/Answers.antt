@@ -1,0 +1,78 @@
+-- The tests of a certificate, one part after the other.
+use Rattle.std.proofs.Common.{◌≡◌, ℕ, ◌+◌, ◌*◌, ◌<◌, ◌≤◌, arith, List, [], ◌∷◌, ◌++◌, length, map, refl, sym, ◌∙◌, ap, subst}
+use Rattle.std.proofs.Common.{length-map}
+use Rattle.bz_model.specs.Fraction.{ratio}
+use Rattle.bz_model.specs.Spec.{Spec}
+use Rattle.rounded_map.specs.RoundedMap.{values_up, bodies_up, IsFirstAbove, IsPostFixed}
+use Rattle.rounded_map.specs.Bounding.{AreAbove}
+use Rattle.certificate.specs.declared.reason.Reason.TheVariants as reason
+use Rattle.certificate.specs.declared.reason.Verdict.TheVariants.{Valid, Invalid}
+use Rattle.certificate.specs.Checks.{check, checks, rest_checks, header_checks, name_checks, value_checks, first_base_line, setting_of, levels_of, entries_checks, first_entry_line, last_line}
+use Rattle.certificate.specs.Soundness.{IsSoundCertificate}
+use Rattle.certificate.specs.Verdicts.{FirstFails}
+use Rattle.certificate.proofs.BaseTests.{names-are, values-pass, values-fail}
+use Rattle.certificate.proofs.Chains.{at-header, at-names, at-values, at-rest, ok-of}
+use Rattle.certificate.proofs.HeaderTests.{header-window}
+use Rattle.certificate.proofs.verify.verify.Goals as goal
+
+pub returns-in_default-clause-verdict : goal.returns-in_default-clause-verdict
+returns-in_default-clause-verdict g c =
+    let sys = c.system-system.ensures.system in
+    let told = subst (λ (s : Spec). FirstFails (header_checks s g.row.F c.args.cert.now.header) c.in_ok-of_header.of_header) sys c.in_ok-of_header.ensures in
+    at-header (header_checks c.args.founded.now g.row.F c.args.cert.now.header)
+    (name_checks (first_base_line c.args.cert.now.header) c.args.cert.now.header.names c.args.founded.now.names)
+    (value_checks (first_base_line c.args.cert.now.header) (bodies_up (setting_of c.args.founded.now g.row.F c.args.cert.now.header) (values_up (setting_of c.args.founded.now g.row.F c.args.cert.now.header) c.args.cert.now.header.base)) c.args.cert.now.header.base)
+    (entries_checks c.args.founded.now g.row.F (levels_of c.args.founded.now g.row.F c.args.cert.now.header) c.args.cert.now.header.min c.args.cert.now.header.max 0 0 (first_entry_line c.args.cert.now.header) c.args.cert.now.entries)
+    (check (c.args.cert.now.closing.kept ≡ length c.args.cert.now.entries) (last_line (first_entry_line c.args.cert.now.header) c.args.cert.now) reason.Closing ∷ [])
+    c.in_ok-of_header.of_header told c.in_default.not-Valid
+
+pub returns-in_default-2-clause-verdict : goal.returns-in_default-2-clause-verdict
+returns-in_default-2-clause-verdict g c =
+    let sys = c.system-system.ensures.system in
+    let told = subst (λ (s : Spec). FirstFails (header_checks s g.row.F c.args.cert.now.header) c.in_ok-of_header.of_header) sys c.in_ok-of_header.ensures in
+    let headed = subst (FirstFails (header_checks c.args.founded.now g.row.F c.args.cert.now.header)) c.in-Valid.is told in
+    let named = subst (λ l. FirstFails (name_checks l c.args.cert.now.header.names c.args.founded.now.names) c.test_names-of_names.result) c.first_base_line-line.ensures.line (subst (λ (s : Spec). FirstFails (name_checks c.first_base_line-line.result c.args.cert.now.header.names s.names) c.test_names-of_names.result) sys c.test_names-of_names.ensures) in
+    at-names (header_checks c.args.founded.now g.row.F c.args.cert.now.header)
+    (name_checks (first_base_line c.args.cert.now.header) c.args.cert.now.header.names c.args.founded.now.names)
+    (value_checks (first_base_line c.args.cert.now.header) (bodies_up (setting_of c.args.founded.now g.row.F c.args.cert.now.header) (values_up (setting_of c.args.founded.now g.row.F c.args.cert.now.header) c.args.cert.now.header.base)) c.args.cert.now.header.base)
+    (entries_checks c.args.founded.now g.row.F (levels_of c.args.founded.now g.row.F c.args.cert.now.header) c.args.cert.now.header.min c.args.cert.now.header.max 0 0 (first_entry_line c.args.cert.now.header) c.args.cert.now.entries)
+    (check (c.args.cert.now.closing.kept ≡ length c.args.cert.now.entries) (last_line (first_entry_line c.args.cert.now.header) c.args.cert.now) reason.Closing ∷ [])
+    c.test_names-of_names.result headed named c.in_default-2.not-Valid
+
+pub check-requires-clause-one_per_class : goal.check-requires-clause-one_per_class
+check-requires-clause-one_per_class g c =
+    let sys = c.system-system.ensures.system in
+    let named = subst (λ l. FirstFails (name_checks l c.args.cert.now.header.names c.args.founded.now.names) c.test_names-of_names.result) c.first_base_line-line.ensures.line (subst (λ (s : Spec). FirstFails (name_checks c.first_base_line-line.result c.args.cert.now.header.names s.names) c.test_names-of_names.result) sys c.test_names-of_names.ensures) in
+    let names_ok = subst (FirstFails (name_checks (first_base_line c.args.cert.now.header) c.args.cert.now.header.names c.args.founded.now.names)) c.in-Valid-2.is named in
+    let same = names-are (first_base_line c.args.cert.now.header) c.args.cert.now.header.names c.args.founded.now.names names_ok in
+    ?
+
+pub returns-in-Err-NotPostFixed-clause-verdict : goal.returns-in-Err-NotPostFixed-clause-verdict
+returns-in-Err-NotPostFixed-clause-verdict g c =
+    let sys = c.system-system.ensures.system in
+    let told = subst (λ (s : Spec). FirstFails (header_checks s g.row.F c.args.cert.now.header) c.in_ok-of_header.of_header) sys c.in_ok-of_header.ensures in
+    let headed = subst (FirstFails (header_checks c.args.founded.now g.row.F c.args.cert.now.header)) c.in-Valid.is told in
+    let named = subst (λ l. FirstFails (name_checks l c.args.cert.now.header.names c.args.founded.now.names) c.test_names-of_names.result) c.first_base_line-line.ensures.line (subst (λ (s : Spec). FirstFails (name_checks c.first_base_line-line.result c.args.cert.now.header.names s.names) c.test_names-of_names.result) sys c.test_names-of_names.ensures) in
+    let names_ok = subst (FirstFails (name_checks (first_base_line c.args.cert.now.header) c.args.cert.now.header.names c.args.founded.now.names)) c.in-Valid-2.is named in
+    let same = names-are (first_base_line c.args.cert.now.header) c.args.cert.now.header.names c.args.founded.now.names names_ok in
+    ?
+
+pub test_from_base-requires-clause-window : goal.test_from_base-requires-clause-window
+test_from_base-requires-clause-window g c =
+    let sys = c.system-system.ensures.system in
+    let told = subst (λ (s : Spec). FirstFails (header_checks s g.row.F c.args.cert.now.header) c.in_ok-of_header.of_header) sys c.in_ok-of_header.ensures in
+    let headed = subst (FirstFails (header_checks c.args.founded.now g.row.F c.args.cert.now.header)) c.in-Valid.is told in
+    let window = header-window c.args.founded.now g.row.F c.args.cert.now.header headed in window.within
+
+pub returns-in-Ok-clause-verdict : goal.returns-in-Ok-clause-verdict
+returns-in-Ok-clause-verdict g c =
+    let sys = c.system-system.ensures.system in
+    let told = subst (λ (s : Spec). FirstFails (header_checks s g.row.F c.args.cert.now.header) c.in_ok-of_header.of_header) sys c.in_ok-of_header.ensures in
+    let headed = subst (FirstFails (header_checks c.args.founded.now g.row.F c.args.cert.now.header)) c.in-Valid.is told in
+    let named = subst (λ l. FirstFails (name_checks l c.args.cert.now.header.names c.args.founded.now.names) c.test_names-of_names.result) c.first_base_line-line.ensures.line (subst (λ (s : Spec). FirstFails (name_checks c.first_base_line-line.result c.args.cert.now.header.names s.names) c.test_names-of_names.result) sys c.test_names-of_names.ensures) in
+    let names_ok = subst (FirstFails (name_checks (first_base_line c.args.cert.now.header) c.args.cert.now.header.names c.args.founded.now.names)) c.in-Valid-2.is named in
+    let same = names-are (first_base_line c.args.cert.now.header) c.args.cert.now.header.names c.args.founded.now.names names_ok in
+    ?
+
+pub returns-in-Ok-clause-sound : goal.returns-in-Ok-clause-sound
+returns-in-Ok-clause-sound g c = ?
