@@ -18,6 +18,7 @@ use crate::closing::Closing;
 use crate::digest::SpecDigest;
 use crate::entry_tests::{Window, test_entries};
 use crate::reason::{Reason, Verdict};
+use bz_model::oracle::Oracle;
 use bz_model::steps::Steps;
 use class_system::draft::Mode;
 use class_system::ids::ClassId;

@@ -1,6 +1,7 @@
 -- The tests of a certificate, one part after the other.
 use Rattle.std.proofs.Common.{◌≡◌, ℕ, ◌+◌, ◌*◌, ◌<◌, ◌≤◌, arith, List, [], ◌∷◌, ◌++◌, length, map, refl, sym, ◌∙◌, ap, subst}
 use Rattle.std.proofs.Common.{length-map}
+use Rattle.std.specs.List.{AllByRecursion}
 use Rattle.bz_model.specs.Fraction.{ratio}
 use Rattle.bz_model.specs.Spec.{Spec}
 use Rattle.rounded_map.specs.RoundedMap.{values_up, bodies_up, IsFirstAbove, IsPostFixed}
@@ -8,7 +9,7 @@ use Rattle.rounded_map.specs.Bounding.{AreAbove}
 use Rattle.certificate.specs.declared.reason.Reason.TheVariants as reason
 use Rattle.certificate.specs.declared.reason.Verdict.TheVariants.{Valid, Invalid}
 use Rattle.certificate.specs.Checks.{check, checks, rest_checks, header_checks, name_checks, value_checks, first_base_line, setting_of, levels_of, entries_checks, first_entry_line, last_line}
-use Rattle.certificate.specs.Soundness.{IsSoundCertificate}
+use Rattle.certificate.specs.Soundness.{IsSoundEntry, IsSoundCertificate}
 use Rattle.certificate.specs.Verdicts.{FirstFails}
 use Rattle.certificate.proofs.BaseTests.{names-are, values-pass, values-fail}
 use Rattle.certificate.proofs.Chains.{at-header, at-names, at-values, at-rest, ok-of}
@@ -45,7 +46,9 @@ check-requires-clause-one_per_class g c =
     let named = subst (λ l. FirstFails (name_checks l c.args.cert.now.header.names c.args.founded.now.names) c.test_names-of_names.result) c.first_base_line-line.ensures.line (subst (λ (s : Spec). FirstFails (name_checks c.first_base_line-line.result c.args.cert.now.header.names s.names) c.test_names-of_names.result) sys c.test_names-of_names.ensures) in
     let names_ok = subst (FirstFails (name_checks (first_base_line c.args.cert.now.header) c.args.cert.now.header.names c.args.founded.now.names)) c.in-Valid-2.is named in
     let same = names-are (first_base_line c.args.cert.now.header) c.args.cert.now.header.names c.args.founded.now.names names_ok in
-    ?
+    let vals : c.in_ok-values.values.items ≡ c.args.cert.now.header.base = c.in_ok-values.ensures.items ∙ c.items.ensures.items in
+    let bodies = ap (λ (s : Spec). length s.bodies) (sym sys) in
+    ap length vals ∙ c.requires.header.one_each ∙ ap length same ∙ ap (λ (s : Spec). length s.names) (sym sys) ∙ sym c.known.ensures.sound.bodies ∙ sym bodies
 
 pub returns-in-Err-NotPostFixed-clause-verdict : goal.returns-in-Err-NotPostFixed-clause-verdict
 returns-in-Err-NotPostFixed-clause-verdict g c =
@@ -55,6 +58,9 @@ returns-in-Err-NotPostFixed-clause-verdict g c =
     let named = subst (λ l. FirstFails (name_checks l c.args.cert.now.header.names c.args.founded.now.names) c.test_names-of_names.result) c.first_base_line-line.ensures.line (subst (λ (s : Spec). FirstFails (name_checks c.first_base_line-line.result c.args.cert.now.header.names s.names) c.test_names-of_names.result) sys c.test_names-of_names.ensures) in
     let names_ok = subst (FirstFails (name_checks (first_base_line c.args.cert.now.header) c.args.cert.now.header.names c.args.founded.now.names)) c.in-Valid-2.is named in
     let same = names-are (first_base_line c.args.cert.now.header) c.args.cert.now.header.names c.args.founded.now.names names_ok in
+    let vals : c.in_ok-values.values.items ≡ c.args.cert.now.header.base = c.in_ok-values.ensures.items ∙ c.items.ensures.items in
+    let fault = rw c.in-Err-NotPostFixed.field-0-is at c.in-Err-NotPostFixed.ensures.fault in
+    let first = subst (λ vs. IsFirstAbove (bodies_up (setting_of c.args.founded.now g.row.F c.args.cert.now.header) (values_up (setting_of c.args.founded.now g.row.F c.args.cert.now.header) vs)) vs c.in-Err-NotPostFixed.fault.class_id.0 c.in-Err-NotPostFixed.fault.got) vals fault in
     ?
 
 pub test_from_base-requires-clause-window : goal.test_from_base-requires-clause-window
@@ -72,7 +78,15 @@ returns-in-Ok-clause-verdict g c =
     let named = subst (λ l. FirstFails (name_checks l c.args.cert.now.header.names c.args.founded.now.names) c.test_names-of_names.result) c.first_base_line-line.ensures.line (subst (λ (s : Spec). FirstFails (name_checks c.first_base_line-line.result c.args.cert.now.header.names s.names) c.test_names-of_names.result) sys c.test_names-of_names.ensures) in
     let names_ok = subst (FirstFails (name_checks (first_base_line c.args.cert.now.header) c.args.cert.now.header.names c.args.founded.now.names)) c.in-Valid-2.is named in
     let same = names-are (first_base_line c.args.cert.now.header) c.args.cert.now.header.names c.args.founded.now.names names_ok in
+    let vals : c.in_ok-values.values.items ≡ c.args.cert.now.header.base = c.in_ok-values.ensures.items ∙ c.items.ensures.items in
+    let fixed = subst (IsPostFixed (setting_of c.args.founded.now g.row.F c.args.cert.now.header)) vals c.in-Ok.ensures.post_fixed in
+    let passed = values-pass (first_base_line c.args.cert.now.header) (bodies_up (setting_of c.args.founded.now g.row.F c.args.cert.now.header) (values_up (setting_of c.args.founded.now g.row.F c.args.cert.now.header) c.args.cert.now.header.base)) c.args.cert.now.header.base fixed.each in
     ?
 
 pub returns-in-Ok-clause-sound : goal.returns-in-Ok-clause-sound
-returns-in-Ok-clause-sound g c = ?
+returns-in-Ok-clause-sound g c =
+    let vals : c.in_ok-values.values.items ≡ c.args.cert.now.header.base = c.in_ok-values.ensures.items ∙ c.items.ensures.items in
+    ok-of (λ v. v ≡ Valid → AllByRecursion (IsSoundEntry c.args.founded.now (ratio c.args.cert.now.header.x.num c.args.cert.now.header.x.den) c.args.cert.now.header.min c.args.cert.now.header.max) c.args.cert.now.entries)
+    (λ v. v ≡ Valid → IsSoundCertificate c.args.founded.now g.row.F c.args.cert.now)
+    (λ v h is. record { above = subst (AreAbove c.args.founded.now (ratio c.args.cert.now.header.x.num c.args.cert.now.header.x.den) g.row.F) vals c.in-Ok.ensures.bounds; entries = h is })
+    c.test_from_base.result c.test_from_base.ensures.sound
