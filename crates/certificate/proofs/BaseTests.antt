@@ -36,8 +36,8 @@ names-differ line place (n ∷ names) [] in_names in_classes agree differ = let 
 -- where one list has more
 pub names-unequal : (line place : ℕ) (names classes : List (List ℕ)) → place ≡ min (length classes) (length names) → Agree names classes place → length names ≢ length classes → FirstFails (name_checks line names classes) (Invalid (line + place) reason.Base)
 names-unequal line place [] [] is agree differ = absurd (differ refl)
-names-unequal line place (n ∷ names) [] is agree differ = inr ((λ no. no), ap (λ m. Invalid m reason.Base) (let z : line + place ≡ line = omega arith in z))
-names-unequal line place [] (c ∷ classes) is agree differ = inr ((λ no. no), ap (λ m. Invalid m reason.Base) (let z : line + place ≡ line = omega arith in z))
+names-unequal line place (n ∷ names) [] is agree differ = inr ((λ none. none), ap (λ m. Invalid m reason.Base) (let z : line + place ≡ line = omega arith in z))
+names-unequal line place [] (c ∷ classes) is agree differ = inr ((λ none. none), ap (λ m. Invalid m reason.Base) (let z : line + place ≡ line = omega arith in z))
 names-unequal line zero (n ∷ names) (c ∷ classes) is agree differ = let no : ⊥ = omega arith in absurd no
 names-unequal line (suc place) (n ∷ names) (c ∷ classes) is agree differ =
     inl (first-same n c names classes place agree,

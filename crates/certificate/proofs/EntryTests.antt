@@ -83,15 +83,15 @@ module _ (s : Spec) (sound : IsSound s) (F : ℕ) (table : (level node : ℕ) �
 
     pub made-verdict : (v : Verdict) → FirstFails (made_checks s least greatest line tokens labels e) v → FirstFails (check (HasSize s F table least greatest e) line reason.Object ∷ check (HasText s F table greatest e) (line + 1) reason.Text ∷ []) v
     made-verdict v (inl (z, inl (t, is))) = inl (sized-all z, inl (text-all t, is))
-    made-verdict v (inl (z, inr (no, is))) = inl (sized-all z, inr ((λ h. no (h.with_text tokens labels made)), is))
-    made-verdict v (inr (no, is)) = inr ((λ h. no (record { size_is = h.size_is tokens labels made; from = h.from; to = h.to })), is)
+    made-verdict v (inl (z, inr (never, is))) = inl (sized-all z, inr ((λ h. never (h.with_text tokens labels made)), is))
+    made-verdict v (inr (never, is)) = inr ((λ h. never (record { size_is = h.size_is tokens labels made; from = h.from; to = h.to })), is)
 
     -- with the tests before them
     pub entry-made : (number place : ℕ) (v : Verdict) → IsNext number place e → FirstFails (made_checks s least greatest line tokens labels e) v → FirstFails (entry_checks s F table least greatest number place line e) v
     entry-made number place v next h = inl (next, inl (record { tokens = tokens; labels = labels; made = made }, made-verdict v h))
 
   pub entry-not-next : (number place line : ℕ) → ¬ (IsNext number place e) → FirstFails (entry_checks s F table least greatest number place line e) (Invalid line reason.Object)
-  entry-not-next number place line no = inr (no, refl)
+  entry-not-next number place line never = inr (never, refl)
 
   pub entry-none : (number place line : ℕ) → IsNext number place e → ((tokens : List Token) (labels : List ℕ) → ¬ (AreMadeOf s F table greatest e.cells.items tokens labels)) → FirstFails (entry_checks s F table least greatest number place line e) (Invalid (line + 2) reason.Cells)
   entry-none number place line next none = inl (next, inr ((λ m. none m.tokens m.labels m.made), refl))

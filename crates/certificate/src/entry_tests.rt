@@ -1,5 +1,5 @@
 //! Testing the entries of a certificate, each made again from its own cells.
-ghost use Rattle.std.specs.Prelude.{◌≡◌, ◌≢◌, ◌+◌, ◌*◌, ◌^◌, ◌<◌, ◌≤◌, ◌↔◌, suc, length, IsTrue, Some, IfOk};
+ghost use Rattle.std.specs.Prelude.{◌≡◌, ◌≢◌, true, false, ◌+◌, ◌*◌, ◌^◌, ◌<◌, ◌≤◌, ◌↔◌, suc, length, IsTrue, Some, IfOk};
 ghost use Rattle.std.specs.List.{AllByRecursion};
 ghost use Rattle.bz_model.specs.Cell.{AreCells};
 ghost use Rattle.bz_model.specs.Oracle.{LeavesOracle};
@@ -7,7 +7,7 @@ ghost use Rattle.labelling.specs.LabelsByBits.{bits_in};
 ghost use Rattle.object_store.specs.Tokens.{IsOf};
 ghost use Rattle.object_text.specs.Labels.{HasOneForEach};
 ghost use Rattle.shape_sampler.specs.State.{SessionBelongs};
-ghost use Rattle.certificate.specs.Checks.{entry_checks, entries_checks, made_checks, IsNext};
+ghost use Rattle.certificate.specs.Checks.{entry_checks, entries_checks, made_checks, IsNext, IsSized};
 ghost use Rattle.certificate.specs.Soundness.{IsSoundEntry};
 ghost use Rattle.certificate.specs.Verdicts.{FirstFails};
 ghost use Rattle.certificate.specs.declared.reason.Verdict.TheVariants as verdict;
@@ -75,8 +75,9 @@ pub(crate) fn test_entries<const F: u32, O: Oracle<F>, L: Ledger>(
         line,
     };
     'tests: for entry in entries {
-        let tested = test_entry(alloc, founded, oracle, session, window, entry, before, steps)?;
+        let answer = test_entry(alloc, founded, oracle, session, window, entry, before, steps);
         oracle.known();
+        let tested = answer?;
         let Verdict::Valid = tested else {
             return Ok(tested);
         };
@@ -173,7 +174,7 @@ fn test_made(
     ensures { IfOk result (FirstFails (made_checks founded.now window.least window.greatest line
         made.now.shape.items made.now.labels entry.now)) }
 {
-    if made.shape.size() != entry.size || !holds(window, entry.size) {
+    if !is_sized(window, made.shape.size(), entry) {
         return Ok(Verdict::Invalid {
             line,
             reason: Reason::Object,
@@ -182,7 +183,7 @@ fn test_made(
     let system = founded.system();
     system.known();
     let text = print_labelled(alloc, system, ClassId(0), &made.shape, made.labels.items())?;
-    if text.as_slice() != entry.text.bytes() {
+    if !is_same(text.as_slice(), entry.text.bytes()) {
         return Ok(Verdict::Invalid {
             line: line + 1,
             reason: Reason::Text,
@@ -191,11 +192,19 @@ fn test_made(
     Ok(Verdict::Valid)
 }
 
-/// Whether a size lies within a window.
-fn holds(window: Window, size: u64) -> bool
-    ensures { IsTrue result ↔ ((window.least ≤ size) × (size ≤ window.greatest)) }
+/// Whether a size is an entry's, within the window.
+fn is_sized(window: Window, size: u64, entry: &CertEntry) -> bool
+    ensures { IsTrue result ↔ IsSized window.least window.greatest size entry.now }
 {
-    window.least <= size && size <= window.greatest
+    size == entry.size && window.least <= entry.size && entry.size <= window.greatest
+}
+
+/// Whether bytes are the same.
+pub(crate) fn is_same(these: &[u8], those: &[u8]) -> bool
+    ensures same { result ≡ true → these.now ≡ those.now }
+    ensures other { result ≡ false → these.now ≢ those.now }
+{
+    these == those
 }
 
 /// Whether an entry has the next number, and a place that isn't before the end of the bits before.

@@ -16,7 +16,7 @@ ghost use Rattle.certificate.specs.declared.reason.Verdict.TheVariants as verdic
 use crate::certificate::{Certificate, Header};
 use crate::closing::Closing;
 use crate::digest::SpecDigest;
-use crate::entry_tests::{Window, test_entries};
+use crate::entry_tests::{Window, is_same, test_entries};
 use crate::reason::{Reason, Verdict};
 use bz_model::oracle::Oracle;
 use bz_model::steps::Steps;
@@ -173,7 +173,7 @@ fn is_digest_of(digest: &Option<SpecDigest>, system: &System) -> Result<bool, Al
     };
     let canonical = system.to_text()?;
     let own = Sha256::digest(canonical.as_slice());
-    Ok(digest.bytes() == own.as_slice())
+    Ok(is_same(digest.bytes(), own.as_slice()))
 }
 
 /// Tests the fraction bits and the window.
@@ -254,7 +254,7 @@ fn is_name_of(system: &System, names: &Names, class: usize) -> bool
 {
     let name = names.name(class);
     let own = system.name(ClassId(class as u32));
-    name.bytes() == own.bytes()
+    is_same(name.bytes(), own.bytes())
 }
 
 /// Tests that the number of kept objects is that of the entries, whose first line is this.

@@ -24,22 +24,22 @@ tests-init g c = record {
 pub tests-preserved : goal.tests-preserved
 tests-preserved g c =
     let inv = c.tests.invariant in
-    let ok = subst (λ t. FirstFails (entry_checks c.args.founded.now g.row.F t c.args.window.least c.args.window.greatest c.tests.before.number c.tests.before.place c.tests.before.line c.entry-item.result) Valid) inv.oracle.table (rw c.in-Valid.is at c.in_ok-tested.ensures.verdict) in
-    let sound = subst (λ x. IsSoundEntry c.args.founded.now x c.args.window.least c.args.window.greatest c.entry-item.result) inv.oracle.x ((rw c.in-Valid.is at c.in_ok-tested.ensures.sound) refl) in
+    let ok = subst (λ t. FirstFails (entry_checks c.args.founded.now g.row.F t c.args.window.least c.args.window.greatest c.tests.before.number c.tests.before.place c.tests.before.line c.entry-item.result) Valid) inv.oracle.table (rw c.in-Valid.is at (rw c.in_ok-tested.was at c.test_entry-answer.ensures.verdict)) in
+    let sound = subst (λ x. IsSoundEntry c.args.founded.now x c.args.window.least c.args.window.greatest c.entry-item.result) inv.oracle.x ((rw c.in-Valid.is at (rw c.in_ok-tested.was at c.test_entry-answer.ensures.sound)) refl) in
     record {
-      number = omega (arith, inv.number, c.after.ensures.number);
-      line = omega (arith, inv.line, c.after.ensures.line);
-      session = subst (λ x. SessionBelongs c.args.founded.now x c.test_entry.new.session) inv.oracle.x c.test_entry.ensures.session;
-      room = c.test_entry.ensures.whole ∙ inv.room;
-      oracle = oracle-more g.O.Oracle.spec g.O.Oracle.x g.O.Oracle.table g.O.Oracle.cost g.O.Oracle.raised c.args.oracle.now c.tests.oracle c.test_entry.new.oracle c.args.steps.now c.tests.steps c.test_entry.new.steps c.known.ensures.costs c.known-in-tests.ensures.raised inv.oracle c.test_entry.ensures.oracle;
-      tested = subst (λ place. AreTested c.args.founded.now g.row.F (g.O.Oracle.table c.args.oracle.now) (g.O.Oracle.x c.args.oracle.now) c.args.window.least c.args.window.greatest c.args.line c.args.entries.now (c.tests.entry-index + 1) c.after.result.number place c.after.result.line) (sym c.after.ensures.place)
-          (tested-more c.args.founded.now g.row.F (g.O.Oracle.table c.args.oracle.now) (g.O.Oracle.x c.args.oracle.now) c.args.window.least c.args.window.greatest c.args.line c.args.entries.now c.tests.entry-index c.tests.before.number c.tests.before.place c.tests.before.line inv.tested c.entry-item.result c.entry-item.is c.tests-test.true c.after.result.number c.after.result.line c.after.ensures.number c.after.ensures.line ok sound);
+      number = omega (arith, inv.number, c.after-before.ensures.number);
+      line = omega (arith, inv.line, c.after-before.ensures.line);
+      session = subst (λ x. SessionBelongs c.args.founded.now x c.test_entry-answer.new.session) inv.oracle.x c.test_entry-answer.ensures.session;
+      room = c.test_entry-answer.ensures.whole ∙ inv.room;
+      oracle = oracle-more g.O.Oracle.spec g.O.Oracle.x g.O.Oracle.table g.O.Oracle.cost g.O.Oracle.raised c.args.oracle.now c.tests.oracle c.test_entry-answer.new.oracle c.args.steps.now c.tests.steps c.test_entry-answer.new.steps c.known.ensures.costs c.known-in-tests.ensures.raised inv.oracle c.test_entry-answer.ensures.oracle;
+      tested = subst (λ place. AreTested c.args.founded.now g.row.F (g.O.Oracle.table c.args.oracle.now) (g.O.Oracle.x c.args.oracle.now) c.args.window.least c.args.window.greatest c.args.line c.args.entries.now (c.tests.entry-index + 1) c.after-before.result.number place c.after-before.result.line) (sym c.after-before.ensures.place)
+          (tested-more c.args.founded.now g.row.F (g.O.Oracle.table c.args.oracle.now) (g.O.Oracle.x c.args.oracle.now) c.args.window.least c.args.window.greatest c.args.line c.args.entries.now c.tests.entry-index c.tests.before.number c.tests.before.place c.tests.before.line inv.tested c.entry-item.result c.entry-item.is c.tests-test.true c.after-before.result.number c.after-before.result.line c.after-before.ensures.number c.after-before.ensures.line ok sound);
     }
 
 pub returns-in_default-clause-verdict : goal.returns-in_default-clause-verdict
 returns-in_default-clause-verdict g c =
     let inv = c.tests.invariant in
-    let told = subst (λ t. FirstFails (entry_checks c.args.founded.now g.row.F t c.args.window.least c.args.window.greatest c.tests.before.number c.tests.before.place c.tests.before.line c.entry-item.result) c.in_ok-tested.tested) inv.oracle.table c.in_ok-tested.ensures.verdict in
+    let told = subst (λ t. FirstFails (entry_checks c.args.founded.now g.row.F t c.args.window.least c.args.window.greatest c.tests.before.number c.tests.before.place c.tests.before.line c.entry-item.result) c.in_ok-tested.tested) inv.oracle.table (rw c.in_ok-tested.was at c.test_entry-answer.ensures.verdict) in
     tested-fails c.args.founded.now g.row.F (g.O.Oracle.table c.args.oracle.now) (g.O.Oracle.x c.args.oracle.now) c.args.window.least c.args.window.greatest c.args.line c.args.entries.now c.tests.entry-index c.tests.before.number c.tests.before.place c.tests.before.line inv.tested c.entry-item.result c.entry-item.is c.tests-test.true c.in_ok-tested.tested told c.in_default.not-Valid
 
 pub returns-clause-verdict : goal.returns-clause-verdict
@@ -47,3 +47,6 @@ returns-clause-verdict g c = (tested-all c.args.founded.now g.row.F (g.O.Oracle.
 
 pub returns-clause-sound : goal.returns-clause-sound
 returns-clause-sound g c = λ is. (tested-all c.args.founded.now g.row.F (g.O.Oracle.table c.args.oracle.now) (g.O.Oracle.x c.args.oracle.now) c.args.window.least c.args.window.greatest c.args.line c.args.entries.now c.tests.entry-index c.tests.before.number c.tests.before.place c.tests.before.line c.tests-test.false c.tests.invariant.tested).1
+
+pub returns-in_err-tested-clause-oracle : goal.returns-in_err-tested-clause-oracle
+returns-in_err-tested-clause-oracle g c = oracle-more g.O.Oracle.spec g.O.Oracle.x g.O.Oracle.table g.O.Oracle.cost g.O.Oracle.raised c.args.oracle.now c.tests.oracle c.test_entry-answer.new.oracle c.args.steps.now c.tests.steps c.test_entry-answer.new.steps c.known.ensures.costs c.known-in-tests.ensures.raised c.tests.invariant.oracle c.test_entry-answer.ensures.oracle
