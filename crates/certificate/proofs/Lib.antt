@@ -20,3 +20,4 @@ pub mod EntryTests
 pub mod HeaderTests
 pub mod Tests
 pub mod Complete
+pub mod Costs

@@ -252,6 +252,7 @@ fn is_name_of(system: &System, names: &Names, class: usize) -> bool
     ensures same { result ≡ true → slice_get names.now class ≡ slice_get system.now.names class }
     ensures other { result ≡ false → slice_get names.now class ≢ slice_get system.now.names class }
 {
+    system.known();
     let name = names.name(class);
     let own = system.name(ClassId(class as u32));
     is_same(name.bytes(), own.bytes())
