@@ -4,7 +4,7 @@ use Rattle.std.proofs.lemmas.List.{length-map}
 use Rattle.std.specs.List.{AllByRecursion}
 use Rattle.bz_model.specs.Fraction.{ratio}
 use Rattle.bz_model.specs.Spec.{Spec}
-use Rattle.rounded_map.specs.RoundedMap.{values_up, bodies_up, IsFirstAbove, IsPostFixed}
+use Rattle.rounded_map.specs.RoundedMap.{values_up, bodies_up, value_at, IsFirstAbove, IsPostFixed}
 use Rattle.rounded_map.specs.Bounding.{AreAbove}
 use Rattle.certificate.specs.declared.reason.Reason.TheVariants as reason
 use Rattle.certificate.specs.declared.reason.Verdict.TheVariants.{Valid, Invalid}
@@ -48,7 +48,7 @@ check-requires g c =
     let same = names-are (first_base_line c.args.cert.now.header) c.args.cert.now.header.names c.args.founded.now.names names_ok in
     let vals : c.in_ok-values.values.items ≡ c.args.cert.now.header.base = c.in_ok-values.ensures.items_if_clones_equal (λ x y e. e) ∙ c.items.ensures.items in
     let bodies = ap (λ (s : Spec). length s.bodies) (sym sys) in
-    record { fraction_bits = c.requires.fraction; one_per_class = ap length vals ∙ c.requires.header.one_each ∙ ap length same ∙ ap (λ (s : Spec). length s.names) (sym sys) ∙ sym c.known.ensures.sound.bodies ∙ sym bodies }
+    (omega arith, (c.requires.fraction, ap length vals ∙ c.requires.header.one_each ∙ ap length same ∙ ap (λ (s : Spec). length s.names) (sym sys) ∙ sym c.known.ensures.sound.bodies ∙ sym bodies))
 
 pub returns-in-Err-NotPostFixed-clause-verdict : goal.returns-in-Err-NotPostFixed-clause-verdict
 returns-in-Err-NotPostFixed-clause-verdict g c =
@@ -61,9 +61,10 @@ returns-in-Err-NotPostFixed-clause-verdict g c =
     let vals : c.in_ok-values.values.items ≡ c.args.cert.now.header.base = c.in_ok-values.ensures.items_if_clones_equal (λ x y e. e) ∙ c.items.ensures.items in
     let fault = rw c.in-Err-NotPostFixed.field-0-is at c.in-Err-NotPostFixed.ensures.fault in
     let first = subst (λ vs. IsFirstAbove (bodies_up (setting_of c.args.founded.now g.row.F c.args.cert.now.header) (values_up (setting_of c.args.founded.now g.row.F c.args.cert.now.header) vs)) vs c.in-Err-NotPostFixed.fault.class_id.0 c.in-Err-NotPostFixed.fault.got) vals fault in
-    let lengths : length (bodies_up (setting_of c.args.founded.now g.row.F c.args.cert.now.header) (values_up (setting_of c.args.founded.now g.row.F c.args.cert.now.header) c.args.cert.now.header.base)) ≡ length c.args.cert.now.header.base = length-map _ c.args.founded.now.bodies ∙ ap (λ (s : Spec). length s.bodies) (sym sys) ∙ c.known.ensures.sound.bodies ∙ ap (λ (s : Spec). length s.names) sys ∙ sym (ap length same) ∙ sym c.requires.header.one_each in
+    let lengths : length (bodies_up (setting_of c.args.founded.now g.row.F c.args.cert.now.header) (values_up (setting_of c.args.founded.now g.row.F c.args.cert.now.header) c.args.cert.now.header.base)) ≡ length c.args.cert.now.header.base = length-map c.args.founded.now.bodies (value_at (values_up (setting_of c.args.founded.now g.row.F c.args.cert.now.header) c.args.cert.now.header.base)) ∙ ap (λ (s : Spec). length s.bodies) (sym sys) ∙ c.known.ensures.sound.bodies ∙ ap (λ (s : Spec). length s.names) sys ∙ sym (ap length same) ∙ sym c.requires.header.one_each in
     let fails = values-fail (first_base_line c.args.cert.now.header) c.in-Err-NotPostFixed.fault.class_id.0 c.in-Err-NotPostFixed.fault.got (bodies_up (setting_of c.args.founded.now g.row.F c.args.cert.now.header) (values_up (setting_of c.args.founded.now g.row.F c.args.cert.now.header) c.args.cert.now.header.base)) c.args.cert.now.header.base lengths first in
-    subst (FirstFails (checks c.args.founded.now g.row.F c.args.cert.now)) (ap (λ n. Invalid (n + c.in-Err-NotPostFixed.fault.class_id.0) reason.Base) (sym c.first_base_line-line.ensures.line))
+    let there : c.first_base_line-line.result + c.from-in-Err-NotPostFixed.result ≡ first_base_line c.args.cert.now.header + c.in-Err-NotPostFixed.fault.class_id.0 = omega (arith, c.first_base_line-line.ensures.line, c.from-in-Err-NotPostFixed.ensures) in
+    subst (FirstFails (checks c.args.founded.now g.row.F c.args.cert.now)) (ap (λ n. Invalid n reason.Base) (sym there))
     (at-values (header_checks c.args.founded.now g.row.F c.args.cert.now.header)
     (name_checks (first_base_line c.args.cert.now.header) c.args.cert.now.header.names c.args.founded.now.names)
     (value_checks (first_base_line c.args.cert.now.header) (bodies_up (setting_of c.args.founded.now g.row.F c.args.cert.now.header) (values_up (setting_of c.args.founded.now g.row.F c.args.cert.now.header) c.args.cert.now.header.base)) c.args.cert.now.header.base)
@@ -78,13 +79,7 @@ test_from_base-requires g c =
     let headed = subst (FirstFails (header_checks c.args.founded.now g.row.F c.args.cert.now.header)) c.in-Valid.is told in
     let vals : c.in_ok-values.values.items ≡ c.args.cert.now.header.base = c.in_ok-values.ensures.items_if_clones_equal (λ x y e. e) ∙ c.items.ensures.items in
     let window = header-window c.args.founded.now g.row.F c.args.cert.now.header headed in
-    record {
-      fraction = c.requires.fraction;
-      window = window.within;
-      small = omega (arith, c.first_base_line-line.ensures.small, c.class_count.ensures.count, c.known.ensures.limits.classes);
-      base = c.in-Ok.ensures.same ∙ vals;
-      post_fixed = subst (IsPostFixed (setting_of c.args.founded.now g.row.F c.args.cert.now.header)) vals c.in-Ok.ensures.post_fixed;
-    }
+    (omega arith, (c.requires.fraction, (window.within, (omega (arith, c.first_base_line-line.ensures.small, c.from.ensures, c.class_count.ensures.count, c.known.ensures.limits.classes), (c.in-Ok.ensures.same ∙ vals, subst (IsPostFixed (setting_of c.args.founded.now g.row.F c.args.cert.now.header)) vals c.in-Ok.ensures.post_fixed)))))
 
 pub returns-in-Ok-clause-verdict : goal.returns-in-Ok-clause-verdict
 returns-in-Ok-clause-verdict g c =
@@ -97,9 +92,10 @@ returns-in-Ok-clause-verdict g c =
     let vals : c.in_ok-values.values.items ≡ c.args.cert.now.header.base = c.in_ok-values.ensures.items_if_clones_equal (λ x y e. e) ∙ c.items.ensures.items in
     let fixed = subst (IsPostFixed (setting_of c.args.founded.now g.row.F c.args.cert.now.header)) vals c.in-Ok.ensures.post_fixed in
     let passed = values-pass (first_base_line c.args.cert.now.header) (bodies_up (setting_of c.args.founded.now g.row.F c.args.cert.now.header) (values_up (setting_of c.args.founded.now g.row.F c.args.cert.now.header) c.args.cert.now.header.base)) c.args.cert.now.header.base fixed.each in
-    let count : c.class_count.result ≡ length c.args.cert.now.header.names = c.class_count.ensures.count ∙ ap (λ (s : Spec). length s.names) sys ∙ sym (ap length same) in
-    let first : c.first_base_line-line.result + c.class_count.result ≡ first_entry_line c.args.cert.now.header = ap (λ n. n + c.class_count.result) c.first_base_line-line.ensures.line ∙ ap (λ n. first_base_line c.args.cert.now.header + n) count in
-    ok-of (FirstFails (rest_checks c.args.founded.now g.row.F (c.first_base_line-line.result + c.class_count.result) c.args.cert.now)) (FirstFails (checks c.args.founded.now g.row.F c.args.cert.now))
+    let from : c.from.result ≡ c.class_count.result = omega (arith, c.from.ensures) in
+    let count : c.from.result ≡ length c.args.cert.now.header.names = from ∙ c.class_count.ensures.count ∙ ap (λ (s : Spec). length s.names) sys ∙ sym (ap length same) in
+    let first : c.first_base_line-line.result + c.from.result ≡ first_entry_line c.args.cert.now.header = ap (λ n. n + c.from.result) c.first_base_line-line.ensures.line ∙ ap (λ n. first_base_line c.args.cert.now.header + n) count in
+    ok-of (FirstFails (rest_checks c.args.founded.now g.row.F (c.first_base_line-line.result + c.from.result) c.args.cert.now)) (FirstFails (checks c.args.founded.now g.row.F c.args.cert.now))
     (λ v h. at-rest (header_checks c.args.founded.now g.row.F c.args.cert.now.header)
     (name_checks (first_base_line c.args.cert.now.header) c.args.cert.now.header.names c.args.founded.now.names)
     (value_checks (first_base_line c.args.cert.now.header) (bodies_up (setting_of c.args.founded.now g.row.F c.args.cert.now.header) (values_up (setting_of c.args.founded.now g.row.F c.args.cert.now.header) c.args.cert.now.header.base)) c.args.cert.now.header.base)
