@@ -52,7 +52,7 @@ module _ (s : Spec) (F : ℕ) (table : (level node : ℕ) → Bounds) (greatest 
 pub trace-makes : (s : Spec) (x : Fraction) (F : ℕ) (table : (level node : ℕ) → Bounds) (limits : Limits) (told : Option (ℕ → Option Bool)) (turns : ℕ) (d : DrawingState) (used most : ℕ) (c : Course) → IsTrace s x F table limits told turns d used most c → AllByRecursion (λ e. AreMadeOf s F table limits.max e.cells e.tokens e.labels) c.entries
 trace-makes s x F table limits told turns d used most c t =
     all-made s F table limits.max c.entries (λ k by.
-        let long = t.gave.count in
-        let past : length t.given ≤ used = omega (arith, long) in
-        let over = t.exact (slice_get t.given) (has-own t.given) (ends-there d.ending used (slice_get t.given) (slice_get_past t.given used past)) k by in
-        subst (λ (q : Course). AreRedrawn k limits.max q.entries) (sym over.same) (course-redrawn (record { chooser = k; limits = limits; tape = slice_get t.given }) t.faults turns))
+    let long = t.gave.count in
+    let past : length t.given ≤ used = omega (arith, long) in
+    let over = t.exact (slice_get t.given) (has-own t.given) (ends-there d.ending used (slice_get t.given) (slice_get_past t.given used past)) k by in
+    subst (λ (q : Course). AreRedrawn k limits.max q.entries) (sym over.same) (course-redrawn (record { chooser = k; limits = limits; tape = slice_get t.given }) t.faults turns))
