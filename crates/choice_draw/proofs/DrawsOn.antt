@@ -1,5 +1,5 @@
 -- A draw that goes on from a cell, and how it ends.
-use Rattle.std.proofs.Common.{◌≡◌, ℕ, Bool, suc, ◌-◌, ◌<◌, ◌≤◌, Option, Some, None, cond, arith, refl, ◌∙◌, ap}
+use Rattle.std.proofs.Common.{◌≡◌, ℕ, Bool, suc, ◌-◌, ◌<◌, Option, Some, None, cond, arith, refl, ◌∙◌, ap}
 use Rattle.std.proofs.lemmas.Bool.{lt-ltb, le-ltb}
 use Rattle.bz_model.specs.declared.cell.Cell.{Cell}
 use Rattle.choice_draw.specs.Draw.{Bit, Draw, bit_or_end, bit_of, halved, draw_from, draw}

@@ -7,8 +7,8 @@ use Rattle.std.proofs.lemmas.Nat.{mod_below, div-add-mod', div-mul-add}
 use Rattle.bz_model.specs.declared.cell.Cell.{Cell}
 use Rattle.bz_model.specs.Cell.{bits_of}
 use Rattle.bit_tape.specs.Given.{HasBits}
-use Rattle.choice_draw.specs.Draw.{Bit, Draw, bit_or_end, bit_of, bit_number, halved, draw_from, draw}
-use Rattle.choice_draw.specs.LeastCell.{front_of, IsLeastCell, FailsFrom, LeastIsDrawn}
+use Rattle.choice_draw.specs.Draw.{Bit, Draw, bit_or_end, bit_of, bit_number, halved, draw_from}
+use Rattle.choice_draw.specs.LeastCell.{front_of, FailsFrom, LeastIsDrawn}
 
 -- a number below 2 is that of the test whether it is 1
 number-of : (r : ℕ) → r < 2 → bit_number (eqb r 1) ≡ r

@@ -1,7 +1,7 @@
 -- The bits that a draw used are those that its cell spells.
 use Rattle.std.proofs.Common.{◌≡◌, ℕ, zero, suc, ◌+◌, ◌^◌, ◌<◌, ◌≤◌, arith, Bool, [], ◌∷◌, length, refl, sym, ◌∙◌, ap, subst, Option, Some, None}
 use Rattle.bz_model.specs.declared.cell.Cell.{Cell}
-use Rattle.bz_model.specs.Cell.{IsCell, bits_of}
+use Rattle.bz_model.specs.Cell.{bits_of}
 use Rattle.bit_tape.specs.Given.{HasBits}
 use Rattle.bit_tape.proofs.GivenBits.{has_bits-append}
 use Rattle.choice_draw.specs.Draw.{Bit, Draw, bit_of, halved, draw_from, draw}

@@ -1,6 +1,6 @@
 -- Labels are drawn again from the bits that their cells spell.
 use Rattle.std.proofs.Common.{◌≡◌, ℕ, zero, suc, ◌+◌, arith, Bool, List, [], ◌∷◌, ◌++◌, length, append-nil, append_assoc, length-append, refl, sym, ◌∙◌, ap, subst}
-use Rattle.std.specs.Prelude.{Option, Some, None, remove, slice_index}
+use Rattle.std.specs.Prelude.{Option, None, remove, slice_index}
 use Rattle.bz_model.specs.declared.cell.Cell.{Cell}
 use Rattle.bz_model.specs.Cell.{bits_of, spelled}
 use Rattle.bz_model.specs.Labels.{numbers_from}

@@ -1,6 +1,5 @@
 -- A labelling under way over the bits that it was given: how it goes on, and what each of its answers tells.
-use Rattle.std.proofs.Common.{◌≡◌, ℕ, Bool, ◌+◌, ◌-◌, ◌≤◌, ◌<◌, List, [], ◌++◌, length, Option, refl, sym, ◌∙◌, ap, subst, arith}
-use Rattle.std.specs.Prelude.{IfSome}
+use Rattle.std.proofs.Common.{◌≡◌, ℕ, Bool, ◌+◌, ◌-◌, ◌≤◌, List, [], ◌++◌, length, Option, refl, sym, ◌∙◌, ap, subst, arith}
 use Rattle.bz_model.specs.declared.cell.Cell.{Cell}
 use Rattle.bz_model.specs.declared.cells.Cells.{Cells}
 use Rattle.bz_model.specs.Labels.{numbers_from}
@@ -10,7 +9,6 @@ use Rattle.choice_draw.specs.Decision.{whole_decision}
 use Rattle.choice_draw.specs.Draw.{Draw}
 use Rattle.choice_draw.specs.Answer.{IsDraw}
 use Rattle.choice_draw.proofs.ToldDraws.{on_any}
-use Rattle.labelling.specs.declared.labelled.Labelled.{Labelled}
 use Rattle.labelling.specs.declared.labelled.Labelled.TheVariants.{Labels, Straddles, Ended, ReadFault, OutOfMemory}
 use Rattle.labelling.specs.Answer.{IsLabelling}
 use Rattle.labelling.specs.LabelsByBits.{Labelling, bits_in}

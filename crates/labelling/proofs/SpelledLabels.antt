@@ -12,7 +12,7 @@ use Rattle.choice_draw.specs.Draw.{Draw, bit_of, draw}
 use Rattle.choice_draw.specs.LeastCell.{AreBetween, SpellsDraw}
 use Rattle.choice_draw.proofs.LeastCells.{bits-length}
 use Rattle.choice_draw.proofs.SpelledDraws.{draws_spell}
-use Rattle.labelling.specs.LabelsByBits.{Labelling, labels_from, labelling}
+use Rattle.labelling.specs.LabelsByBits.{Labelling, labels_from}
 use Rattle.labelling.specs.Spelled.{AreSpelled, AreCutShort, SpellsLabelling, LabellingsSpell}
 
 pub spelled-both : (cs ds : List Cell) → spelled (cs ++ ds) ≡ spelled cs ++ spelled ds

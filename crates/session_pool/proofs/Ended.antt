@@ -1,19 +1,21 @@
 -- A drawing that has ended makes a turn that changes nothing.
-use Rattle.std.proofs.Common.{◌≡◌, ℕ, ◌-◌, arith, Bool, true, List, [], ◌++◌, append-nil, refl, sym, ◌∙◌, ap, subst, inl}
+use Rattle.std.proofs.Common.{◌≡◌, ℕ, ◌-◌, arith, Bool, true, false, List, [], ◌++◌, append-nil, refl, sym, ◌∙◌, ap, subst, inl}
 use Rattle.std.specs.Prelude.{Option, Some, None, IfSome, IsSome, is_some, option_map}
 use Rattle.bz_model.specs.declared.cell.Bounds.{Bounds}
 use Rattle.bz_model.specs.declared.cell.Cell.{Cell}
 use Rattle.bz_model.specs.Fraction.{Fraction}
 use Rattle.bz_model.specs.Spec.{Spec}
-use Rattle.bit_tape.specs.Tape.{bits_of}
-use Rattle.shape_sampler.specs.Answer.{ChoosesBy}
-use Rattle.shape_sampler.specs.Visit.{Chooser}
+use Rattle.std.proofs.lemmas.Option.{same_Some}
+use Rattle.bit_tape.specs.Tape.{CountsFault, bits_of}
+use Rattle.bit_tape.proofs.GivenBits.{gave-none}
+use Rattle.choice_draw.proofs.ToldDraws.{on_any}
 use Rattle.size_window.specs.declared.ending.Ending.{Ending as Told}
+use Rattle.size_window.specs.declared.ending.Ending.TheVariants as told
 use Rattle.size_window.specs.declared.turned.Turned.TheVariants as turned
-use Rattle.size_window.specs.RunByBits.{State, Entry, Course, quiet, turn, turn_unless, followed_by}
+use Rattle.size_window.specs.RunByBits.{State, Entry, Course, quiet, turn_unless, followed_by}
 use Rattle.size_window.specs.Drawing.{DrawingState, state_of, ending_of}
 use Rattle.size_window.specs.Follows.{Goes}
-use Rattle.size_window.specs.Turn.{IsTurn, IsCounted, turns_by, told_fault}
+use Rattle.size_window.specs.Turn.{IsTurn, IsCounted, is_fault, EndsThere, turns_by, told_fault}
 use Rattle.session_pool.specs.declared.pooled.Pooled.TheVariants as pooled
 use Rattle.session_pool.specs.Member.{MemberState}
 use Rattle.session_pool.specs.Turn.{IsMemberTurn, answer_of}
@@ -22,13 +24,24 @@ abbrev course : State → List Entry → List Cell → Course
 course st entries cells = record { state = st; entries = entries; cells = cells }
 
 -- a quiet turn changes no course
-quiet-on : (c : Course) (st : State) → c.state ≡ st → followed_by c (quiet st) ≡ c
+pub quiet-on : (c : Course) (st : State) → c.state ≡ st → followed_by c (quiet st) ≡ c
 quiet-on c st at = ap (λ s. course s (c.entries ++ []) (c.cells ++ [])) (sym at) ∙ (ap (λ entries. course c.state entries (c.cells ++ [])) (append-nil c.entries) ∙ ap (λ cells. course c.state c.entries cells) (append-nil c.cells))
 
--- over told bits it is the turn that they fix
-ended-exact : (s : Spec) (F : ℕ) (table : (level node : ℕ) → Bounds) (d : DrawingState) (used : ℕ) (ending : Told) → d.ending ≡ Some ending → (bits : Option (ℕ → Option Bool)) → IfSome bits (λ tape. (c : Chooser) → ChoosesBy s F table c → quiet (state_of d used) ≡ turn (record { chooser = c; limits = d.limits; tape = tape }) (told_fault d.ending (turned.Finished ending) (used - used)) (state_of d used))
-ended-exact s F table d used ending is None = tt
-ended-exact s F table d used ending is (Some tape) = λ c chooses. sym (ap (turn_unless (record { chooser = c; limits = d.limits; tape = tape }) (told_fault d.ending (turned.Finished ending) (used - used)) (state_of d used)) (ap (option_map ending_of) is))
+-- it meets no end of its tape
+ended-ends : (o : Option Told) (ending : Told) (used : ℕ) (tape : ℕ → Option Bool) → o ≡ Some ending → EndsThere (turned.Finished ending) o used tape
+ended-ends o told.Done used tape is = tt
+ended-ends o told.TapeEnded used tape is = subst (λ p. EndsThere (turned.Finished told.TapeEnded) p used tape) (sym is) tt
+ended-ends o (told.Undecided straddle) used tape is = tt
+ended-ends o told.TurnLimit used tape is = tt
+ended-ends o told.ReadFault used tape is = tt
+
+-- and fails at no read
+pub ended-no_fault : (o : Option Told) (ending : Told) → o ≡ Some ending → false ≡ is_fault (turned.Finished ending) o
+ended-no_fault o told.Done is = refl
+ended-no_fault o told.TapeEnded is = refl
+ended-no_fault o (told.Undecided straddle) is = refl
+ended-no_fault o told.TurnLimit is = refl
+ended-no_fault o told.ReadFault is = ap (is_fault (turned.Finished told.ReadFault)) (sym is)
 
 -- an ended drawing answers its ending, and stays as it was
 pub ended-turn : (s : Spec) (x : Fraction) (F : ℕ) (table : (level node : ℕ) → Bounds) (bits : Option (ℕ → Option Bool)) (d : DrawingState) (used : ℕ) (ending : Told) → d.ending ≡ Some ending → IsTurn s x F table bits d used (turned.Finished ending) d used
@@ -36,8 +49,12 @@ ended-turn s x F table bits d used ending is = record {
   turned = quiet (state_of d used);
   state = refl;
   entry = refl;
+  rests = λ other also. record { told = ap turned.Finished (same_Some ending other (sym is ∙ also)); same = refl; unused = refl };
   goes = λ c at goes. subst (Goes s x d.limits) (sym (quiet-on c (state_of d used) at)) goes;
-  exact = ended-exact s F table d used ending is bits;
+  given = [];
+  gave = gave-none bits used;
+  ended = on_any bits (λ tape. ended-ends d.ending ending used tape is);
+  exact = λ tape have ends c chooses. sym (ap (turn_unless (record { chooser = c; limits = d.limits; tape = tape }) (told_fault d.ending (turned.Finished ending) (used - used)) (state_of d used)) (ap (option_map ending_of) is));
 }
 
 -- it counts nothing
@@ -52,8 +69,8 @@ ended-counted d ending is = record {
 }
 
 -- so it does in a pool
-ended-member : (s : Spec) (x : Fraction) (F : ℕ) (table : (level node : ℕ) → Bounds) (contents : List ℕ → Option (List ℕ)) (before now : List ℕ → ℕ) (m : MemberState) (ending : Told) → m.drawing.ending ≡ Some ending → IsMemberTurn s x F table contents before now m pooled.Finished m
-ended-member s x F table contents before now m ending is = record {
+ended-member : (s : Spec) (x : Fraction) (F : ℕ) (table : (level node : ℕ) → Bounds) (contents : List ℕ → Option (List ℕ)) (counts : List ℕ → ℕ) (m : MemberState) (ending : Told) → m.drawing.ending ≡ Some ending → IsMemberTurn s x F table contents counts counts m pooled.Finished m
+ended-member s x F table contents counts m ending is = record {
   told = turned.Finished ending;
   made = λ e. absurd (cc);
   turn = ended-turn s x F table (bits_of m.tape.source contents) m.drawing m.tape.used ending is;
@@ -63,14 +80,15 @@ ended-member s x F table contents before now m ending is = record {
   labels = tt;
   used = (omega arith, omega arith);
   rightly = λ none. absurd (cc);
+  faults = subst (λ b. CountsFault b m.tape.source counts counts) (ended-no_fault m.drawing.ending ending is) refl;
   entries = sym (append-nil m.entries);
   source = refl;
   answers = sym (ap answer_of is);
 }
 
-pub ended-member-turn : (s : Spec) (x : Fraction) (F : ℕ) (table : (level node : ℕ) → Bounds) (contents : List ℕ → Option (List ℕ)) (before now : List ℕ → ℕ) (m : MemberState) → IsSome m.drawing.ending → IsMemberTurn s x F table contents before now m pooled.Finished m
-ended-member-turn s x F table contents before now m some = go m.drawing.ending refl some
+pub ended-member-turn : (s : Spec) (x : Fraction) (F : ℕ) (table : (level node : ℕ) → Bounds) (contents : List ℕ → Option (List ℕ)) (counts : List ℕ → ℕ) (m : MemberState) → IsSome m.drawing.ending → IsMemberTurn s x F table contents counts counts m pooled.Finished m
+ended-member-turn s x F table contents counts m some = go m.drawing.ending refl some
   where
-    go : (o : Option Told) → m.drawing.ending ≡ o → is_some o ≡ true → IsMemberTurn s x F table contents before now m pooled.Finished m
+    go : (o : Option Told) → m.drawing.ending ≡ o → is_some o ≡ true → IsMemberTurn s x F table contents counts counts m pooled.Finished m
     go None is e = absurd (cc)
-    go (Some ending) is e = ended-member s x F table contents before now m ending is
+    go (Some ending) is e = ended-member s x F table contents counts m ending is

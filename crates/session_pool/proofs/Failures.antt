@@ -6,12 +6,13 @@ use Rattle.std.proofs.lemmas.List.Sums.{sum_by-set}
 use Rattle.std.proofs.lemmas.Option.{slice_get_within, get_or_from_slice_get}
 use Rattle.std.proofs.lemmas.Slice.Eq.{bytes_eq-Decides}
 use Rattle.bz_outside.specs.Outside.{Rose}
-use Rattle.bit_tape.specs.Tape.{TapeSource, HasFault}
+use Rattle.bit_tape.specs.Tape.{TapeSource, CountsFault, HasFault}
+use Rattle.bit_tape.proofs.Leaving.{fault-rose}
 use Rattle.size_window.specs.declared.ending.Ending.{Ending as Told}
 use Rattle.size_window.specs.declared.ending.Ending.TheVariants as told
 use Rattle.size_window.specs.declared.turned.Turned.{Turned as Answer}
 use Rattle.size_window.specs.declared.turned.Turned.TheVariants as turned
-use Rattle.size_window.specs.Turn.{ending_by}
+use Rattle.size_window.specs.Turn.{is_fault, ending_by}
 use Rattle.session_pool.specs.declared.pooled.Pooled.{Pooled}
 use Rattle.session_pool.specs.Member.{MemberState}
 use Rattle.session_pool.specs.Turn.{IsMemberTurn}
@@ -70,6 +71,10 @@ answer-marks name source before now (turned.Finished (told.Undecided straddle)) 
 answer-marks name source before now (turned.Finished told.TurnLimit) h = unmarked (before name) (now name) (mark name source None) (mark name source (Some told.TurnLimit)) (going-mark name source) (other-mark name source told.TurnLimit (λ e. absurd (cc)))
 answer-marks name source before now (turned.Finished told.ReadFault) h = marked-or-not (before name) (now name) (mark name source None) (mark name source (Some told.ReadFault)) (going-mark name source) (failed-mark name source before now (h refl))
 
+-- where a drawing that went on answers a failed read, a read of its tape failed
+pub fault-counted : (source : TapeSource) (before now : List ℕ → ℕ) (o : Option Told) (a : Answer) → o ≡ None → CountsFault (is_fault a o) source before now → a ≡ turned.Finished told.ReadFault → HasFault source before now
+fault-counted source before now o a is counts failed = fault-rose source before now (subst (λ b. CountsFault b source before now) (ap (is_fault a) is ∙ ap (λ e. is_fault e None) failed) counts)
+
 -- a count that rose once more
 rises : (begun before now old new most : ℕ) → before ≤ now → min (begun + old) most ≤ before → (new ≡ old) ⊎ ((new ≡ old + 1) × (min (before + 1) most ≤ now)) → min (begun + new) most ≤ now
 rises begun before now old new most up rose (inl same) = omega (arith, up, rose, same)
@@ -81,7 +86,7 @@ module _ (w : Setting) (before now : List ℕ → ℕ) (m later : MemberState) (
       subst (λ source. Marks (before name) (now name) (mark name m.tape.source m.drawing.ending) (mark name source later.drawing.ending)) (sym h.source)
       (subst (λ o. Marks (before name) (now name) (mark name m.tape.source m.drawing.ending) (mark name m.tape.source o)) (sym (h.counted.ending ∙ ap (λ o. ending_by o h.told) is))
       (subst (λ o. Marks (before name) (now name) (mark name m.tape.source o) (mark name m.tape.source (ending_by None h.told))) (sym is)
-      (answer-marks name m.tape.source before now h.told (h.rightly is).failed)))
+      (answer-marks name m.tape.source before now h.told (fault-counted m.tape.source before now m.drawing.ending h.told is h.faults))))
   marks-then (Some ending) is =
       let (told-is, same) = subst (λ o. IfSome o (λ ending. (h.told ≡ turned.Finished ending) × (later ≡ m))) is h.again in
       inl (ap (λ (k : MemberState). mark name k.tape.source k.drawing.ending) same)

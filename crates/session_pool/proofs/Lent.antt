@@ -1,6 +1,6 @@
 -- The member of a pool that was lent, and the pool with it written back.
 use Rattle.std.proofs.Common.{◌≡◌, ℕ, ◌<◌, List, length, refl, sym, ◌∙◌, ap, subst}
-use Rattle.std.specs.Prelude.{Option, Some, IfSome, option_map, slice_get, slice_set, slice_index_or}
+use Rattle.std.specs.Prelude.{Option, Some, option_map, slice_get, slice_set, slice_index_or}
 use Rattle.std.proofs.lemmas.List.{map-set, set-get_or}
 use Rattle.std.proofs.lemmas.List.Elements.{All-set}
 use Rattle.std.proofs.lemmas.Option.{slice_get_read, slice_get_within, get_or_from_slice_get, slice_get-map}
@@ -8,12 +8,12 @@ use Rattle.std.proofs.Math.Seq.{map-set_same}
 use Rattle.bz_model.specs.declared.cell.Bounds.{Bounds}
 use Rattle.bz_model.specs.Fraction.{Fraction}
 use Rattle.bz_model.specs.Spec.{Spec}
-use Rattle.bit_tape.specs.Tape.{TapeSource, Belongs}
+use Rattle.bit_tape.specs.Tape.{Belongs, LeavesTape}
 use Rattle.size_window.specs.Drawing.{DrawingBelongs}
 use Rattle.session_pool.specs.declared.pooled.Pooled.{Pooled}
-use Rattle.session_pool.specs.Member.{MemberState, bits_to_nodes}
+use Rattle.session_pool.specs.Member.{MemberState, bits_to_nodes, read_failed}
 use Rattle.session_pool.specs.Turn.{IsMemberTurn, IsPoolTurn}
-use Rattle.session_pool.specs.Pool.{tapes_of, sources_of, source_at, PoolBelongs, TapesBelong, bits_between, bits_to_nodes_at, ending_at, ending_of_member}
+use Rattle.session_pool.specs.Pool.{tapes_of, sources_of, PoolBelongs, TapesBelong, LeavesTapeOf, bits_between, bits_to_nodes_at, ending_at, ending_of_member}
 use Rattle.session_pool.proofs.Replaced.{replaced-here}
 
 -- the tape that was lent belongs as all do
@@ -52,14 +52,6 @@ module _ (items pool : List MemberState) (number : ℕ) (m later : MemberState) 
   pub ending-is : ending_at (slice_set items number later) number ≡ later.drawing.ending
   ending-is = ap ending_of_member back-at
 
-  -- where its tape's bits come from
-  pub source-was : source_at pool number ≡ Some m.tape.source
-  source-was = ap (option_map (λ (k : MemberState). k.tape.source)) h.at
-
-  -- what is said of it
-  pub of-source : (P : TapeSource → Type 0) → P m.tape.source → IfSome (source_at pool number) P
-  of-source P p = subst (λ o. IfSome o P) (sym source-was) p
-
   -- the bits that its turn gave to numbers of nodes
   pub bits-lent : bits_to_nodes m later ≡ bits_to_nodes_at number pool (slice_set items number later)
   bits-lent = ap (λ o. bits_between o (Some later)) (sym h.at) ∙ ap (bits_between (slice_get pool number)) (sym back-at)
@@ -73,6 +65,10 @@ module _ (items pool : List MemberState) (number : ℕ) (m later : MemberState) 
 
   pub sources-back : later.tape.source ≡ m.tape.source → sources_of (slice_set items number later) ≡ sources_of pool
   sources-back e = ap sources_of written-back ∙ map-set_same (λ (k : MemberState). k.tape.source) pool number later m (e ∙ ap (λ (k : MemberState). k.tape.source) (sym (get_or_from_slice_get pool number m m h.at)))
+
+  -- what its turn leaves of its tape and the shelf
+  pub tape-left : {S : Type 0} (contents : S → List ℕ → Option (List ℕ)) (counts : S → List ℕ → ℕ) (before now : S) → LeavesTape contents counts (read_failed m.drawing.ending later.drawing.ending) before now m.tape later.tape → LeavesTapeOf contents counts before now (slice_get pool number) (slice_get (slice_set items number later) number)
+  tape-left contents counts before now left = subst (λ o. LeavesTapeOf contents counts before now o (slice_get (slice_set items number later) number)) (sym h.at) (subst (LeavesTapeOf contents counts before now (Some m)) (sym back-at) left)
 
   -- the pool made its turn
   pub pool-turn : (s : Spec) (x : Fraction) (F : ℕ) (table : (level node : ℕ) → Bounds) (contents : List ℕ → Option (List ℕ)) (before now : List ℕ → ℕ) (answer : Pooled) → IsMemberTurn s x F table contents before now m answer later → IsPoolTurn s x F table contents before now pool number answer (slice_set items number later)

@@ -1,5 +1,5 @@
 -- Pools before their first turn.
-use Rattle.std.proofs.Common.{◌≡◌, ℕ, arith, Bool, List, [], ◌∷◌, ◌++◌, refl, sym, ◌∙◌, ap, subst}
+use Rattle.std.proofs.Common.{◌≡◌, ℕ, arith, List, [], ◌∷◌, ◌++◌, refl, sym, ◌∙◌, ap, subst}
 use Rattle.std.specs.Prelude.{Option, Some, None, IfSome, option_map, map, slice_get, slice_index_or}
 use Rattle.std.specs.List.{All}
 use Rattle.std.proofs.lemmas.List.{map-append}
@@ -7,13 +7,11 @@ use Rattle.std.proofs.lemmas.List.Elements.{All-push}
 use Rattle.std.proofs.lemmas.List.Sums.{sum_by-le}
 use Rattle.std.proofs.lemmas.Option.{slice_get_within, get_or_from_slice_get, slice_get-map}
 use Rattle.bit_tape.specs.Tape.{TapeState, bits_of}
-use Rattle.shape_sampler.specs.Visit.{Chooser}
-use Rattle.shape_sampler.specs.Answer.{ChoosesBy}
 use Rattle.size_window.specs.declared.ending.Ending.{Ending as Told}
-use Rattle.size_window.specs.RunByBits.{Limits, State, at_start, after}
-use Rattle.size_window.specs.Drawing.{state_of, ending_of}
+use Rattle.size_window.specs.RunByBits.{Limits, State, at_start}
+use Rattle.size_window.specs.Drawing.{ending_of}
 use Rattle.size_window.specs.Turn.{entry_of}
-use Rattle.size_window.proofs.Going.{goes-start}
+use Rattle.size_window.specs.Trace.{HasTrace, TracesStart}
 use Rattle.session_pool.specs.Member.{MemberState, IsNewMember}
 use Rattle.session_pool.specs.Pool.{tapes_of, sources_of}
 use Rattle.session_pool.specs.Interleaving.{Setting, IsMemberAfter, IsPoolAfter, WasAsked, EndedRightly, failures}
@@ -35,25 +33,17 @@ new-going : (limits : Limits) (tape : TapeState) (m : MemberState) → IsNewMemb
 new-going limits tape m new = not-ended m.drawing.ending (ap (λ (st : State). st.ending) new.state)
 
 -- it stands where no turn leaves it
-new-member : (w : Setting) (limits : Limits) (counts : List ℕ → ℕ) (m : MemberState) → IsNewMember limits m.tape m → m.tape.used ≡ 0 → IsMemberAfter w limits counts counts 0 m
-new-member w limits counts m new unused =
+new-member : TracesStart → (w : Setting) (limits : Limits) (counts : List ℕ → ℕ) (m : MemberState) → IsNewMember limits m.tape m → m.tape.used ≡ 0 → IsMemberAfter w limits counts counts 0 m
+new-member starts w limits counts m new unused =
     let going = new-going limits m.tape m new in
     record {
-      same_limits = new.same_limits;
+      most = 0;
       course = at_start;
-      state = sym new.state ∙ ap (state_of m.drawing) (sym unused);
+      trace = subst (λ used. HasTrace w.spec w.x w.F w.table limits (bits_of m.tape.source w.contents) 0 m.drawing used 0 at_start) (sym unused) (starts w.spec w.x w.F w.table limits (bits_of m.tape.source w.contents) m.drawing new.state new.same_limits new.atoms);
       entries = sym (ap (map entry_of) new.entries);
-      goes = goes-start w.spec w.x limits;
-      faults = λ turn. None;
-      disturbed = λ turn given e. absurd (cc);
-      alone = over (bits_of m.tape.source w.contents);
       asked = subst (WasAsked 0 m.drawing) (sym going) (ap (λ (st : State). st.turns) new.state);
       ended = subst (λ o. IfSome o (EndedRightly w limits m.tape.source counts counts m.drawing)) (sym going) tt;
     }
-  where
-    over : (o : Option (ℕ → Option Bool)) → IfSome o (λ bits. (c : Chooser) → ChoosesBy w.spec w.F w.table c → at_start ≡ after (record { chooser = c; limits = limits; tape = bits }) (λ turn. None) 0)
-    over None = tt
-    over (Some bits) = λ c chooses. refl
 
 -- the tapes' sources
 sources-are : (pool : List MemberState) → sources_of pool ≡ map (λ (t : TapeState). t.source) (tapes_of pool)
@@ -70,14 +60,14 @@ none-failed limits pool name each =
     omega (arith, few)
 
 -- a new pool stands where no turn leaves it
-pub new-pool : (w : Setting) (limits : Limits) (counts : List ℕ → ℕ) (tapes : List TapeState) (pool : List MemberState) → tapes_of pool ≡ tapes → All (λ m. IsNewMember limits m.tape m) pool → All (λ tape. tape.used ≡ 0) tapes → IsPoolAfter w limits (map (λ (t : TapeState). t.source) tapes) counts counts [] pool
-new-pool w limits counts tapes pool same each unused = record {
+pub new-pool : TracesStart → (w : Setting) (limits : Limits) (counts : List ℕ → ℕ) (tapes : List TapeState) (pool : List MemberState) → tapes_of pool ≡ tapes → All (λ m. IsNewMember limits m.tape m) pool → All (λ tape. tape.used ≡ 0) tapes → IsPoolAfter w limits (map (λ (t : TapeState). t.source) tapes) counts counts [] pool
+new-pool starts w limits counts tapes pool same each unused = record {
   same_sources = sources-are pool ∙ ap (map (λ (t : TapeState). t.source)) same;
   each = λ number m at.
       let new = subst (λ (k : MemberState). IsNewMember limits k.tape k) (get_or_from_slice_get pool number m m at) (each number m (slice_get_within pool number m at)) in
       let tape-at : slice_get tapes number ≡ Some m.tape = ap (λ ts. slice_get ts number) (sym same) ∙ (slice_get-map (λ (k : MemberState). k.tape) pool number ∙ ap (option_map (λ (k : MemberState). k.tape)) at) in
       let none = subst (λ (t : TapeState). t.used ≡ 0) (get_or_from_slice_get tapes number m.tape m.tape tape-at) (unused number m.tape (slice_get_within tapes number m.tape tape-at)) in
-      new-member w limits counts m new none;
+      new-member starts w limits counts m new none;
   rose = λ name. omega arith;
   failed = λ name. let none = none-failed limits pool name each in omega (arith, none);
 }

@@ -7,6 +7,7 @@ use Rattle.std.proofs.lemmas.Option.{same_Some, get_or_from_slice_get}
 use Rattle.std.proofs.Math.Seq.{map-set_same}
 use Rattle.bit_tape.specs.Tape.{TapeSource}
 use Rattle.size_window.specs.RunByBits.{Limits}
+use Rattle.size_window.specs.Trace.{TurnsContinueOf}
 use Rattle.session_pool.specs.declared.pooled.Pooled.{Pooled}
 use Rattle.session_pool.specs.Member.{MemberState}
 use Rattle.session_pool.specs.Pool.{sources_of}
@@ -30,7 +31,7 @@ once-more number turns t is = let more = times-on number turns t in let one : on
 as-often : (number : ℕ) (turns : List ℕ) (t : ℕ) → nat_eq number t ≡ false → times number (turns ++ t ∷ []) ≡ times number turns
 as-often number turns t is = let more = times-on number turns t in let none : one-if (nat_eq number t) ≡ 0 = ap one-if is in omega (arith, more, none)
 
-module _ (w : Setting) (limits : Limits) (sources : List TapeSource) (begun before now : List ℕ → ℕ) (grew : (name : List ℕ) → before name ≤ now name) (pool later : List MemberState) (number : ℕ) (answer : Pooled) (h : IsPoolTurn w.spec w.x w.F w.table w.contents before now pool number answer later) (turns : List ℕ) (p : IsPoolAfter w limits sources begun before turns pool) where
+module _ (w : Setting) (limits : Limits) (sources : List TapeSource) (begun before now : List ℕ → ℕ) (grew : (name : List ℕ) → before name ≤ now name) (pool later : List MemberState) (number : ℕ) (answer : Pooled) (h : IsPoolTurn w.spec w.x w.F w.table w.contents before now pool number answer later) (turns : List ℕ) (p : IsPoolAfter w limits sources begun before turns pool) (continues : TurnsContinueOf w.spec) where
   replaced : List MemberState
   replaced = slice_set pool number h.new_member
 
@@ -46,7 +47,7 @@ module _ (w : Setting) (limits : Limits) (sources : List TapeSource) (begun befo
           let old-at : slice_get pool j ≡ Some h.old_member = subst (λ i. slice_get pool i ≡ Some h.old_member) (sym same) h.at in
           subst (λ n. IsMemberAfter w limits begun now n m) (sym (once-more j turns number is))
           (subst (IsMemberAfter w limits begun now (suc (times j turns))) is-new
-          (member-turns w limits begun before now p.rose grew h.old_member h.new_member answer h.turn (times j turns) (p.each j h.old_member old-at)))
+          (member-turns w limits begun before now p.rose grew h.old_member h.new_member answer h.turn (times j turns) (p.each j h.old_member old-at) continues))
 
       elsewhere : nat_eq j number ≡ false → j ≢ number → IsMemberAfter w limits begun now (times j (turns ++ number ∷ [])) m
       elsewhere is other =

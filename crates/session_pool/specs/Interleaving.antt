@@ -1,5 +1,5 @@
 -- Turns in any order: each drawing of a pool stands where it would stand alone.
-use Rattle.std.specs.Prelude.{◌≡◌, ◌≢◌, ℕ, ◌+◌, ◌-◌, ◌^◌, ◌≤◌, min, nat_eq, Bool, false, List, map, slice_get, Option, Some, None, IfSome}
+use Rattle.std.specs.Prelude.{◌≡◌, ◌≢◌, ℕ, ◌+◌, ◌-◌, ◌^◌, ◌≤◌, min, nat_eq, Bool, false, List, map, slice_get, Option, Some, None, IfSome, IsSome}
 use Rattle.std.specs.List.{count_by}
 use Rattle.std.specs.Str.{bytes_eq}
 use Rattle.bz_model.specs.declared.cell.Bounds.{Bounds}
@@ -11,10 +11,10 @@ use Rattle.shape_sampler.specs.Answer.{ChoosesBy}
 use Rattle.size_window.specs.declared.ending.Ending.{Ending}
 use Rattle.size_window.specs.declared.ending.Ending.TheVariants.{Done, TurnLimit, ReadFault}
 use Rattle.size_window.specs.declared.turned.Turned.TheVariants as turned
-use Rattle.size_window.specs.RunByBits.{Limits, Course, after}
+use Rattle.size_window.specs.RunByBits.{Limits, Course}
 use Rattle.size_window.specs.Drawing.{DrawingState, state_of}
 use Rattle.size_window.specs.Turn.{TellsOpen, entry_of, turns_of}
-use Rattle.size_window.specs.Follows.{Goes}
+use Rattle.size_window.specs.Trace.{HasTrace}
 use Rattle.session_pool.specs.Member.{MemberState}
 use Rattle.session_pool.specs.Pool.{sources_of}
 
@@ -46,16 +46,12 @@ pub record EndedRightly (w : Setting) (limits : Limits) (source : TapeSource) (b
   pub failed : ending ≡ ReadFault → HasFault source begun counts
   pub left_open : TellsOpen w.table (turned.Finished ending)
 
--- A drawing of a pool after so many turns of its own. It has a course: its state is that of the drawing, with the bits that its tape used, and its entries are those that the drawing kept. The course goes as ideal runs do. Where the tape's bits are told, it is the course over them of the drawing alone after so many turns, for each chooser by the table. The shelf failed in one of its turns only where the drawing ended with a failed read.
+-- A drawing of a pool after so many turns of its own: it has the trace of a drawing alone that was asked for so many turns over the bits that its tape was given, and the trace's entries are those that the drawing kept.
 pub record IsMemberAfter (w : Setting) (limits : Limits) (begun counts : List ℕ → ℕ) (turns : ℕ) (m : MemberState) : Type 0 where
-  pub same_limits : m.drawing.limits ≡ limits
+  pub most : ℕ
   pub course : Course
-  pub state : course.state ≡ state_of m.drawing m.tape.used
+  pub trace : HasTrace w.spec w.x w.F w.table limits (bits_of m.tape.source w.contents) turns m.drawing m.tape.used most course
   pub entries : course.entries ≡ map entry_of m.entries
-  pub goes : Goes w.spec w.x limits course
-  pub faults : ℕ → Option ℕ
-  pub disturbed : (turn given : ℕ) → faults turn ≡ Some given → m.drawing.ending ≡ Some ReadFault
-  pub alone : IfSome (bits_of m.tape.source w.contents) (λ bits. (c : Chooser) → ChoosesBy w.spec w.F w.table c → course ≡ after (record { chooser = c; limits = limits; tape = bits }) faults turns)
   pub asked : WasAsked turns m.drawing m.drawing.ending
   pub ended : IfSome m.drawing.ending (EndedRightly w limits m.tape.source begun counts m.drawing)
 
@@ -79,7 +75,18 @@ pub record IsPoolAfter (w : Setting) (limits : Limits) (sources : List TapeSourc
   pub rose : (name : List ℕ) → begun name ≤ counts name
   pub failed : (name : List ℕ) → RoseBy (failures name pool) (begun name) (counts name)
 
--- Two drawings are alike: they have one state, with as many bits used, and kept the same objects in the same order.
+-- Two drawings are alike: they have one state, with as many bits used, kept the same objects in the same order, and counted as many atoms.
 pub record AreAlike (m other : MemberState) : Type 0 where
   pub state : state_of m.drawing m.tape.used ≡ state_of other.drawing other.tape.used
+  pub atoms : m.drawing.atoms ≡ other.drawing.atoms
   pub entries : map entry_of m.entries ≡ map entry_of other.entries
+
+-- What two pools over the same tapes tell of their drawings of one number, where the tape's bits are told and neither drawing ended with a failed read: they are alike, whatever the turns of the others, if this holds of the two.
+abbrev pub AreAlikeWhere : (Premise : (times other_times : ℕ) → MemberState → MemberState → Type 0) → Type 0
+AreAlikeWhere Premise =
+    (w : Setting) (limits : Limits) (sources : List TapeSource) (c : Chooser) → ChoosesBy w.spec w.F w.table c
+    → (begun counts : List ℕ → ℕ) (turns : List ℕ) (pool : List MemberState) → IsPoolAfter w limits sources begun counts turns pool
+    → (begun_then counts_then : List ℕ → ℕ) (others : List ℕ) (other : List MemberState) → IsPoolAfter w limits sources begun_then counts_then others other
+    → (number : ℕ) (m n : MemberState) → slice_get pool number ≡ Some m → slice_get other number ≡ Some n → IsSome (bits_of m.tape.source w.contents)
+    → m.drawing.ending ≢ Some ReadFault → n.drawing.ending ≢ Some ReadFault
+    → Premise (times number turns) (times number others) m n → AreAlike m n

@@ -1,6 +1,8 @@
 -- What contracts see of a drawing in a pool.
-use Rattle.std.specs.Prelude.{◌≡◌, ℕ, ◌-◌, List, []}
+use Rattle.std.specs.Prelude.{◌≡◌, ℕ, ◌-◌, Bool, true, false, List, [], Option, Some, None}
 use Rattle.bit_tape.specs.Tape.{TapeState}
+use Rattle.size_window.specs.declared.ending.Ending.{Ending}
+use Rattle.size_window.specs.declared.ending.Ending.TheVariants.{ReadFault}
 use Rattle.size_window.specs.declared.limits.Counts.{Counts}
 use Rattle.size_window.specs.declared.turned.Entry.{Entry}
 use Rattle.size_window.specs.RunByBits.{Limits, start}
@@ -28,3 +30,8 @@ pub record IsNewMember (limits : Limits) (tape : TapeState) (m : MemberState) : 
 -- How many bits a turn from one state of a member to another gave to numbers of nodes.
 abbrev pub bits_to_nodes : (m later : MemberState) → ℕ
 bits_to_nodes m later = node_bits m.drawing.waiting (later.tape.used - m.tape.used)
+
+-- A drawing that hadn't ended has ended with a failed read.
+abbrev pub read_failed : (before now : Option Ending) → Bool
+read_failed None (Some ReadFault) = true
+read_failed before now = false

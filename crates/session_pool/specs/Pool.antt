@@ -1,13 +1,13 @@
 -- What contracts see of a pool: the list of its members.
-use Rattle.std.specs.Prelude.{◌≡◌, ℕ, List, map, slice_get, Option, Some, None, option_map}
+use Rattle.std.specs.Prelude.{◌≡◌, ℕ, List, map, slice_get, Option, Some, None}
 use Rattle.std.specs.List.{All}
 use Rattle.bz_model.specs.Fraction.{Fraction}
 use Rattle.bz_model.specs.Spec.{Spec}
-use Rattle.bit_tape.specs.Tape.{TapeState, TapeSource, Belongs}
+use Rattle.bit_tape.specs.Tape.{TapeState, TapeSource, Belongs, LeavesTape}
 use Rattle.size_window.specs.declared.ending.Ending.{Ending}
 use Rattle.size_window.specs.RunByBits.{Limits}
 use Rattle.size_window.specs.Drawing.{DrawingBelongs}
-use Rattle.session_pool.specs.Member.{MemberState, IsNewMember, bits_to_nodes}
+use Rattle.session_pool.specs.Member.{MemberState, IsNewMember, bits_to_nodes, read_failed}
 
 -- The tapes of a pool, in order.
 abbrev pub tapes_of : List MemberState → List TapeState
@@ -16,10 +16,6 @@ tapes_of pool = map (λ m. m.tape) pool
 -- Where the bits of its tapes come from, in order.
 abbrev pub sources_of : List MemberState → List TapeSource
 sources_of pool = map (λ m. m.tape.source) pool
-
--- Where the bits of the tape of this number come from.
-abbrev pub source_at : List MemberState → (number : ℕ) → Option TapeSource
-source_at pool number = option_map (λ m. m.tape.source) (slice_get pool number)
 
 -- A pool belongs to a specification and x where each of its drawings does.
 pub record PoolBelongs (s : Spec) (x : Fraction) (pool : List MemberState) : Type 0 where
@@ -51,3 +47,8 @@ ending_of_member None = None
 -- Why the drawing of this number ended, if it ended.
 abbrev pub ending_at : List MemberState → (number : ℕ) → Option Ending
 ending_at pool number = ending_of_member (slice_get pool number)
+
+-- What a turn of a drawing leaves of its tape and the shelf, where there is a drawing before and after it: a failed read is counted exactly where the drawing ends with one.
+abbrev pub LeavesTapeOf : {S : Type 0} → (contents : S → List ℕ → Option (List ℕ)) → (counts : S → List ℕ → ℕ) → (before now : S) → Option MemberState → Option MemberState → Type 0
+LeavesTapeOf contents counts before now (Some m) (Some later) = LeavesTape contents counts (read_failed m.drawing.ending later.drawing.ending) before now m.tape later.tape
+LeavesTapeOf contents counts before now _ _ = Unit {0}

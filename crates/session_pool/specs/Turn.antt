@@ -3,13 +3,13 @@ use Rattle.std.specs.Prelude.{◌≡◌, ◌≢◌, ℕ, ◌+◌, ◌≤◌, ◌
 use Rattle.bz_model.specs.declared.cell.Bounds.{Bounds}
 use Rattle.bz_model.specs.Fraction.{Fraction}
 use Rattle.bz_model.specs.Spec.{Spec}
-use Rattle.bit_tape.specs.Tape.{bits_of, HasFault}
+use Rattle.bit_tape.specs.Tape.{bits_of, CountsFault}
 use Rattle.size_window.specs.declared.ending.Ending.{Ending}
-use Rattle.size_window.specs.declared.ending.Ending.TheVariants.{Done, TurnLimit, ReadFault}
+use Rattle.size_window.specs.declared.ending.Ending.TheVariants.{Done, TurnLimit}
 use Rattle.size_window.specs.declared.turned.Entry.{Entry}
 use Rattle.size_window.specs.declared.turned.Turned.{Turned}
 use Rattle.size_window.specs.declared.turned.Turned.TheVariants as turned
-use Rattle.size_window.specs.Turn.{IsTurn, IsCounted, IfKept, IsNext, HasLabels, most_bits, TellsOpen}
+use Rattle.size_window.specs.Turn.{IsTurn, IsCounted, is_fault, IfKept, IsNext, HasLabels, most_bits, TellsOpen}
 use Rattle.session_pool.specs.declared.pooled.Pooled.{Pooled}
 use Rattle.session_pool.specs.declared.pooled.Pooled.TheVariants.{Going, Finished}
 use Rattle.session_pool.specs.Member.{MemberState}
@@ -24,14 +24,13 @@ abbrev pub answer_of : Option Ending → Pooled
 answer_of None = Going
 answer_of (Some ending) = Finished
 
--- A drawing that hadn't ended answers Done exactly where as many objects as wanted are kept, and else TurnLimit exactly where as many turns as the limit were counted. It answers a failed read only where the count of its tape's name rose, and tells the bounds of level 6 of a node whose number it left open.
-pub record AnswersRightly (table : (level node : ℕ) → Bounds) (m : MemberState) (before now : List ℕ → ℕ) (told : Turned) : Type 0 where
+-- A drawing that hadn't ended answers Done exactly where as many objects as wanted are kept, and else TurnLimit exactly where as many turns as the limit were counted. It tells the bounds of level 6 of a node whose number it left open.
+pub record AnswersRightly (table : (level node : ℕ) → Bounds) (m : MemberState) (told : Turned) : Type 0 where
   pub done : (told ≡ turned.Finished Done) ↔ (m.drawing.kept ≡ m.drawing.limits.count)
   pub turn_limit : (told ≡ turned.Finished TurnLimit) ↔ ((m.drawing.kept ≢ m.drawing.limits.count) × (m.drawing.turns ≡ m.drawing.limits.turns))
-  pub failed : told ≡ turned.Finished ReadFault → HasFault m.tape.source before now
   pub left_open : TellsOpen table told
 
--- A turn of one drawing of a pool: the drawing makes its turn over its tape, and what it kept is appended to its entries. One that had ended answers its ending again and is as it was. The pool answers whether the drawing goes on.
+-- A turn of one drawing of a pool: the drawing makes its turn over its tape, and what it kept is appended to its entries. One that had ended answers its ending again and is as it was. A failed read is answered exactly where the count of its tape's name rose. The pool answers whether the drawing goes on.
 pub record IsMemberTurn (s : Spec) (x : Fraction) (F : ℕ) (table : (level node : ℕ) → Bounds) (contents : List ℕ → Option (List ℕ)) (before now : List ℕ → ℕ) (m : MemberState) (answer : Pooled) (later : MemberState) : Type 0 where
   pub told : Turned
   pub made : told ≢ turned.OutOfMemory
@@ -39,11 +38,12 @@ pub record IsMemberTurn (s : Spec) (x : Fraction) (F : ℕ) (table : (level node
   pub again : IfSome m.drawing.ending (λ ending. (told ≡ turned.Finished ending) × (later ≡ m))
   pub counted : IsCounted m.drawing told later.drawing
   pub next : IfKept told (IsNext m.drawing.limits m.drawing.kept later.tape.used)
-  pub rightly : m.drawing.ending ≡ None → AnswersRightly table m before now told
+  pub rightly : m.drawing.ending ≡ None → AnswersRightly table m told
   pub labels : IfKept told (HasLabels s.mode)
   pub entries : later.entries ≡ m.entries ++ kept_in told
   pub used : (m.tape.used ≤ later.tape.used) × (later.tape.used ≤ m.tape.used + most_bits m.drawing.waiting)
   pub source : later.tape.source ≡ m.tape.source
+  pub faults : CountsFault (is_fault told m.drawing.ending) m.tape.source before now
   pub answers : answer ≡ answer_of later.drawing.ending
 
 -- A turn of a pool: the drawing of this number makes its turn, and every other one is as it was, with its tape and its entries.

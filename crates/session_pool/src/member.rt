@@ -1,11 +1,11 @@
 //! One drawing of a pool, with its tape and what it kept.
-ghost use Rattle.std.specs.Prelude.{◌≡◌, ◌≢◌, ℕ, ◌+◌, ◌≤◌, max, [], List, IfOk, IsSome, Some, None};
+ghost use Rattle.std.specs.Prelude.{◌≡◌, ◌≢◌, ◌≤◌, max, IfOk, IsSome};
 ghost use Rattle.bz_model.specs.Fraction.{Fraction};
-ghost use Rattle.bz_model.specs.Oracle.{cost_between};
-ghost use Rattle.bit_tape.specs.Tape.{TapeSource, Belongs, HasFault};
+ghost use Rattle.bz_model.specs.Oracle.{LeavesOracle};
+ghost use Rattle.bit_tape.specs.Tape.{Belongs, LeavesTape};
 ghost use Rattle.choice_draw.specs.Decision.{level_for};
 ghost use Rattle.size_window.specs.Drawing.{limits_of, AreLimits, DrawingBelongs};
-ghost use Rattle.session_pool.specs.Member.{IsNewMember, counts_of, bits_to_nodes};
+ghost use Rattle.session_pool.specs.Member.{IsNewMember, counts_of, bits_to_nodes, read_failed};
 ghost use Rattle.session_pool.specs.Turn.{IsMemberTurn};
 
 use crate::pooled::Pooled;
@@ -83,25 +83,14 @@ impl Member {
             → IsMemberTurn founded.now (O.x oracle.old) F (O.table oracle.old) (S.content shelf.old)
             (S.faults shelf.old) (S.faults shelf.new) self.old result self.new }
         ensures drawing { DrawingBelongs founded.now (O.x oracle.old) self.new.drawing }
-        ensures tape { Belongs (S.content shelf.new) self.new.tape }
-        ensures source { self.new.tape.source ≡ self.old.tape.source }
-        ensures cause { self.old.drawing.ending ≡ None
-            → self.new.drawing.ending ≡ Some Ending.ReadFault
-            → HasFault self.old.tape.source (S.faults shelf.old) (S.faults shelf.new) }
-        ensures seeded { (seed : ℕ) → self.old.tape.source ≡ TapeSource.Seeded seed
-            → shelf.new ≡ shelf.old }
-
-        ensures spec { O.spec oracle.new ≡ O.spec oracle.old }
-        ensures x { O.x oracle.new ≡ O.x oracle.old }
-        ensures table { O.table oracle.new ≡ O.table oracle.old }
-        ensures cost { O.cost oracle.new ≡ O.cost oracle.old }
         ensures raised { O.raised oracle.new
             ≡ max (O.raised oracle.old) (level_for (bits_to_nodes self.old self.new)) }
         ensures node_bits { bits_to_nodes self.old self.new ≤ 60 }
-        ensures ticks { steps.new ≤ steps.old
-            + cost_between (O.cost oracle.old) (O.raised oracle.old) (O.raised oracle.new) }
-        ensures content { S.content shelf.new ≡ S.content shelf.old }
-        ensures faults { (other : List ℕ) → S.faults shelf.old other ≤ S.faults shelf.new other }
+        ensures oracle { LeavesOracle O.spec O.x O.table O.cost O.raised
+            oracle.old oracle.new steps.old steps.new }
+        ensures tape { LeavesTape S.content S.faults
+            (read_failed self.old.drawing.ending self.new.drawing.ending)
+            shelf.old shelf.new self.old.tape self.new.tape }
     {
         if self.drawing.ending().is_some() {
             return Pooled::Finished;

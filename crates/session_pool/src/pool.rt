@@ -1,14 +1,14 @@
 //! A pool of drawings.
-ghost use Rattle.std.specs.Prelude.{◌≡◌, ◌≢◌, ℕ, ◌+◌, ◌<◌, ◌≤◌, max, [], ◌∷◌, ◌++◌, List, length, map, slice_get, Some, None, IfOk, IfSome, IsSome};
+ghost use Rattle.std.specs.Prelude.{◌≡◌, ◌≢◌, ℕ, ◌<◌, ◌≤◌, max, [], ◌∷◌, ◌++◌, List, length, map, slice_get, IfOk, IfSome, IsSome};
 ghost use Rattle.std.specs.List.{All};
 ghost use Rattle.bz_model.specs.Fraction.{Fraction};
-ghost use Rattle.bz_model.specs.Oracle.{cost_between};
+ghost use Rattle.bz_model.specs.Oracle.{LeavesOracle};
 ghost use Rattle.choice_draw.specs.Decision.{level_for};
 ghost use Rattle.size_window.specs.RunByBits as run;
 ghost use Rattle.size_window.specs.Drawing.{limits_of, AreLimits};
-ghost use Rattle.bit_tape.specs.Tape.{TapeSource, HasFault};
+ghost use Rattle.bit_tape.specs.Tape.{TapeSource};
 ghost use Rattle.session_pool.specs.Member.{counts_of};
-ghost use Rattle.session_pool.specs.Pool.{IsNewPool, PoolBelongs, TapesBelong, tapes_of, sources_of, source_at, bits_to_nodes_at, ending_at};
+ghost use Rattle.session_pool.specs.Pool.{IsNewPool, PoolBelongs, TapesBelong, LeavesTapeOf, tapes_of, sources_of, bits_to_nodes_at, ending_at};
 ghost use Rattle.session_pool.specs.Turn.{IsPoolTurn, answer_of};
 ghost use Rattle.session_pool.specs.Interleaving.{Setting, setting, IsPoolAfter};
 
@@ -19,6 +19,7 @@ use bz_model::oracle::Oracle;
 use bz_model::steps::Steps;
 use bz_outside::shelf::Shelf;
 use size_window::ending::Ending;
+use size_window::laws::{a_trace_starts_with_its_drawing, a_turn_continues_a_trace};
 use size_window::limits::Limits;
 use std::alloc::{AllocError, Global};
 use std::marker::Model;
@@ -61,6 +62,7 @@ impl Pool {
             → IsPoolAfter w (limits_of limits) (map (λ tape. tape.source) tapes.items)
             counts counts [] p) }
     {
+        a_trace_starts_with_its_drawing();
         let mut members = Vec::with_capacity(alloc, tapes.len())?;
         for tape in tapes {
             let member = Member::new(alloc, founded, limits, tape)?;
@@ -74,9 +76,9 @@ impl Pool {
     /// It answers `Going` exactly where that drawing goes on afterwards, and `Finished` exactly where
     /// it has ended. A drawing that had ended isn't touched. The object that a turn keeps is appended
     /// to the drawing's entries. Every other drawing stays as it was, with its tape and its entries.
-    /// An ending becomes `ReadFault` only where the count of faults of that tape's name rose. All
-    /// memory is taken before the first bit; `OutOfMemory` leaves pool, oracle and shelf as they
-    /// were.
+    /// An ending becomes `ReadFault` exactly where the count of faults of that tape's name rose, by
+    /// one. All memory is taken before the first bit; `OutOfMemory` leaves pool, oracle and shelf as
+    /// they were.
     pub fn turn<const F: u32, O: Oracle<F>, S: Shelf, L: Ledger>(
         &mut self,
         number: usize,
@@ -108,29 +110,21 @@ impl Pool {
             → IsPoolAfter (setting founded.now (O.x oracle.old) F (O.table oracle.old)
             (S.content shelf.old)) limits sources begun (S.faults shelf.new)
             (turns ++ number ∷ []) self.new }
-        ensures cause { ending_at self.old number ≡ None
-            → ending_at self.new number ≡ Some Ending.ReadFault
-            → IfSome (source_at self.old number)
-            (λ source. HasFault source (S.faults shelf.old) (S.faults shelf.new)) }
         ensures number { length self.new ≡ length self.old }
         ensures sources { sources_of self.new ≡ sources_of self.old }
         ensures drawings { PoolBelongs founded.now (O.x oracle.old) self.new }
         ensures tapes { TapesBelong (S.content shelf.new) (tapes_of self.new) }
 
-        ensures spec { O.spec oracle.new ≡ O.spec oracle.old }
-        ensures x { O.x oracle.new ≡ O.x oracle.old }
-        ensures table { O.table oracle.new ≡ O.table oracle.old }
-        ensures cost { O.cost oracle.new ≡ O.cost oracle.old }
         ensures raised { O.raised oracle.new ≡ max (O.raised oracle.old)
             (level_for (bits_to_nodes_at number self.old self.new)) }
         ensures node_bits { bits_to_nodes_at number self.old self.new ≤ 60 }
-        ensures ticks { steps.new ≤ steps.old
-            + cost_between (O.cost oracle.old) (O.raised oracle.old) (O.raised oracle.new) }
-        ensures content { S.content shelf.new ≡ S.content shelf.old }
-        ensures faults { (other : List ℕ) → S.faults shelf.old other ≤ S.faults shelf.new other }
-        ensures seeded { (seed : ℕ) → source_at self.old number ≡ Some (TapeSource.Seeded seed)
-            → shelf.new ≡ shelf.old }
+        ensures oracle { LeavesOracle O.spec O.x O.table O.cost O.raised
+            oracle.old oracle.new steps.old steps.new }
+        ensures tape { LeavesTapeOf S.content S.faults shelf.old shelf.new
+            (slice_get self.old number) (slice_get self.new number) }
     {
+        founded.system().known();
+        a_turn_continues_a_trace();
         let member = &mut self.members[number];
         member.turn(founded, oracle, shelf, steps)
     }

@@ -1,5 +1,5 @@
 -- Visits of nodes that take no number.
-use Rattle.std.proofs.Common.{◌≡◌, ◌≢◌, ℕ, List, [], ◌∷◌, append-nil, refl, sym, ◌∙◌, ap, subst, Option, Some, None, Bool, false, max, ◌-◌, ◌≤◌, map, length, arith, slice_get, slice_index}
+use Rattle.std.proofs.Common.{◌≡◌, ◌≢◌, ℕ, List, [], ◌∷◌, append-nil, refl, sym, ◌∙◌, ap, subst, Option, Some, Bool, false, max, ◌-◌, ◌≤◌, map, length, arith, slice_get, slice_index}
 use Rattle.std.proofs.lemmas.List.{length-map}
 use Rattle.std.proofs.lemmas.Option.{get_or_from_slice_get}
 use Rattle.bz_model.specs.Fraction.{Fraction}

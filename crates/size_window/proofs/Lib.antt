@@ -15,3 +15,5 @@ pub mod SpelledTurns
 pub mod VisitsAgain
 pub mod Redrawing
 pub mod Tracing
+pub mod SizedVisits
+pub mod Ordering

@@ -1,7 +1,6 @@
 -- Each entry of a course is made again from the bits that its own cells spell.
-use Rattle.std.proofs.Common.{◌≡◌, ◌≢◌, ℕ, zero, suc, ◌+◌, ◌-◌, arith, Bool, true, false, cond, List, [], ◌∷◌, ◌++◌, length, append-nil, length-append, refl, sym, ◌∙◌, ap, subst}
+use Rattle.std.proofs.Common.{◌≡◌, ◌≢◌, ℕ, zero, suc, ◌+◌, arith, Bool, true, false, cond, List, [], ◌∷◌, ◌++◌, length, append-nil, length-append, refl, sym, ◌∙◌, ap, subst}
 use Rattle.std.specs.Prelude.{Option, Some, None, nat_eq, nat_lt, slice_get, option_to_list}
-use Rattle.std.specs.List.{AllByRecursion}
 use Rattle.bz_model.specs.declared.cell.Cell.{Cell}
 use Rattle.bz_model.specs.Spec.{Mode}
 use Rattle.bz_model.specs.Cell.{spelled}
@@ -12,9 +11,9 @@ use Rattle.choice_draw.specs.Draw.{bit_of}
 use Rattle.labelling.specs.LabelsByBits.{Labelling, labelling}
 use Rattle.labelling.proofs.SpelledLabels.{spelled-both}
 use Rattle.labelling.proofs.DrawnAgain.{labels_are_drawn_again}
-use Rattle.shape_sampler.specs.Visit.{Chooser, Attempt, Visited, visit, visit_among, begun}
-use Rattle.size_window.specs.RunByBits.{Sampling, State, Turned, Course, Entry, Ending, quiet, idle, with_attempt, at_place, added, thrown_away, kept_one, entry_of, kept_or_waits, shape_made, went, visited, shape_turn, counted_turn, label_turn, labelled_with, cut_short, turn_unless, fault_place, followed_by, after, ended}
-use Rattle.size_window.specs.Redrawn.{visits, visited_next, HasLabelsAgain, IsRedrawnAt, IsRedrawn, IsRedrawnAlone, AreRedrawn}
+use Rattle.shape_sampler.specs.Visit.{Attempt, Visited, visit, visit_among, begun}
+use Rattle.size_window.specs.RunByBits.{Sampling, State, Turned, Course, Entry, Ending, quiet, with_attempt, at_place, added, thrown_away, entry_of, kept_or_waits, went, visited, shape_turn, counted_turn, label_turn, labelled_with, cut_short, turn_unless, fault_place, after, ended}
+use Rattle.size_window.specs.Redrawn.{visits, visited_next, HasLabelsAgain, IsRedrawn, IsRedrawnAlone, AreRedrawn}
 use Rattle.size_window.proofs.Going.{all-more}
 use Rattle.size_window.proofs.VisitsAgain.{at_used, ComesAgain, visit-again}
 
@@ -50,12 +49,13 @@ module _ (s : Sampling) where
           let first = h.by bits start (has_bits-first bits start (spelled a.cells) (spelled again.more) all) in
           let middle : ℕ = start + length (spelled a.cells) in
           let next = again.again bits middle (has_bits-more bits start (spelled a.cells) (spelled again.more) all) in
-          let count : middle + length (spelled again.more) ≡ start + length (spelled b.cells) = (let l = length-append (spelled a.cells) (spelled again.more) in let z : start + length (spelled a.cells) + length (spelled again.more) ≡ start + length (spelled a.cells ++ spelled again.more) = omega (arith, l) in z) ∙ ap (λ bs. start + length bs) (sym both) in
-          (suc first.0,
+          let count : middle + length (spelled again.more) ≡ start + length (spelled b.cells) = (let l = length-append (spelled a.cells) (spelled again.more) in let z : start + length (spelled a.cells) + length (spelled again.more) ≡ start + length (spelled a.cells ++ spelled again.more) = omega (arith, l) in z) ∙ ap (λ bs. start + length bs) (sym both) in (
+            suc first.0,
             ap (visited_next s.chooser (bit_of bits None)) first.1
-            ∙ ap (visit_among s.chooser (bit_of bits None) (at_used a middle)) pending
-            ∙ next
-            ∙ ap (λ n. Visited.Went (at_used b n)) count)
+                ∙ ap (visit_among s.chooser (bit_of bits None) (at_used a middle)) pending
+                ∙ next
+                ∙ ap (λ n. Visited.Went (at_used b n)) count,
+          )
 
   -- What holds of a state: an attempt under way, and a made shape that awaits its labels, come of visits.
   record Keeps (st : State) : Type 0 where

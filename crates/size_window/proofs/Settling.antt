@@ -1,5 +1,5 @@
 -- A turn that visits a node is the turn of a drawing by bits.
-use Rattle.std.proofs.Common.{◌≡◌, ◌≢◌, ℕ, ◌+◌, ◌-◌, ◌<◌, ◌≤◌, inl, inr, Bool, true, false, cond, List, [], ◌∷◌, ◌++◌, Option, Some, None, IfSome, refl, sym, ◌∙◌, ap, subst, arith, append-nil, add-one}
+use Rattle.std.proofs.Common.{◌≡◌, ◌≢◌, ℕ, ◌+◌, ◌-◌, ◌<◌, ◌≤◌, inl, inr, Bool, true, false, cond, List, [], ◌∷◌, ◌++◌, Option, Some, None, refl, sym, ◌∙◌, ap, subst, arith, append-nil, add-one}
 use Rattle.std.specs.Prelude.{nat_lt, option_map}
 use Rattle.std.specs.Option.{is_some}
 use Rattle.std.proofs.lemmas.Bool.{ltb-true, ltb-false}
@@ -140,14 +140,14 @@ module _ (s : Spec) (x : Fraction) (F : ℕ) (table : (level node : ℕ) → Bou
 
   moved : session.pending ≢ [] → told.Extends before.session.cells session.cells → IsTold stepped.Moved → IsTurn s x F table bits before start answer.Going (counted mid) used
   moved pending extends exact = by-visit stepped.Moved answer.Going (counted mid)
-    (record { state = state_of (counted mid) used; entry = None; cells = more_cells })
-    refl refl
-    (λ c same k. goes-on s x before.limits c k (state_of (counted mid) used) more_cells session.cells (course-going s x F table bits before b start c same on.going) (added-now c same extends) (ap (λ (a : Attempt). a.cells) (attempt-some mid used no_shape pending)) (course-kept s x F table bits before b start c same) (course-thrown s x F table bits before b start c same))
-    (λ e. cc) refl
-    (λ c tape is.
-        went-some (record { chooser = c; limits = before.limits; tape = tape }) (in_turn before (attempt_of session used)) session.pending more_cells pending
-        ∙ ap (λ st. record { state = st; entry = None; cells = more_cells }) (sym (state-at mid (attempt_of session used) used no_shape (attempt-some mid used no_shape pending))))
-    (λ tape. (λ h. h, λ h. h)) exact
+      (record { state = state_of (counted mid) used; entry = None; cells = more_cells })
+      refl refl
+      (λ c same k. goes-on s x before.limits c k (state_of (counted mid) used) more_cells session.cells (course-going s x F table bits before b start c same on.going) (added-now c same extends) (ap (λ (a : Attempt). a.cells) (attempt-some mid used no_shape pending)) (course-kept s x F table bits before b start c same) (course-thrown s x F table bits before b start c same))
+      (λ e. cc) refl
+      (λ c tape is.
+      went-some (record { chooser = c; limits = before.limits; tape = tape }) (in_turn before (attempt_of session used)) session.pending more_cells pending
+      ∙ ap (λ st. record { state = st; entry = None; cells = more_cells }) (sym (state-at mid (attempt_of session used) used no_shape (attempt-some mid used no_shape pending))))
+      (λ tape. (λ h. h, λ h. h)) exact
 
   -- the state after an attempt was thrown away
   thrown-state : session.pending ≡ [] → thrown_away (in_turn before (attempt_of session used)) ≡ state_of (thrown_one (counted mid)) used
@@ -158,24 +158,24 @@ module _ (s : Spec) (x : Fraction) (F : ℕ) (table : (level node : ℕ) → Bou
 
   small : session.pending ≡ [] → told.Extends before.session.cells session.cells → IsIdealShape s x before.limits.max session.tokens session.cells → size_of session.tokens < before.limits.min → IsTold stepped.Made → IsTurn s x F table bits before start answer.Going (thrown_one (counted mid)) used
   small none extends ideal little exact = by-visit stepped.Made answer.Going (thrown_one (counted mid))
-    (record { state = state_of (thrown_one (counted mid)) used; entry = None; cells = more_cells })
-    refl refl
-    (λ c same k. goes-small s x before.limits c k (state_of (thrown_one (counted mid)) used) more_cells session.cells (course-going s x F table bits before b start c same on.going) (added-now c same extends) (no-cells (thrown_one (counted mid)) no_shape none) (course-fewer s x F table bits before b start c same on.fewer) session.tokens ideal little (course-kept s x F table bits before b start c same) (one-thrown c same))
-    (λ e. cc) refl
-    (λ c tape is.
-        went-small (record { chooser = c; limits = before.limits; tape = tape }) (in_turn before (attempt_of session used)) session.pending more_cells none little
-        ∙ ap (λ st. record { state = st; entry = None; cells = more_cells }) (thrown-state none))
-    (λ tape. (λ h. h, λ h. h)) exact
+      (record { state = state_of (thrown_one (counted mid)) used; entry = None; cells = more_cells })
+      refl refl
+      (λ c same k. goes-small s x before.limits c k (state_of (thrown_one (counted mid)) used) more_cells session.cells (course-going s x F table bits before b start c same on.going) (added-now c same extends) (no-cells (thrown_one (counted mid)) no_shape none) (course-fewer s x F table bits before b start c same on.fewer) session.tokens ideal little (course-kept s x F table bits before b start c same) (one-thrown c same))
+      (λ e. cc) refl
+      (λ c tape is.
+      went-small (record { chooser = c; limits = before.limits; tape = tape }) (in_turn before (attempt_of session used)) session.pending more_cells none little
+      ∙ ap (λ st. record { state = st; entry = None; cells = more_cells }) (thrown-state none))
+      (λ tape. (λ h. h, λ h. h)) exact
 
   over : session.pending ≡ [] → told.Extends before.session.cells session.cells → IsIdealOver s x before.limits.max session.cells → IsTold stepped.Overshot → IsTurn s x F table bits before start answer.Going (thrown_one (counted mid)) used
   over none extends ideal exact = by-visit stepped.Overshot answer.Going (thrown_one (counted mid))
-    (record { state = state_of (thrown_one (counted mid)) used; entry = None; cells = more_cells })
-    refl refl
-    (λ c same k. goes-over s x before.limits c k (state_of (thrown_one (counted mid)) used) more_cells session.cells (course-going s x F table bits before b start c same on.going) (added-now c same extends) (no-cells (thrown_one (counted mid)) no_shape none) (course-fewer s x F table bits before b start c same on.fewer) ideal (course-kept s x F table bits before b start c same) (one-thrown c same))
-    (λ e. cc) refl
-    (λ c tape is.
-        ap (λ st. record { state = st; entry = None; cells = more_cells }) (thrown-state none))
-    (λ tape. (λ h. h, λ h. h)) exact
+      (record { state = state_of (thrown_one (counted mid)) used; entry = None; cells = more_cells })
+      refl refl
+      (λ c same k. goes-over s x before.limits c k (state_of (thrown_one (counted mid)) used) more_cells session.cells (course-going s x F table bits before b start c same on.going) (added-now c same extends) (no-cells (thrown_one (counted mid)) no_shape none) (course-fewer s x F table bits before b start c same on.fewer) ideal (course-kept s x F table bits before b start c same) (one-thrown c same))
+      (λ e. cc) refl
+      (λ c tape is.
+      ap (λ st. record { state = st; entry = None; cells = more_cells }) (thrown-state none))
+      (λ tape. (λ h. h, λ h. h)) exact
 
   -- a drawing that kept its shape
   abbrev keeping : DrawingState
@@ -195,15 +195,15 @@ module _ (s : Spec) (x : Fraction) (F : ℕ) (table : (level node : ℕ) → Bou
 
     large : s.mode ≡ Mode.Unlabelled → session.pending ≡ [] → told.Extends before.session.cells session.cells → IsIdealShape s x before.limits.max session.tokens session.cells → before.limits.min ≤ size_of session.tokens → IsTold stepped.Made → IsTurn s x F table bits before start (answer.Kept e) keeping used
     large plain none extends ideal enough exact = by-visit stepped.Made (answer.Kept e) keeping
-      (record { state = state_of keeping used; entry = Some (entry_of e); cells = more_cells })
-      refl refl
-      (λ c same k. goes-kept s x before.limits c k (state_of keeping used) more_cells session.cells (course-going s x F table bits before b start c same on.going) (added-now c same extends) (no-cells keeping no_shape none) (course-fewer s x F table bits before b start c same on.fewer) session.tokens session.cells [] [] (append-nil session.cells) ideal enough (gives-none s plain (size_of session.tokens)) (entry_of e) shape (ap labels_of no_labels) cells (ap (λ n. n + 1) (course-kept s x F table bits before b start c same)) (course-thrown s x F table bits before b start c same))
-      (λ e. cc) refl
-      (λ c tape is.
-          went-large (record { chooser = c; limits = before.limits; tape = tape }) (in_turn before (attempt_of session used)) session.pending more_cells Mode.Unlabelled none (ap (λ (t : Spec). t.mode) is ∙ plain) enough
-          ∙ ap (λ st. record { state = st; entry = Some (run.entry_of (in_turn before (attempt_of session used)) [] []); cells = more_cells }) (kept-state none)
-          ∙ ap (λ n. record { state = state_of keeping used; entry = Some n; cells = more_cells }) kept-entry)
-      (λ tape. (λ h. h, λ h. h)) exact
+        (record { state = state_of keeping used; entry = Some (entry_of e); cells = more_cells })
+        refl refl
+        (λ c same k. goes-kept s x before.limits c k (state_of keeping used) more_cells session.cells (course-going s x F table bits before b start c same on.going) (added-now c same extends) (no-cells keeping no_shape none) (course-fewer s x F table bits before b start c same on.fewer) session.tokens session.cells [] [] (append-nil session.cells) ideal enough (gives-none s plain (size_of session.tokens)) (entry_of e) shape (ap labels_of no_labels) cells (ap (λ n. n + 1) (course-kept s x F table bits before b start c same)) (course-thrown s x F table bits before b start c same))
+        (λ e. cc) refl
+        (λ c tape is.
+        went-large (record { chooser = c; limits = before.limits; tape = tape }) (in_turn before (attempt_of session used)) session.pending more_cells Mode.Unlabelled none (ap (λ (t : Spec). t.mode) is ∙ plain) enough
+        ∙ ap (λ st. record { state = st; entry = Some (run.entry_of (in_turn before (attempt_of session used)) [] []); cells = more_cells }) (kept-state none)
+        ∙ ap (λ n. record { state = state_of keeping used; entry = Some n; cells = more_cells }) kept-entry)
+        (λ tape. (λ h. h, λ h. h)) exact
 
   -- a drawing whose shape waits for its labels
   abbrev waiting : DrawingState
@@ -214,14 +214,14 @@ module _ (s : Spec) (x : Fraction) (F : ℕ) (table : (level node : ℕ) → Bou
 
   waits : s.mode ≡ Mode.Labelled → session.pending ≡ [] → told.Extends before.session.cells session.cells → before.limits.min ≤ size_of session.tokens → IsTold stepped.Made → IsTurn s x F table bits before start answer.Going waiting used
   waits labelled none extends enough exact = by-visit stepped.Made answer.Going waiting
-    (record { state = state_of waiting used; entry = None; cells = more_cells })
-    refl refl
-    (λ c same k. goes-on s x before.limits c k (state_of waiting used) more_cells session.cells (course-going s x F table bits before b start c same on.going) (added-now c same extends) refl (course-kept s x F table bits before b start c same) (course-thrown s x F table bits before b start c same))
-    (λ e. cc) refl
-    (λ c tape is.
-        went-large (record { chooser = c; limits = before.limits; tape = tape }) (in_turn before (attempt_of session used)) session.pending more_cells Mode.Labelled none (ap (λ (t : Spec). t.mode) is ∙ labelled) enough
-        ∙ ap (λ st. record { state = st; entry = None; cells = more_cells }) (waiting-state none))
-    (λ tape. (λ h. h, λ h. h)) exact
+      (record { state = state_of waiting used; entry = None; cells = more_cells })
+      refl refl
+      (λ c same k. goes-on s x before.limits c k (state_of waiting used) more_cells session.cells (course-going s x F table bits before b start c same on.going) (added-now c same extends) refl (course-kept s x F table bits before b start c same) (course-thrown s x F table bits before b start c same))
+      (λ e. cc) refl
+      (λ c tape is.
+      went-large (record { chooser = c; limits = before.limits; tape = tape }) (in_turn before (attempt_of session used)) session.pending more_cells Mode.Labelled none (ap (λ (t : Spec). t.mode) is ∙ labelled) enough
+      ∙ ap (λ st. record { state = st; entry = None; cells = more_cells }) (waiting-state none))
+      (λ tape. (λ h. h, λ h. h)) exact
 
   kept-or-waits : (mode : Mode) → s.mode ≡ mode → (result : Turned) (now : DrawingState) → KeepsOrWaits mode (shape_in session) used (counted (taken_out mid)) result now → session.pending ≡ [] → told.Extends before.session.cells session.cells → IsIdealShape s x before.limits.max session.tokens session.cells → before.limits.min ≤ size_of session.tokens → IsTold stepped.Made → IsTurn s x F table bits before start result now used
   kept-or-waits Mode.Unlabelled plain result now k none extends ideal enough exact = is-turn s x F table bits before b start (answer.Kept k.entry) keeping k.told k.now_is (large k.entry k.number k.place k.shape_is k.labels_are k.cells plain none extends ideal enough exact)
@@ -231,14 +231,14 @@ module _ (s : Spec) (x : Fraction) (F : ℕ) (table : (level node : ℕ) → Bou
   stopped : (step : Stepped) (e : Ending) → session ≡ stopped_by before.session step → step ≢ stepped.OutOfMemory → option_map (λ given. start + given) (told_fault None (answer.Finished e) (used - start)) ≡ told.fault_place step used
       → Means step (quiet (run.ended (in_turn before (attempt_of before.session start)) (ending_of e) used)) → Alike step (answer.Finished e) → IsTold step → IsTurn s x F table bits before start (answer.Finished e) (ended_by (counted mid) e) used
   stopped step e left ne fault means alike exact = by-visit step (answer.Finished e) (ended_by (counted mid) e)
-    (quiet (state_of (ended_by (counted mid) e) used))
-    refl refl
-    (λ c same k. goes-ended s x before.limits c k (state_of (ended_by (counted mid) e) used) (λ none. cc) (course-kept s x F table bits before b start c same) (course-thrown s x F table bits before b start c same))
-    ne fault
-    (λ c tape is.
-        means c tape is
-        ∙ ap quiet (same-state (run.ended (in_turn before (attempt_of before.session start)) (ending_of e) used) (state_of (ended_by (counted mid) e) used) (sym attempt) (sym none-waits) refl refl (sym (add-one before.turns)) refl))
-    alike exact
+      (quiet (state_of (ended_by (counted mid) e) used))
+      refl refl
+      (λ c same k. goes-ended s x before.limits c k (state_of (ended_by (counted mid) e) used) (λ none. cc) (course-kept s x F table bits before b start c same) (course-thrown s x F table bits before b start c same))
+      ne fault
+      (λ c tape is.
+      means c tape is
+      ∙ ap quiet (same-state (run.ended (in_turn before (attempt_of before.session start)) (ending_of e) used) (state_of (ended_by (counted mid) e) used) (sym attempt) (sym none-waits) refl refl (sym (add-one before.turns)) refl))
+      alike exact
     where
       attempt : attempt_unless before.waiting session used ≡ attempt_of before.session used
       attempt = ap (λ (st : SessionState). attempt_unless before.waiting st used) left ∙ attempt-some (record before { session = stopped_by before.session step }) used no_shape some

@@ -8,13 +8,13 @@ use Rattle.object_store.specs.Tokens.{size_of}
 use Rattle.choice_draw.specs.Draw.{bit_of}
 use Rattle.choice_draw.specs.LeastCell.{AreBetween}
 use Rattle.labelling.specs.LabelsByBits.{Labelling, labelling}
-use Rattle.labelling.specs.Spelled.{AreSpelled, AreCutShort, SpellsLabelling}
+use Rattle.labelling.specs.Spelled.{AreSpelled, SpellsLabelling}
 use Rattle.labelling.proofs.SpelledLabels.{labellings_spell, spelled-none, spelled-then, spelled-open, spelled-cell}
-use Rattle.shape_sampler.specs.Visit.{Attempt, Visited, visit, visit_among}
-use Rattle.size_window.specs.RunByBits.{Sampling, State, Turned, Course, Ending, Open, quiet, with_attempt, added, thrown_away, kept_or_waits, went, visited, shape_turn, counted_turn, label_turn, labelled_with, cut_short, turn, turn_unless, fault_place, followed_by, at_start, after, ended}
+use Rattle.shape_sampler.specs.Visit.{Attempt, Visited, visit}
+use Rattle.size_window.specs.RunByBits.{Sampling, State, Turned, Course, Ending, Open, quiet, with_attempt, added, thrown_away, kept_or_waits, went, visited, shape_turn, counted_turn, label_turn, labelled_with, cut_short, turn_unless, fault_place, followed_by, after, ended}
 use Rattle.size_window.specs.Trace.{AreOpen, IsSpelled}
 use Rattle.size_window.proofs.VisitCells.{added-after}
-use Rattle.size_window.proofs.SpelledVisits.{AddsCells, LeavesCell, SpellsVisit, visit-spells}
+use Rattle.size_window.proofs.SpelledVisits.{AddsCells, SpellsVisit, visit-spells}
 
 -- What a turn from a state adds: cells that spell the next bits, and the bits of a number that it left open.
 pub record SpellsTurn (tape : ℕ → Option Bool) (st : State) (t : Turned) : Type 0 where

@@ -3,7 +3,7 @@ use Rattle.std.proofs.Common.{◌≡◌, ℕ, zero, suc, ◌+◌, arith, Bool, L
 use Rattle.std.specs.Prelude.{Option, Some, None}
 use Rattle.bz_model.specs.declared.cell.Cell.{Cell}
 use Rattle.bz_model.specs.Spec.{Node, node_at}
-use Rattle.bz_model.specs.Cell.{bits_of, spelled}
+use Rattle.bz_model.specs.Cell.{spelled}
 use Rattle.bit_tape.specs.Given.{HasBits}
 use Rattle.choice_draw.specs.Decision.{Choice}
 use Rattle.choice_draw.specs.Draw.{Draw, bit_of, draw}

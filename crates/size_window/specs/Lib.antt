@@ -6,3 +6,4 @@ pub mod Turn
 pub mod LabelTurn
 pub mod Trace
 pub mod Redrawn
+pub mod InOrder

@@ -9,9 +9,7 @@ use Rattle.bit_tape.specs.Given.{HasBits, Gave}
 use Rattle.labelling.specs.Spelled.{AreSpelled}
 use Rattle.shape_sampler.specs.Visit.{Chooser}
 use Rattle.shape_sampler.specs.Answer.{ChoosesBy}
-use Rattle.size_window.specs.declared.ending.Ending.{Ending as Told}
-use Rattle.size_window.specs.declared.ending.Ending.TheVariants as ending
-use Rattle.size_window.specs.RunByBits.{Open, Ending, Limits, Sampling, State, Course, start, at_start, followed_by, after}
+use Rattle.size_window.specs.RunByBits.{Open, Ending, Limits, Sampling, State, Entry, Course, start, at_start, followed_by, after}
 use Rattle.size_window.specs.Drawing.{DrawingState, state_of}
 use Rattle.size_window.specs.Follows.{Goes}
 use Rattle.size_window.specs.declared.turned.Turned.{Turned}
@@ -52,9 +50,9 @@ unfoldable pub most_given : Sampling → (faults : ℕ → Option ℕ) → (n : 
 most_given s faults zero = 0
 most_given s faults (suc n) = max (most_given s faults n) (bits_to_node (after s faults n).state (after s faults (suc n)).state)
 
--- Where a drawing ended with the tape's end, these bits end at the place used.
-abbrev pub EndsAt : Option Told → (used : ℕ) → (bits : ℕ → Option Bool) → Type 0
-EndsAt (Some ending.TapeEnded) used bits = bits used ≡ None
+-- Where a course ended with the tape's end, these bits end at the place used.
+abbrev pub EndsAt : Option Ending → (used : ℕ) → (bits : ℕ → Option Bool) → Type 0
+EndsAt (Some Ending.TapeEnded) used bits = bits used ≡ None
 EndsAt _ used bits = Unit {0}
 
 -- A course is that of so many turns over these bits, and `most` is the greatest number of bits that one number of a choice node was given in a turn.
@@ -62,24 +60,36 @@ pub record IsCourseOver (s : Sampling) (faults : ℕ → Option ℕ) (turns : �
   pub same : c ≡ after s faults turns
   pub most_is : most ≡ most_given s faults turns
 
--- The trace of a drawing that was asked for so many turns: its whole way over its tape, from the tape's first bit and the drawing's start on. Its course has the drawing's state, with so many bits used, and goes as ideal runs do; the drawing's atoms are those of the course's entries. The drawing was given as many bits as it used, the tape's first ones where they are told; its cells and the number left open spell them; and over every tape that begins with them, and ends where the drawing met its end, the course is the one that they fix, for each chooser by the table. The shelf failed in one of its turns only where it ended with a failed read. `most` is the greatest number of bits that one number of a choice node was given in a turn.
-pub record IsTrace (s : Spec) (x : Fraction) (F : ℕ) (table : (level node : ℕ) → Bounds) (limits : Limits) (told : Option (ℕ → Option Bool)) (turns : ℕ) (d : DrawingState) (used most : ℕ) (c : Course) : Type 0 where
-  pub state : c.state ≡ state_of d used
-  pub within : d.limits ≡ limits
+-- The atoms of entries.
+abbrev pub atoms_in : List Entry → ℕ
+atoms_in entries = sum (map (λ e. e.size) entries)
+
+-- A course is a trace: the whole way of a drawing that was asked for so many turns, over a tape from its first bit on. It goes as ideal runs do. The drawing was given as many bits as it used, the tape's first ones where they are told; the cells and the number left open spell them; and over every tape that begins with them, and ends where the course met its end, the course is the one that they fix, for each chooser by the table. The shelf failed in one of the turns only where the course ended with a failed read. `most` is the greatest number of bits that one number of a choice node was given in a turn.
+pub record IsTrace (s : Spec) (x : Fraction) (F : ℕ) (table : (level node : ℕ) → Bounds) (limits : Limits) (told : Option (ℕ → Option Bool)) (turns most : ℕ) (c : Course) : Type 0 where
   pub goes : Goes s x limits c
-  pub atoms : d.atoms ≡ sum (map (λ e. e.size) c.entries)
   pub given : List Bool
-  pub gave : Gave told 0 used given
-  pub ended : IfSome told (EndsAt d.ending used)
+  pub gave : Gave told 0 c.state.attempt.used given
+  pub ended : IfSome told (EndsAt c.state.ending c.state.attempt.used)
   pub spells : Spells c given
   pub faults : ℕ → Option ℕ
-  pub disturbed : (turn before : ℕ) → faults turn ≡ Some before → d.ending ≡ Some ending.ReadFault
-  pub exact : (tape : ℕ → Option Bool) → HasBits tape 0 given → EndsAt d.ending used tape → (k : Chooser) → ChoosesBy s F table k → IsCourseOver (record { chooser = k; limits = limits; tape = tape }) faults turns c most
+  pub disturbed : (turn before : ℕ) → faults turn ≡ Some before → c.state.ending ≡ Some Ending.ReadFault
+  pub exact : (tape : ℕ → Option Bool) → HasBits tape 0 given → EndsAt c.state.ending c.state.attempt.used tape → (k : Chooser) → ChoosesBy s F table k → IsCourseOver (record { chooser = k; limits = limits; tape = tape }) faults turns c most
+
+-- A drawing with these limits, whose tape used so many bits, has this trace: the course's state is that of the drawing, and its atoms are those of the entries.
+pub record HasTrace (s : Spec) (x : Fraction) (F : ℕ) (table : (level node : ℕ) → Bounds) (limits : Limits) (told : Option (ℕ → Option Bool)) (turns : ℕ) (d : DrawingState) (used most : ℕ) (c : Course) : Type 0 where
+  pub trace : IsTrace s x F table limits told turns most c
+  pub state : c.state ≡ state_of d used
+  pub within : d.limits ≡ limits
+  pub atoms : d.atoms ≡ atoms_in c.entries
 
 -- Every drawing before its first turn has a trace: that of no bit, with no entry and no cell.
 abbrev pub TracesStart : Type 0
-TracesStart = (s : Spec) (x : Fraction) (F : ℕ) (table : (level node : ℕ) → Bounds) (limits : Limits) (told : Option (ℕ → Option Bool)) (d : DrawingState) → state_of d 0 ≡ start → d.limits ≡ limits → d.atoms ≡ 0 → IsTrace s x F table limits told 0 d 0 0 at_start
+TracesStart = (s : Spec) (x : Fraction) (F : ℕ) (table : (level node : ℕ) → Bounds) (limits : Limits) (told : Option (ℕ → Option Bool)) (d : DrawingState) → state_of d 0 ≡ start → d.limits ≡ limits → d.atoms ≡ 0 → HasTrace s x F table limits told 0 d 0 0 at_start
 
--- Every turn of a drawing from a sound specification continues its trace: the turn's bits stand after those given before, its entry after the entries, and its cells after the cells.
+-- Every turn of a drawing from this specification continues its trace: the turn's bits stand after those given before, its entry after the entries, and its cells after the cells.
+abbrev pub TurnsContinueOf : Spec → Type 0
+TurnsContinueOf s = (x : Fraction) (F : ℕ) (table : (level node : ℕ) → Bounds) (limits : Limits) (told : Option (ℕ → Option Bool)) (turns : ℕ) (before : DrawingState) (used most : ℕ) (c : Course) → HasTrace s x F table limits told turns before used most c → (answer : Turned) (now : DrawingState) (later : ℕ) (turn : IsTurn s x F table told before used answer now later) → IsCounted before answer now → HasTrace s x F table limits told (suc turns) now later (max most (node_bits before.waiting (later - used))) (followed_by c turn.turned)
+
+-- So it does from every sound specification.
 abbrev pub TurnsContinue : Type 0
-TurnsContinue = (s : Spec) (x : Fraction) (F : ℕ) (table : (level node : ℕ) → Bounds) (limits : Limits) (told : Option (ℕ → Option Bool)) → IsSound s → (turns : ℕ) (before : DrawingState) (used most : ℕ) (c : Course) → IsTrace s x F table limits told turns before used most c → (answer : Turned) (now : DrawingState) (later : ℕ) (turn : IsTurn s x F table told before used answer now later) → IsCounted before answer now → IsTrace s x F table limits told (suc turns) now later (max most (node_bits before.waiting (later - used))) (followed_by c turn.turned)
+TurnsContinue = (s : Spec) → IsSound s → TurnsContinueOf s

@@ -11,6 +11,7 @@ ghost use Rattle.shape_sampler.specs.Answer.{ChoosesBy};
 ghost use Rattle.size_window.specs.RunByBits.{Limits, Sampling, at_start, after};
 ghost use Rattle.size_window.specs.Trace.{IsSpelled, TracesStart, TurnsContinue};
 ghost use Rattle.size_window.specs.Redrawn.{AreRedrawn};
+ghost use Rattle.size_window.specs.InOrder.{IsInOrder};
 ghost use Rattle.size_window.specs.Ideally.{DecidesIdeally, chooser_of};
 ghost use Rattle.size_window.specs.Follows.{Follows, Goes};
 
@@ -73,4 +74,11 @@ pub fn a_course_spells_its_bits()
 pub fn each_entry_is_redrawn_from_its_cells()
     ensures { (s : Sampling) (faults : ℕ → Option ℕ) (n : ℕ)
         → AreRedrawn s.chooser s.limits.max (after s faults n).entries }
+{}
+
+/// The entries of a course are in order: they are numbered from 1, the bits of each begin at or after
+/// the end of those of the one before it, each has as many atoms as it tells, within the window, and
+/// there are as many as the course kept.
+pub fn the_entries_of_a_course_are_in_order()
+    ensures { (s : Sampling) (faults : ℕ → Option ℕ) (n : ℕ) → IsInOrder s.limits (after s faults n) }
 {}

@@ -1,5 +1,8 @@
-use Rattle.session_pool.proofs.Alike.{alike}
+use Rattle.session_pool.proofs.Alike.{alike-named, alike-ended}
 use Rattle.session_pool.proofs.laws.the_order_of_turns_leaves_each_drawing_alike.Goals as goal
 
-pub returns : goal.returns
-returns c = alike
+pub returns-clause-named : goal.returns-clause-named
+returns-clause-named c = alike-named
+
+pub returns-clause-ended : goal.returns-clause-ended
+returns-clause-ended c = alike-ended

@@ -27,4 +27,4 @@ returns-clause-alone c =
     let begun = c.into_iter-tape-iterator.ensures.into_iter_gives in
     let all = YieldsList-end (YieldsList-from_vec c.args.tapes.items begun.0 (begun.1 ∙ c.args.tapes.ok.0)) c.loop-tape.yielded _ c.loop-tape.yielded_by c.next.result c.next.new.self c.in-None.is c.next.ensures.steps in
     let same : tapes_of c.loop-tape.members.items ≡ c.args.tapes.items = c.loop-tape.invariant.same_tapes ∙ (sym (map-id c.loop-tape.yielded) ∙ all.0) in
-    λ w counts. new-pool w (limits_of c.args.limits) counts c.args.tapes.items c.loop-tape.members.items same c.loop-tape.invariant.each c.requires.unused
+    λ w counts. new-pool c.a_trace_starts_with_its_drawing.ensures w (limits_of c.args.limits) counts c.args.tapes.items c.loop-tape.members.items same c.loop-tape.invariant.each c.requires.unused
