@@ -12,7 +12,7 @@ use Rattle.rounded_map.specs.RoundedMap.{Setting, setting}
 use Rattle.size_window.specs.declared.ending.Ending.{Ending as Told}
 use Rattle.size_window.specs.RunByBits.{Limits, State, start}
 use Rattle.size_window.specs.Drawing.{DrawingState, state_of, ending_of}
-use Rattle.size_window.specs.Trace.{TracesStart}
+use Rattle.size_window.specs.Trace.{atoms_in, TracesStart}
 use Rattle.size_window.proofs.Turning.{attempt-used}
 use Rattle.call_stages.specs.Ends.{output, EndsBy}
 use Rattle.call_stages.specs.Ends as ends
@@ -26,7 +26,7 @@ use Rattle.call_stages.proofs.Staging.{judged_as}
 use Rattle.sample_command.specs.Drawn.{IsCourse, ending_word, ending_status}
 use Rattle.sample_command.specs.UnderWay.{has_failed, IsAtEnd}
 use Rattle.sample_command.proofs.AtTheEnd.{Chosen, course-starts, course-of, drawn-at-end}
-use Rattle.bulk_command.specs.BulkCommand.{bulk_limits, bulk_tape, atoms_of, bulk_line, course_line, BulkDrawn, CarriesBulk}
+use Rattle.bulk_command.specs.BulkCommand.{bulk_limits, bulk_tape, bulk_line, course_line, BulkDrawn, CarriesBulk}
 use Rattle.bulk_command.specs.BulkText.{classes_of, bulk_text}
 use Rattle.bulk_command.specs.BulkCommand as bulk
 use Rattle.bulk_command.specs.NoFiles.{empty_files, no_faults}
@@ -68,13 +68,13 @@ module _ (n : ℕ) (t : Setting) (base : List ℕ) (chosen : Chosen t.spec t.bit
 
     line-is : (kept thrown atoms bits turns : ℕ) → kept ≡ d.kept → thrown ≡ d.thrown → atoms ≡ d.atoms → bits ≡ used → turns ≡ d.turns → bulk_line n (classes_of n) (ending_word (ending_of e)) kept thrown atoms bits turns ≡ course_line n h.so_far.course (ending_of e)
     line-is kept thrown atoms bits turns is_kept is_thrown are_atoms are_bits are_turns =
-        let at = h.so_far.trace.state in
+        let at = h.so_far.drawing.state in
         let c = h.so_far.course in
         let kept_at : c.state.kept ≡ d.kept = ap (λ (st : State). st.kept) at in
         let thrown_at : c.state.thrown ≡ d.thrown = ap (λ (st : State). st.thrown) at in
         let turns_at : c.state.turns ≡ d.turns = ap (λ (st : State). st.turns) at in
         let bits_at : c.state.attempt.used ≡ used = ap (λ (st : State). st.attempt.used) at ∙ attempt-used d.waiting d.session used in
-        same-line (ending_word (ending_of e)) kept c.state.kept thrown c.state.thrown atoms (atoms_of c.entries) bits c.state.attempt.used turns c.state.turns (is_kept ∙ sym kept_at) (is_thrown ∙ sym thrown_at) (are_atoms ∙ h.so_far.trace.atoms) (are_bits ∙ sym bits_at) (are_turns ∙ sym turns_at)
+        same-line (ending_word (ending_of e)) kept c.state.kept thrown c.state.thrown atoms (atoms_in c.entries) bits c.state.attempt.used turns c.state.turns (is_kept ∙ sym kept_at) (is_thrown ∙ sym thrown_at) (are_atoms ∙ h.so_far.drawing.atoms) (are_bits ∙ sym bits_at) (are_turns ∙ sym turns_at)
 
     -- what may be said of a run is an outcome of it
     is-drawn : (line : List ℕ) → line ≡ course_line n h.so_far.course (ending_of e) → (status : Status) (text : List ℕ) (ticks : ℕ) → MaySay (ending_status (ending_of e)) line 0 status text ticks → BulkDrawn n t base status text (cost_at (level_for h.most))

@@ -1,12 +1,13 @@
 -- The command `bulk`.
-use Rattle.std.specs.Prelude.{ℕ, ◌*◌, ◌++◌, List, [], None, map, sum, decimal, codes}
+use Rattle.std.specs.Prelude.{ℕ, ◌*◌, ◌++◌, List, [], None, decimal, codes}
 use Rattle.bz_model.specs.Fraction.{ratio}
 use Rattle.bit_tape.specs.Bits.{seed_bit}
 use Rattle.bit_tape.specs.Tape.{TapeSource}
 use Rattle.choice_draw.specs.Decision.{level_for}
 use Rattle.oracle_memo.specs.Levels.{level_bounds, cost_at}
 use Rattle.rounded_map.specs.RoundedMap.{Setting, setting}
-use Rattle.size_window.specs.RunByBits.{Limits, Entry, Course, Ending, after}
+use Rattle.size_window.specs.RunByBits.{Limits, Course, Ending, after}
+use Rattle.size_window.specs.Trace.{atoms_in}
 use Rattle.call_stages.specs.Lines.{feed}
 use Rattle.call_stages.specs.Outcomes.{Outcome, Says}
 use Rattle.call_stages.specs.Stages.{Judged, Based}
@@ -24,10 +25,6 @@ bulk_limits n = record { min = 0; max = 200; count = 100 * n; turns = 50000000 }
 abbrev pub bulk_tape : (n : ℕ) → TapeMet
 bulk_tape n = met (TapeSource.Seeded n) empty_files no_faults no_faults
 
--- The atoms of kept objects: the sum of their sizes.
-abbrev pub atoms_of : List Entry → ℕ
-atoms_of entries = sum (map (λ (e : Entry). e.size) entries)
-
 -- What a run's line counts: how many objects were kept and attempts thrown away, the atoms of the kept objects, the bits used and the turns made.
 abbrev pub run_counts : (kept thrown atoms bits turns : ℕ) → List ℕ
 run_counts kept thrown atoms bits turns = codes " kept " ++ (decimal kept ++ (codes " thrown " ++ (decimal thrown ++ (codes " atoms " ++ (decimal atoms ++ (codes " bits " ++ (decimal bits ++ (codes " turns " ++ (decimal turns ++ feed)))))))))
@@ -38,7 +35,7 @@ bulk_line n classes word kept thrown atoms bits turns = (codes "bulk " ++ (decim
 
 -- The line of a course that has come to this end.
 abbrev pub course_line : (n : ℕ) → Course → Ending → List ℕ
-course_line n c ending = bulk_line n (classes_of n) (ending_word ending) c.state.kept c.state.thrown (atoms_of c.entries) c.state.attempt.used c.state.turns
+course_line n c ending = bulk_line n (classes_of n) (ending_word ending) c.state.kept c.state.thrown (atoms_in c.entries) c.state.attempt.used c.state.turns
 
 -- Objects are drawn over the levels of a base with the bits of the seed n, and let go. The run comes to its end: its line is the text, and its end gives the status. Or memory runs out, and nothing is written. A level is raised only for the bits that one number of a choice node was given.
 pub data BulkDrawn (n : ℕ) (t : Setting) (base : List ℕ) (status : Status) (text : List ℕ) (ticks : ℕ) : Type 0 where

@@ -5,7 +5,6 @@ use Rattle.bz_model.specs.declared.cell.Bounds.{Bounds}
 use Rattle.bz_model.specs.Fraction.{Fraction}
 use Rattle.bz_model.specs.Spec.{Spec}
 use Rattle.bz_outside.specs.Outside.{Rose, Appends, AppendsFront}
-use Rattle.bit_tape.specs.Given.{Gave}
 use Rattle.bit_tape.specs.Tape.{TapeState, Belongs, CountsFault, bits_of}
 use Rattle.choice_draw.specs.Decision.{level_for}
 use Rattle.class_system.specs.Sound.{IsSound}
@@ -19,7 +18,7 @@ use Rattle.size_window.specs.Trace.{EndsAt, TracesStart}
 use Rattle.size_window.proofs.Turning.{if-told, attempt-used}
 use Rattle.size_window.proofs.Going.{goes-start}
 use Rattle.well_founded.specs.EmptyObjects.{has_empty}
-use Rattle.sample_command.specs.Drawn.{TapeMet, is_fault, EndsWith, AreAll, IsCourse, IsDrawn, Drawn, Lists, closing_lines, open_lines, ending_word, ending_status}
+use Rattle.sample_command.specs.Drawn.{TapeMet, is_fault, IsCourse, IsDrawn, Drawn, Lists, closing_lines, open_lines, ending_word, ending_status}
 use Rattle.sample_command.specs.Drawn as drawn
 use Rattle.call_stages.specs.Ends.{output, EndsBy, IsHeld}
 use Rattle.call_stages.specs.Ends as ends
@@ -53,13 +52,13 @@ starts s x sound contents limits d tape used at same belongs ahead = record {
 
 -- its trace starts with it
 pub course-starts : (law : TracesStart) (s : Spec) (x : Fraction) (F : ℕ) (table : (level node : ℕ) → Bounds) (limits : Limits) (told : Option (ℕ → Option Bool)) (d : DrawingState) (used : ℕ) → used ≡ 0 → state_of d 0 ≡ start → d.limits ≡ limits → d.atoms ≡ 0 → IsCourseSoFar s x F table limits told d used 0
-course-starts law s x F table limits told d used none at within atoms = subst (λ n. IsCourseSoFar s x F table limits told d n 0) (sym none) (record { turns = 0; course = at_start; trace = law s x F table limits told d at within atoms })
+course-starts law s x F table limits told d used none at within atoms = subst (λ n. IsCourseSoFar s x F table limits told d n 0) (sym none) (record { turns = 0; course = at_start; drawing = law s x F table limits told d at within atoms })
 
 -- a drawing is under way, its header held back
 pub starts-under-way : (law : TracesStart) (s : Spec) (x : Fraction) (F : ℕ) (table : (level node : ℕ) → Bounds) (limits : Limits) (told : Option (ℕ → Option Bool)) (d : DrawingState) (used raised : ℕ) (header page : List ℕ) (o : Option (List ℕ)) → used ≡ 0 → state_of d 0 ≡ start → d.limits ≡ limits → d.atoms ≡ 0 → raised ≡ 0 → page ≡ header → IsUnderWay s x F table limits told d used raised header o o page
 starts-under-way law s x F table limits told d used raised header page o none at within atoms unraised same = subst (λ n. IsUnderWay s x F table limits told d n raised header o o page) (sym none) (record {
   most = 0;
-  so_far = record { turns = 0; course = at_start; trace = law s x F table limits told d at within atoms };
+  so_far = record { turns = 0; course = at_start; drawing = law s x F table limits told d at within atoms };
   lines = [];
   lists = drawn.none refl refl;
   raised_is = unraised;
@@ -81,24 +80,7 @@ limit-told (told.Undecided straddle) is = absurd (cc)
 limit-told told.TurnLimit is = refl
 limit-told told.ReadFault is = absurd (cc)
 
--- the end of a tape that a course met is the one that its drawing met
-met-end : (o : Option Told) (used : ℕ) (tape : ℕ → Option Bool) → EndsAt o used tape → option_map ending_of o ≡ Some Ending.TapeEnded → tape used ≡ None
-met-end None used tape h is = absurd (cc)
-met-end (Some told.Done) used tape h is = absurd (cc)
-met-end (Some told.TapeEnded) used tape h is = h
-met-end (Some (told.Undecided straddle)) used tape h is = absurd (cc)
-met-end (Some told.TurnLimit) used tape h is = absurd (cc)
-met-end (Some told.ReadFault) used tape h is = absurd (cc)
-
-ends-at : (o : Option Told) (used : ℕ) (tape : ℕ → Option Bool) → (option_map ending_of o ≡ Some Ending.TapeEnded → tape used ≡ None) → EndsAt o used tape
-ends-at None used tape h = tt
-ends-at (Some told.Done) used tape h = tt
-ends-at (Some told.TapeEnded) used tape h = h refl
-ends-at (Some (told.Undecided straddle)) used tape h = tt
-ends-at (Some told.TurnLimit) used tape h = tt
-ends-at (Some told.ReadFault) used tape h = tt
-
--- and so is a failed read
+-- a failed read that a course met is the one that its drawing met
 same-fault : (o : Option Told) → has_failed o ≡ is_fault (option_map ending_of o)
 same-fault None = refl
 same-fault (Some told.Done) = refl
@@ -116,54 +98,50 @@ abbrev pub Chosen : Spec → (F : ℕ) → ((level node : ℕ) → Bounds) → T
 Chosen s F table = ChoosesBy s F table (chooser_of s F table (has_empty s))
 
 module _ (s : Spec) (x : Fraction) (F : ℕ) (table : (level node : ℕ) → Bounds) (limits : Limits) (t : TapeMet) (chosen : Chosen s F table) (d : DrawingState) (used most : ℕ) (h : IsCourseSoFar s x F table limits (bits_of t.source t.contents) d used most) where
-  used-is : h.course.state.attempt.used ≡ used
-  used-is = ap (λ (st : State). st.attempt.used) h.trace.state ∙ attempt-used d.waiting d.session used
-
   ending-is : h.course.state.ending ≡ option_map ending_of d.ending
-  ending-is = ap (λ (st : State). st.ending) h.trace.state
+  ending-is = ap (λ (st : State). st.ending) h.drawing.state
 
-  -- bits end with the course where they end with its drawing
-  ends-course : (tape : ℕ → Option Bool) → EndsAt d.ending used tape → EndsWith h.course tape
-  ends-course tape at is = subst (λ n. tape n ≡ None) (sym used-is) (met-end d.ending used tape at (sym ending-is ∙ is))
-
-  ends-drawing : (tape : ℕ → Option Bool) → EndsWith h.course tape → EndsAt d.ending used tape
-  ends-drawing tape at = ends-at d.ending used tape (λ is. subst (λ n. tape n ≡ None) used-is (at (ending-is ∙ is)))
+  used-is : h.course.state.attempt.used ≡ used
+  used-is = ap (λ (st : State). st.attempt.used) h.drawing.state ∙ attempt-used d.waiting d.session used
 
   -- a course so far is one of which memory may run out, or a write fail
   pub course-of : CountsFault (has_failed d.ending) t.source t.before t.now → IsCourse s x F table limits t h.course most
-  course-of reads = record {
-    follows = h.trace.goes.follows;
-    given = h.trace.given;
-    gave = subst (λ n. Gave (bits_of t.source t.contents) 0 n h.trace.given) (sym used-is) h.trace.gave;
-    ends = if-told (bits_of t.source t.contents) ends-course h.trace.ended;
-    spells = h.trace.spells;
-    turns = h.turns;
-    faults = h.trace.faults;
-    exact = λ tape have at. h.trace.exact tape have (ends-drawing tape at) (chooser_of s F table (has_empty s)) chosen;
-    disturbed = λ turn before is. ending-is ∙ ap (option_map ending_of) (h.trace.disturbed turn before is);
-    reads = subst (λ b. CountsFault b t.source t.before t.now) (same-fault d.ending ∙ sym (ap is_fault ending-is)) reads;
-  }
+  course-of reads =
+      let trace = h.drawing.trace in
+      record {
+        follows = trace.goes.follows;
+        given = trace.given;
+        gave = trace.gave;
+        ends = trace.ended;
+        spells = trace.spells;
+        turns = h.turns;
+        faults = trace.faults;
+        exact = λ tape have at. trace.exact tape have at (chooser_of s F table (has_empty s)) chosen;
+        disturbed = trace.disturbed;
+        reads = subst (λ b. CountsFault b t.source t.before t.now) (same-fault d.ending ∙ sym (ap is_fault ending-is)) reads;
+      }
 
   -- one that has come to its end is one that is drawn
   pub drawn-at-end : CountsFault (has_failed d.ending) t.source t.before t.now → (e : Told) → IsAtEnd table limits d used e → IsDrawn s x F table limits t h.course most (ending_of e)
   drawn-at-end reads e end =
-      let at = h.trace.state in
-      let course = course-of reads in
+      let at = h.drawing.state in
+      let trace = h.drawing.trace in
+      let c = h.course in
+      let ended = ending-is ∙ ap (option_map ending_of) end.ended in
       record {
-        course = course;
-        ended = ending-is ∙ ap (option_map ending_of) end.ended;
+        course = course-of reads;
+        ended = ended;
         kept = λ is. ap (λ (st : State). st.kept) at ∙ end.kept (done-told e is);
         out_of_turns = λ is. ap (λ (st : State). st.turns) at ∙ end.out_of_turns (limit-told e is);
         used_up = λ is.
-            let met = ending-is ∙ ap (option_map ending_of) end.ended ∙ ap Some is in
-            subst (AreAll t.source t.contents) (sym used-is)
-            (all-used t.source t.contents used h.trace.given h.trace.gave (if-told (bits_of t.source t.contents) (λ tape ends. met-end d.ending used tape ends (sym ending-is ∙ met)) h.trace.ended) end.few);
+            let none = if-told (bits_of t.source t.contents) (λ tape at. subst (λ o. EndsAt o c.state.attempt.used tape) (ended ∙ ap Some is) at) trace.ended in
+            all-used t.source t.contents c.state.attempt.used trace.given trace.gave none (let few = end.few in let same = used-is in omega (arith, few, same));
       }
 
   -- the lines after the last object
   pub closing-is : (e : Told) (kept thrown bits turns : ℕ) → IsAtEnd table limits d used e → kept ≡ d.kept → thrown ≡ d.thrown → bits ≡ used → turns ≡ d.turns → told_open e ++ end_line (ending_word (ending_of e)) kept thrown bits turns ≡ closing_lines table h.course (ending_of e)
   closing-is e kept thrown bits turns end is_kept is_thrown are_bits are_turns =
-      let at = h.trace.state in
+      let at = h.drawing.state in
       let c = h.course in
       let kept_at : c.state.kept ≡ d.kept = ap (λ (st : State). st.kept) at in
       let thrown_at : c.state.thrown ≡ d.thrown = ap (λ (st : State). st.thrown) at in

@@ -8,7 +8,8 @@ use Rattle.bit_tape.specs.Given.{HasBits}
 use Rattle.bit_tape.specs.Tape.{bits_of, CountsFault}
 use Rattle.bit_tape.proofs.Leaving.{fault-rose}
 use Rattle.size_window.specs.RunByBits.{Limits, Course, Entry, Ending, after}
-use Rattle.sample_command.specs.Drawn.{TapeMet, HasFailed, is_fault, EndsWith, sampling, IsCourse, IsDrawn, AreLinesOf, Lists, Drawn, closing_lines, ending_status}
+use Rattle.size_window.specs.Trace.{EndsAt}
+use Rattle.sample_command.specs.Drawn.{TapeMet, HasFailed, is_fault, sampling, IsCourse, IsDrawn, AreLinesOf, Lists, Drawn, closing_lines, ending_status}
 use Rattle.sample_command.specs.Drawn as drawn
 use Rattle.call_stages.specs.Outcomes.{IsOne}
 use Rattle.call_stages.specs.declared.status.Status.{Status}
@@ -35,7 +36,7 @@ module _ (s : Spec) (x : Fraction) (F : ℕ) (table : (level node : ℕ) → Bou
   is-quiet c most h =
       let sample = sampling s F table limits bits in
       let have = told-bits (bits_of t.source t.contents) bits (λ tape. HasBits tape 0 h.given) are_known h.gave.are_told in
-      let over = h.exact bits have (told-bits (bits_of t.source t.contents) bits (EndsWith c) are_known h.ends) in
+      let over = h.exact bits have (told-bits (bits_of t.source t.contents) bits (EndsAt c.state.ending c.state.attempt.used) are_known h.ends) in
       over.same ∙ unfailing sample h.faults h.turns (λ k. none-fails (h.faults k) (λ before is. calm (fault-rose t.source t.before t.now (subst (λ o. CountsFault (is_fault o) t.source t.before t.now) (h.disturbed k before is) h.reads))))
 
   -- a drawing that came to its end is the undisturbed one

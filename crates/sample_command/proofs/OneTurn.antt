@@ -15,7 +15,7 @@ use Rattle.size_window.specs.declared.turned.Turned.TheVariants as answer
 use Rattle.size_window.specs.RunByBits.{Limits, Entry, Course, followed_by}
 use Rattle.size_window.specs.Drawing.{MadeShape, DrawingState, DrawingBelongs, Waits, state_of, ending_of}
 use Rattle.size_window.specs.Follows.{Goes}
-use Rattle.size_window.specs.Trace.{IsTrace, TurnsContinue}
+use Rattle.size_window.specs.Trace.{TurnsContinue}
 use Rattle.size_window.specs.Turn.{IsTurn, IsCounted, told_entry, turns_by, turns_of, ending_by, TellsOpen, is_fault, node_bits, most_bits}
 use Rattle.size_window.proofs.Going.{ideal-fits}
 use Rattle.sample_command.specs.Drawn.{AreLinesOf, Lists, open_lines}
@@ -58,7 +58,7 @@ module _ (s : Spec) (x : Fraction) (F : ℕ) (table : (level node : ℕ) → Bou
     so-far-on = record {
       turns = suc p.turns;
       course = followed_by p.course h.turn.turned;
-      trace = h.law s x F table limits told h.sound p.turns d start most p.course p.trace a now used h.turn h.counted;
+      drawing = h.law s h.sound x F table limits told p.turns d start most p.course p.drawing a now used h.turn h.counted;
     }
 
     -- its entries are those before the turn, and the one that the turn kept

@@ -11,7 +11,7 @@ use Rattle.size_window.specs.RunByBits.{Limits, Sampling, Entry, Course, Ending,
 use Rattle.size_window.specs.Ideally.{chooser_of}
 use Rattle.well_founded.specs.EmptyObjects.{has_empty}
 use Rattle.size_window.specs.Follows.{Follows}
-use Rattle.size_window.specs.Trace.{Spells, IsCourseOver}
+use Rattle.size_window.specs.Trace.{Spells, EndsAt, IsCourseOver}
 use Rattle.choice_draw.specs.Decision.{level_for}
 use Rattle.rounded_map.specs.RoundedMap.{Setting}
 use Rattle.call_stages.specs.Outcomes.{Says}
@@ -38,20 +38,16 @@ abbrev pub is_fault : Option Ending → Bool
 is_fault (Some Ending.ReadFault) = true
 is_fault ending = false
 
--- Where a course met the tape's end, these bits end at the place up to which it used them.
-abbrev pub EndsWith : Course → (bits : ℕ → Option Bool) → Type 0
-EndsWith c bits = c.state.ending ≡ Some Ending.TapeEnded → bits c.state.attempt.used ≡ None
-
 -- A course so far. It follows the ideal run: for all numbers in its cells that run keeps the objects of its entries. It was given as many bits as it used: the tape's first ones where its bits are known, and all of them where it met the tape's end. Its cells, and the bits of a number that it left open, spell these bits. Over every tape that begins with them, and has no more where it met the tape's end, it is the course of so many turns that they fix; `most` is the greatest number of bits that one number of a choice node was given in a turn. The shelf failed in a turn only where the course ended with a failed read. Then the count of the tape's name rose once in the call; else each name's count is what it was when the call began.
 pub record IsCourse (s : Spec) (x : Fraction) (F : ℕ) (table : (level node : ℕ) → Bounds) (limits : Limits) (t : TapeMet) (c : Course) (most : ℕ) : Type 0 where
   pub follows : Follows s x limits c
   pub given : List Bool
   pub gave : Gave (bits_of t.source t.contents) 0 c.state.attempt.used given
-  pub ends : IfSome (bits_of t.source t.contents) (EndsWith c)
+  pub ends : IfSome (bits_of t.source t.contents) (EndsAt c.state.ending c.state.attempt.used)
   pub spells : Spells c given
   pub turns : ℕ
   pub faults : ℕ → Option ℕ
-  pub exact : (tape : ℕ → Option Bool) → HasBits tape 0 given → EndsWith c tape → IsCourseOver (sampling s F table limits tape) faults turns c most
+  pub exact : (tape : ℕ → Option Bool) → HasBits tape 0 given → EndsAt c.state.ending c.state.attempt.used tape → IsCourseOver (sampling s F table limits tape) faults turns c most
   pub disturbed : (turn before : ℕ) → faults turn ≡ Some before → c.state.ending ≡ Some Ending.ReadFault
   pub reads : CountsFault (is_fault c.state.ending) t.source t.before t.now
 

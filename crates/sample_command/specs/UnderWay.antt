@@ -13,7 +13,7 @@ use Rattle.size_window.specs.declared.ending.Straddle.TheVariants as straddle
 use Rattle.size_window.specs.RunByBits.{Limits, Course, Entry}
 use Rattle.size_window.specs.Drawing.{DrawingState, DrawingBelongs, state_of, ending_of}
 use Rattle.size_window.specs.Follows.{Goes}
-use Rattle.size_window.specs.Trace.{IsTrace}
+use Rattle.size_window.specs.Trace.{HasTrace}
 use Rattle.sample_command.specs.Drawn.{TapeMet, Lists, open_lines}
 use Rattle.call_stages.specs.Ends.{IsHeld}
 use Rattle.call_stages.specs.Lines.{open_line, open_label_line}
@@ -27,11 +27,11 @@ abbrev pub has_failed : Option Ending → Bool
 has_failed (Some ReadFault) = true
 has_failed ending = false
 
--- A course so far: that of the drawing's trace, in which it was asked for so many turns.
+-- A drawing that was asked for so many turns has a course so far: its trace.
 pub record IsCourseSoFar (s : Spec) (x : Fraction) (F : ℕ) (table : (level node : ℕ) → Bounds) (limits : Limits) (told : Option (ℕ → Option Bool)) (d : DrawingState) (used most : ℕ) : Type 0 where
   pub turns : ℕ
   pub course : Course
-  pub trace : IsTrace s x F table limits told turns d used most course
+  pub drawing : HasTrace s x F table limits told turns d used most course
 
 -- A drawing has a course that goes as ideal runs do, this many bits being used.
 pub record HasCourse (s : Spec) (x : Fraction) (limits : Limits) (d : DrawingState) (used : ℕ) : Type 0 where
