@@ -1,0 +1,4 @@
+pub mod Schedule
+pub mod PoolCommand
+pub mod UnderWay
+pub mod Pages
