@@ -9,5 +9,7 @@
 //! that memory suffices.
 #![tactic(auto)]
 
+mod drawing;
 mod pages;
+pub mod pool;
 mod running;
