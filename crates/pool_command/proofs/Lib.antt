@@ -4,3 +4,6 @@ pub mod Members
 pub mod SoFar
 pub mod Orders
 pub mod Results
+pub mod Appending
+pub mod Carrying
+pub mod OnePool

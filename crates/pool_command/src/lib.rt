@@ -10,6 +10,7 @@
 #![tactic(auto)]
 
 mod drawing;
+pub mod laws;
 mod pages;
 pub mod pool;
 mod running;
