@@ -12,6 +12,8 @@ use Rattle.session_pool.specs.Member.{MemberState}
 use Rattle.call_stages.specs.Lines.{lines_below}
 use Rattle.sample_command.specs.Drawn.{AreLinesOf, Lists}
 use Rattle.sample_command.specs.Drawn as drawn
+use Rattle.call_stages.specs.declared.status.Status.{Status}
+use Rattle.pool_command.specs.PoolCommand.{first_of, first_status}
 use Rattle.pool_command.specs.Pages.{told_session, AreLinesOfMember, AreAppended}
 
 -- lines that are alike below a number make one text
@@ -97,3 +99,14 @@ entry-appended s entries k e start text next within is p q = (
 -- an element of a list of which all are so is so
 pub all-at : (P : Entry → Type 0) (entries : List Entry) (k : ℕ) (e : Entry) → k < length entries → e ≡ get_or entries k e → All P entries → P e
 all-at P entries k e within is all = subst P (sym is) (all k e within)
+
+-- no drawing gives a status yet
+pub no-status : (statuses : ℕ → Status) → Status.Done ≡ first_status statuses 0
+unfolding first_status
+no-status statuses = refl
+
+-- one more drawing does
+pub status-more : (statuses : ℕ → Status) (n : ℕ) (so_far status next : Status) → so_far ≡ first_status statuses n → status ≡ statuses n → next ≡ first_of so_far status → next ≡ first_status statuses (n + 1)
+unfolding first_status
+status-more statuses n so_far status next before is first =
+    first ∙ ap (λ s. first_of s status) before ∙ ap (first_of (first_status statuses n)) is ∙ ap (first_status statuses) (sym (add-one n))

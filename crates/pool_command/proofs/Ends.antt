@@ -37,7 +37,11 @@ times-once-more number xs = times-both number xs (number ∷ []) ∙ ap (λ n. t
 
 pub times-replicated : (number n : ℕ) → times number (replicate n number) ≡ n
 times-replicated number zero = refl
-times-replicated number (suc n) = times-both number (number ∷ []) (replicate n number) ∙ ap (λ k. k + times number (replicate n number)) (times-itself number) ∙ ap (λ k. 1 + k) (times-replicated number n)
+times-replicated number (suc n) =
+    let both : times number (replicate (suc n) number) ≡ times number (number ∷ []) + times number (replicate n number) = times-both number (number ∷ []) (replicate n number) in
+    let one = times-itself number in
+    let rest = times-replicated number n in
+    omega (arith, both, one, rest)
 
 -- it doesn't end where it was asked for another time
 now-none : (asks : ℕ → ℕ) (before : List ℕ) (i : ℕ) → asks i ≢ times i before + 1 → ends_now asks before i ≡ []

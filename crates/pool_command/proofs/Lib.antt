@@ -7,3 +7,5 @@ pub mod Results
 pub mod Appending
 pub mod Carrying
 pub mod OnePool
+pub mod Ended
+pub mod Told

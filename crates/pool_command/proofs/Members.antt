@@ -6,7 +6,7 @@ use Rattle.std.proofs.lemmas.List.{map-append}
 use Rattle.std.proofs.lemmas.List.Elements.{All-push}
 use Rattle.bz_model.specs.Fraction.{Fraction}
 use Rattle.bz_model.specs.Spec.{Spec, Mode}
-use Rattle.bit_tape.specs.Tape.{TapeSource, bits_of}
+use Rattle.bit_tape.specs.Tape.{TapeSource, CountsFault, bits_of}
 use Rattle.class_system.specs.Sound.{IsSound}
 use Rattle.size_window.specs.declared.ending.Ending.{Ending as Told}
 use Rattle.size_window.specs.declared.ending.Ending.TheVariants as told
@@ -23,9 +23,9 @@ use Rattle.session_pool.specs.declared.pooled.Pooled.{Pooled}
 use Rattle.session_pool.specs.Member.{MemberState, bits_to_nodes}
 use Rattle.session_pool.specs.Turn.{IsMemberTurn, kept_in}
 use Rattle.session_pool.specs.Interleaving.{Setting}
-use Rattle.sample_command.specs.UnderWay.{IsCourseSoFar}
-use Rattle.sample_command.proofs.OneTurn.{TellsTurn, so-far-on, entries-on}
-use Rattle.pool_command.specs.UnderWay.{IsMemberUnderWay, IsCounted, asked_until}
+use Rattle.sample_command.specs.UnderWay.{IsCourseSoFar, has_failed}
+use Rattle.sample_command.proofs.OneTurn.{TellsTurn, so-far-on, entries-on, same-fault}
+use Rattle.pool_command.specs.UnderWay.{AreMoments, IsMemberUnderWay, IsCounted, asked_until}
 
 -- what an answer tells to be kept
 kept-told : (a : Answer) → option_to_list (told_entry a) ≡ map entry_of (kept_in a)
@@ -69,6 +69,13 @@ few-turns (told.Undecided straddle) = omega arith
 few-turns told.TurnLimit = omega arith
 few-turns told.ReadFault = omega arith
 
+-- a later moment is no earlier
+pub moments-longer : (source : TapeSource) (failed : Bool) (begun counts later : List ℕ → ℕ) → ((name : List ℕ) → counts name ≤ later name) → AreMoments source failed begun counts → AreMoments source failed begun later
+moments-longer source failed begun counts later grew p = record { before = p.before; now = p.now; since = p.since; until = λ name. let up = p.until name in let more = grew name in omega (arith, up, more); reads = p.reads }
+
+pub member-longer : (w : Setting) (limits : Limits) (begun counts later : List ℕ → ℕ) (m : MemberState) (most : ℕ) → ((name : List ℕ) → counts name ≤ later name) → IsMemberUnderWay w limits begun counts m most → IsMemberUnderWay w limits begun later m most
+member-longer w limits begun counts later m most grew p = record { so_far = p.so_far; entries = p.entries; labels = p.labels; few = p.few; used = p.used; moments = moments-longer m.tape.source (has_failed m.drawing.ending) begun counts later grew p.moments }
+
 module _ (w : Setting) (before now : List ℕ → ℕ) (m later : MemberState) (pooled : Pooled) (h : IsMemberTurn w.spec w.x w.F w.table w.contents before now m pooled later) where
   -- how a turn of a drawing that goes on is counted
   pub counted-on : m.drawing.ending ≡ None → IsCounted m.drawing.turns later.drawing.turns (asked_until later.drawing later.drawing.ending) later.drawing.ending
@@ -84,7 +91,7 @@ module _ (w : Setting) (before now : List ℕ → ℕ) (m later : MemberState) (
       go None is = turns-are ∙ ap (λ n. m.drawing.turns + n) (going-counts h.told h.made (ends-by ∙ is))
       go (Some e) is = let same = turns-are in let by = end-counts h.told e (ends-by ∙ is) in let one = few-turns e in omega (arith, same, by, one)
 
-  module _ (limits : Limits) (most : ℕ) (law : TurnsContinue) (sound : IsSound w.spec) (belongs : DrawingBelongs w.spec w.x m.drawing) (later_belongs : DrawingBelongs w.spec w.x later.drawing) (p : IsMemberUnderWay w limits m most) where
+  module _ (limits : Limits) (most : ℕ) (law : TurnsContinue) (sound : IsSound w.spec) (belongs : DrawingBelongs w.spec w.x m.drawing) (later_belongs : DrawingBelongs w.spec w.x later.drawing) (begun : List ℕ → ℕ) (rose : (name : List ℕ) → begun name ≤ before name) (grew : (name : List ℕ) → before name ≤ now name) (p : IsMemberUnderWay w limits begun before m most) where
     tells : TellsTurn w.spec w.x w.F w.table limits (bits_of m.tape.source w.contents) m.drawing later.drawing m.tape.used later.tape.used h.told
     tells = record { law = law; sound = sound; within = p.so_far.drawing.within; turn = h.turn; counted = h.counted }
 
@@ -124,7 +131,21 @@ module _ (w : Setting) (before now : List ℕ → ℕ) (m later : MemberState) (
               omega (arith, so_few, uses, each, at_most, limit),
             )
 
-    pub member-on : IsMemberUnderWay w limits later later_most
+    -- the moments between which it met its tape
+    moments-are : AreMoments later.tape.source (has_failed later.drawing.ending) begun now
+    moments-are = go m.drawing.ending refl h.again
+      where
+        go : (o : Option Told) → m.drawing.ending ≡ o → IfSome o (λ ending. (h.told ≡ answer.Finished ending) × (later ≡ m)) → AreMoments later.tape.source (has_failed later.drawing.ending) begun now
+        go (Some e) is again = subst (λ (k : MemberState). AreMoments k.tape.source (has_failed k.drawing.ending) begun now) (sym again.1) (moments-longer m.tape.source (has_failed m.drawing.ending) begun before now grew p.moments)
+        go None is again = record {
+          before = before;
+          now = now;
+          since = rose;
+          until = λ name. omega arith;
+          reads = subst (λ source. CountsFault (has_failed later.drawing.ending) source before now) (sym h.source) (subst (λ b. CountsFault b m.tape.source before now) (same-fault m.drawing.ending later.drawing.ending h.told is h.counted.ending) h.faults);
+        }
+
+    pub member-on : IsMemberUnderWay w limits begun now later later_most
     member-on =
         let moved = subst (λ source. (q : IsCourseSoFar w.spec w.x w.F w.table limits (bits_of source w.contents) later.drawing later.tape.used later_most) × (q.course.entries ≡ map entry_of later.entries)) (sym h.source) (on, entries-are) in
         record {
@@ -133,4 +154,5 @@ module _ (w : Setting) (before now : List ℕ → ℕ) (m later : MemberState) (
           labels = labels-are;
           few = few-are.0;
           used = few-are.1;
+          moments = moments-are;
         }

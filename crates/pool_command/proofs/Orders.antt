@@ -1,17 +1,23 @@
 -- The order of the drawings that ended, with one drawing asked once more, and with all asked until they end.
-use Rattle.std.proofs.Common.{◌≡◌, ◌≢◌, ℕ, zero, suc, ◌+◌, ◌-◌, ◌<◌, ◌≤◌, ◌⊎◌, inl, inr, arith, Bool, true, false, cond, List, [], ◌∷◌, ◌++◌, length, append-nil, append_assoc, refl, sym, ◌∙◌, ap, subst}
-use Rattle.std.specs.Prelude.{Option, Some, None, IsSome, slice_get, get_or, nat_eq, replicate}
+use Rattle.std.proofs.Common.{◌≡◌, ◌≢◌, ℕ, zero, suc, ◌+◌, ◌-◌, ◌<◌, ◌≤◌, ◌⊎◌, inl, inr, arith, Bool, true, false, cond, List, [], ◌∷◌, ◌++◌, length, append-nil, append_assoc, add-one, take, ◌*◌, ◌%◌, refl, sym, ◌∙◌, ap, subst}
+use Rattle.std.specs.Option.{is_none}
+use Rattle.std.specs.Prelude.{Option, Some, None, IfSome, IsSome, slice_get, get_or, nat_eq, replicate}
 use Rattle.std.proofs.lemmas.Bool.Decides.{eqb_tells}
-use Rattle.std.proofs.lemmas.Option.{slice_get_cases}
+use Rattle.std.proofs.lemmas.List.{map-append}
+use Rattle.std.proofs.lemmas.Option.{slice_get_cases, slice_get_within, get_or_from_slice_get}
+use Rattle.std.proofs.Math.Seq.{take-suc}
+use Rattle.bz_model.specs.Fraction.{Fraction}
+use Rattle.bz_model.specs.Spec.{Spec}
 use Rattle.size_window.specs.declared.ending.Ending.{Ending as Told}
-use Rattle.size_window.specs.Drawing.{DrawingState}
+use Rattle.size_window.specs.Drawing.{DrawingBelongs}
 use Rattle.session_pool.specs.Member.{MemberState}
-use Rattle.session_pool.specs.Pool.{ending_at, ending_of_member}
+use Rattle.session_pool.specs.Pool.{PoolBelongs, ending_at, ending_of_member}
 use Rattle.session_pool.specs.Interleaving.{times, WasAsked}
-use Rattle.pool_command.specs.Schedule.{all_asked, ends_in}
+use Rattle.pool_command.specs.Schedule.{named, all_asked, ends_in}
 use Rattle.pool_command.specs.UnderWay.{Moment, Beginning, IsSoFar, IsUnderWay, IsBroken, IsAsked, IsFinished, IsCounted, asked_by, asked_of_member, asked_until, turns_at, turns_of_member, ended_now}
 use Rattle.pool_command.proofs.Ends.{differs-is, times-both, times-once-more, times-replicated, order-stays, order-grows}
 use Rattle.pool_command.proofs.SoFar.{none-asked}
+use Rattle.pool_command.proofs.TurnsLeft.{turns_left, left_of_member, left_until}
 
 -- what a member was asked for
 was-asked-going : (turns : ℕ) (m : MemberState) → WasAsked turns m.drawing m.drawing.ending → ending_of_member (Some m) ≡ None → turns_of_member (Some m) ≡ turns
@@ -25,11 +31,11 @@ was-asked-ended turns m h = go m.drawing.ending h
     go (Some e) k = k
 
 -- within the list there is an element
-is-there : (xs : List MemberState) (i : ℕ) → i < length xs → slice_get xs i ≡ None → ⊥
+pub is-there : (xs : List MemberState) (i : ℕ) → i < length xs → slice_get xs i ≡ None → ⊥
 is-there xs i within none = go (slice_get_cases xs i).1
   where
     go : ((m : MemberState) × (i < length xs) × (slice_get xs i ≡ Some m) × (get_or xs i m ≡ m)) ⊎ ((length xs ≤ i) × (slice_get xs i ≡ None)) → ⊥
-    go (inl h) = absurd (let at = h.2.1 in cc)
+    go (inl h) = absurd (let at = h.2 in cc)
     go (inr h) = let past = h.0 in absurd (omega (arith, within, past))
 
 module _ (b : Beginning) (asked : List ℕ) (n : Moment) (p : IsSoFar b asked n) (number : ℕ) where
@@ -50,7 +56,7 @@ module _ (b : Beginning) (asked : List ℕ) (n : Moment) (p : IsSoFar b asked n)
       go (Some m) at = was-asked-ended (times number asked) m (p.after.each number m at).asked
 
 some-is : (o : Option Told) (e : Told) → o ≡ Some e → IsSome o
-some-is o e is = subst IsSome (sym is) tt
+some-is o e is = subst IsSome (sym is) refl
 
 -- a drawing was asked once more
 module _ (b : Beginning) (asked : List ℕ) (old new : Moment) (order : List ℕ) (number : ℕ) (p : IsUnderWay b asked old order) (h : IsAsked old.pool number new.pool) (q : IsSoFar b (asked ++ number ∷ []) new) (within : number < length old.pool) where
@@ -87,7 +93,7 @@ module _ (b : Beginning) (asked : List ℕ) (old new : Moment) (order : List ℕ
   asked-at-end was some = go (ending_at new.pool number) refl some
     where
       go : (l : Option Told) → ending_at new.pool number ≡ l → IsSome l → asked_by new.pool number ≡ times number asked + 1
-      go None now k = elim k [ ]
+      go None now k = absurd (cc)
       go (Some e) now k =
           subst (IsCounted (turns_at old.pool number) (turns_at new.pool number) (asked_by new.pool number)) now (h.counted was)
           ∙ ap (λ t. t + 1) (turns-asked b asked old p.so_far number was within)
@@ -128,7 +134,11 @@ finish-end b asked n order number f some = subst (λ k. IsUnderWay b (asked ++ r
 -- other drawings that are asked don't count for this one
 times-none : (number other n : ℕ) → number ≢ other → times number (replicate n other) ≡ 0
 times-none number other zero differs = refl
-times-none number other (suc n) differs = times-both number (other ∷ []) (replicate n other) ∙ ap (λ b. (0 + cond b 1 0) + times number (replicate n other)) (differs-is number other differs) ∙ times-none number other n differs
+times-none number other (suc n) differs =
+    let both : times number (replicate (suc n) other) ≡ times number (other ∷ []) + times number (replicate n other) = times-both number (other ∷ []) (replicate n other) in
+    let one : times number (other ∷ []) ≡ 0 = ap (λ b. 0 + cond b 1 0) (differs-is number other differs) in
+    let rest = times-none number other n differs in
+    omega (arith, both, one, rest)
 
 times-before : (asks : ℕ → ℕ) (asked : List ℕ) (n number : ℕ) → n ≤ number → times number (all_asked asks asked n) ≡ times number asked
 unfolding all_asked
@@ -170,3 +180,58 @@ ended-more pool later number h before i few = go (eqb_tells i number)
     go : ((nat_eq i number ≡ true) × (i ≡ number)) ⊎ ((nat_eq i number ≡ false) × (i ≢ number)) → IsSome (ending_at later i)
     go (inl k) = subst (λ n. IsSome (ending_at later n)) (sym k.1) h.ended
     go (inr k) = subst (λ o. IsSome (ending_of_member o)) (sym (h.others i k.1)) (before i (let other = k.1 in omega (arith, few, other)))
+
+none-is : (f : Option Told) → is_none f ≡ true → f ≡ None
+none-is None k = refl
+none-is (Some e) k = absurd (cc)
+
+-- what a pool tells of the ending of a drawing is it
+pub going-at : (pool : List MemberState) (number : ℕ) (e : Option Told) → IfSome (slice_get pool number) (λ m. e ≡ m.drawing.ending) → is_none e ≡ true → ending_at pool number ≡ None
+going-at pool number e told is = go (slice_get pool number) told e is
+  where
+    go : (o : Option MemberState) (l : IfSome o (λ m. e ≡ m.drawing.ending)) (f : Option Told) → is_none e ≡ true → ending_of_member o ≡ None
+    go None l f k = refl
+    go (Some m) l f k = sym l ∙ none-is e k
+
+pub ended-at : (pool : List MemberState) (number : ℕ) (e : Option Told) → IfSome (slice_get pool number) (λ m. e ≡ m.drawing.ending) → number < length pool → is_none e ≡ false → IsSome (ending_at pool number)
+ended-at pool number e told within is = go (slice_get pool number) refl told e refl is
+  where
+    go : (o : Option MemberState) → slice_get pool number ≡ o → IfSome o (λ m. e ≡ m.drawing.ending) → (f : Option Told) → e ≡ f → is_none e ≡ false → IsSome (ending_of_member o)
+    go None at l f same k = absurd (is-there pool number within at)
+    go (Some m) at l None same k = absurd (let is : is_none e ≡ true = ap is_none same in cc)
+    go (Some m) at l (Some g) same k = some-is m.drawing.ending g (sym l ∙ same)
+
+-- fewer turns are left after a turn
+pub fewer-left : (s : Spec) (x : Fraction) (pool later : List MemberState) (number : ℕ) → PoolBelongs s x pool → IsAsked pool number later → ending_at pool number ≡ None → number < length pool → suc (turns_left later number) ≤ turns_left pool number
+fewer-left s x pool later number belongs h going within = go (slice_get pool number) refl
+  where
+    go : (o : Option MemberState) → slice_get pool number ≡ o → suc (turns_left later number) ≤ left_of_member o
+    go None at = absurd (is-there pool number within at)
+    go (Some m) at =
+        let mine = subst (λ (k : MemberState). DrawingBelongs s x k.drawing) (get_or_from_slice_get pool number m m at) (belongs.each number m (slice_get_within pool number m at)) in
+        let is : m.drawing.ending ≡ None = ap ending_of_member (sym at) ∙ going in
+        subst (λ n. suc (turns_left later number) ≤ n) (sym (ap (left_until m.drawing.turns) is))
+        (after m.drawing.turns (let turns = mine.turns in let limit = mine.limits.turns in omega (arith, turns, limit)) (slice_get later number) (subst (λ o. IsCounted (turns_of_member o) (turns_at later number) (asked_by later number) (ending_at later number)) at (h.counted going)))
+      where
+        after : (turns : ℕ) → turns ≤ 50000000 → (l : Option MemberState) → IsCounted turns (turns_of_member l) (asked_of_member l) (ending_of_member l) → suc (left_of_member l) ≤ 50000002 - turns
+        after turns few None counted = omega (arith, few)
+        after turns few (Some k) counted = ends k.drawing.ending counted
+          where
+            ends : (e : Option Told) → IsCounted turns k.drawing.turns (asked_until k.drawing e) e → suc (left_until k.drawing.turns e) ≤ 50000002 - turns
+            ends None c = omega (arith, few, c)
+            ends (Some e) c = omega (arith, few)
+
+-- nothing was asked yet
+pub starts-under-way : (b : Beginning) (n : Moment) (order : List ℕ) → IsSoFar b [] n → order ≡ [] → IsUnderWay b [] n order
+unfolding ends_in
+starts-under-way b n order p none = record { so_far = p; order_is = none }
+
+-- one more byte names a drawing
+pub named-more : (asked : List ℕ) (n : ℕ) (bytes : List ℕ) (i byte number : ℕ) → i < length bytes → byte ≡ get_or bytes i byte → number ≡ byte % n → (asked ++ named n (take i bytes)) ++ number ∷ [] ≡ asked ++ named n (take (i + 1) bytes)
+named-more asked n bytes i byte number within at is =
+    append_assoc asked (named n (take i bytes)) (number ∷ [])
+    ∙ ap (λ k. asked ++ (named n (take i bytes) ++ k ∷ [])) is
+    ∙ ap (λ xs. asked ++ xs) (sym (map-append (λ b. b % n) (take i bytes) (byte ∷ [])))
+    ∙ ap (λ b. asked ++ named n (take i bytes ++ b ∷ [])) at
+    ∙ ap (λ xs. asked ++ named n xs) (sym (take-suc bytes i byte within))
+    ∙ ap (λ k. asked ++ named n (take k bytes)) (sym (add-one i))

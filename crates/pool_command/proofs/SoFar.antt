@@ -27,16 +27,16 @@ use Rattle.session_pool.proofs.Replaced.{replaced-here, replaced-elsewhere}
 use Rattle.sample_command.proofs.Turns.{raised-for}
 use Rattle.pool_command.specs.PoolCommand.{greatest_below}
 use Rattle.pool_command.specs.UnderWay.{Moment, Beginning, IsMemberUnderWay, IsSoFar, IsAsked, IsCounted, asked_by, asked_of_member, asked_until, turns_at, turns_of_member, moment, ended_now}
-use Rattle.pool_command.proofs.Members.{counted-on, member-on}
+use Rattle.pool_command.proofs.Members.{counted-on, member-on, member-longer}
 
 -- numbers with one replaced
 abbrev pub updated : (numbers : ℕ → ℕ) (at value : ℕ) → ℕ → ℕ
 updated numbers at value i = if nat_eq i at then value else numbers i
 
-updated-here : (numbers : ℕ → ℕ) (at value i : ℕ) → nat_eq i at ≡ true → updated numbers at value i ≡ value
+pub updated-here : (numbers : ℕ → ℕ) (at value i : ℕ) → nat_eq i at ≡ true → updated numbers at value i ≡ value
 updated-here numbers at value i is = ap (λ b. if b then value else numbers i) is
 
-updated-elsewhere : (numbers : ℕ → ℕ) (at value i : ℕ) → nat_eq i at ≡ false → updated numbers at value i ≡ numbers i
+pub updated-elsewhere : (numbers : ℕ → ℕ) (at value i : ℕ) → nat_eq i at ≡ false → updated numbers at value i ≡ numbers i
 updated-elsewhere numbers at value i is = ap (λ b. if b then value else numbers i) is
 
 -- up to the number that is raised, the greatest is as it was
@@ -70,7 +70,7 @@ greatest-after numbers at more (suc n) few = go (λ k. greatest-after numbers at
         ap (λ k. max k (updated numbers at (max (numbers at) more) n)) before ∙ ap (max (max (greatest_below numbers n) more)) here ∙ omega arith
 
 -- a drawing that goes on wasn't asked until its end
-none-asked : (o : Option MemberState) → ending_of_member o ≡ None → asked_of_member o ≡ 0
+pub none-asked : (o : Option MemberState) → ending_of_member o ≡ None → asked_of_member o ≡ 0
 none-asked None is = refl
 none-asked (Some m) is = ap (asked_until m.drawing) is
 
@@ -105,7 +105,7 @@ module _ (w : Setting) (before now : List ℕ → ℕ) (pool later : List Member
     belongs-at : (ms : List MemberState) (i : ℕ) (m : MemberState) → PoolBelongs w.spec w.x ms → slice_get ms i ≡ Some m → DrawingBelongs w.spec w.x m.drawing
     belongs-at ms i m all at = subst (λ (k : MemberState). DrawingBelongs w.spec w.x k.drawing) (get_or_from_slice_get ms i m m at) (all.each i m (slice_get_within ms i m at))
 
-    module _ (mosts : ℕ → ℕ) (each : (i : ℕ) (m : MemberState) → slice_get pool i ≡ Some m → IsMemberUnderWay w limits m (mosts i)) where
+    module _ (begun : List ℕ → ℕ) (rose : (name : List ℕ) → begun name ≤ before name) (grew : (name : List ℕ) → before name ≤ now name) (mosts : ℕ → ℕ) (each : (i : ℕ) (m : MemberState) → slice_get pool i ≡ Some m → IsMemberUnderWay w limits begun before m (mosts i)) where
       bits-are : bits_to_nodes h.old_member h.new_member ≡ bits_to_nodes_at number pool later
       bits-are = ap (λ o. bits_between o (Some h.new_member)) (sym h.at) ∙ ap (bits_between (slice_get pool number)) (sym later-here)
 
@@ -113,28 +113,28 @@ module _ (w : Setting) (before now : List ℕ → ℕ) (pool later : List Member
       mosts_on = updated mosts number (max (mosts number) (bits_to_nodes_at number pool later))
 
       -- each drawing is under way, or has ended
-      pub each-on : (i : ℕ) (m : MemberState) → slice_get later i ≡ Some m → IsMemberUnderWay w limits m (mosts_on i)
+      pub each-on : (i : ℕ) (m : MemberState) → slice_get later i ≡ Some m → IsMemberUnderWay w limits begun now m (mosts_on i)
       each-on i m at = go (eqb_tells i number)
         where
-          go : ((nat_eq i number ≡ true) × (i ≡ number)) ⊎ ((nat_eq i number ≡ false) × (i ≢ number)) → IsMemberUnderWay w limits m (mosts_on i)
+          go : ((nat_eq i number ≡ true) × (i ≡ number)) ⊎ ((nat_eq i number ≡ false) × (i ≢ number)) → IsMemberUnderWay w limits begun now m (mosts_on i)
           go (inl k) =
               let here : slice_get later i ≡ Some h.new_member = ap (slice_get later) k.1 ∙ later-here in
               let is_new : h.new_member ≡ m = same_Some h.new_member m (sym here ∙ at) in
-              let on = member-on w before now h.old_member h.new_member pooled h.turn limits (mosts number) law sound (belongs-at pool number h.old_member belongs h.at) (belongs-at later number h.new_member later_belongs later-here) (each number h.old_member h.at) in
-              let by = subst (λ n. IsMemberUnderWay w limits h.new_member (max (mosts number) n)) bits-are on in
-              subst (IsMemberUnderWay w limits m) (sym (updated-here mosts number (max (mosts number) (bits_to_nodes_at number pool later)) i k.0)) (subst (λ (z : MemberState). IsMemberUnderWay w limits z (max (mosts number) (bits_to_nodes_at number pool later))) is_new by)
+              let on = member-on w before now h.old_member h.new_member pooled h.turn limits (mosts number) law sound (belongs-at pool number h.old_member belongs h.at) (belongs-at later number h.new_member later_belongs later-here) begun rose grew (each number h.old_member h.at) in
+              let by = subst (λ n. IsMemberUnderWay w limits begun now h.new_member (max (mosts number) n)) bits-are on in
+              subst (IsMemberUnderWay w limits begun now m) (sym (updated-here mosts number (max (mosts number) (bits_to_nodes_at number pool later)) i k.0)) (subst (λ (z : MemberState). IsMemberUnderWay w limits begun now z (max (mosts number) (bits_to_nodes_at number pool later))) is_new by)
           go (inr k) =
               let before_at : slice_get pool i ≡ Some m = sym (later-elsewhere i k.1) ∙ at in
-              subst (IsMemberUnderWay w limits m) (sym (updated-elsewhere mosts number (max (mosts number) (bits_to_nodes_at number pool later)) i k.0)) (each i m before_at)
+              subst (IsMemberUnderWay w limits begun now m) (sym (updated-elsewhere mosts number (max (mosts number) (bits_to_nodes_at number pool later)) i k.0)) (member-longer w limits begun before now m (mosts i) grew (each i m before_at))
 
 -- a pool so far, after a turn
 module _ (b : Beginning) (asked : List ℕ) (old new : Moment) (number : ℕ) (pooled : Pooled) (p : IsSoFar b asked old) where
-  module _ (h : IsPoolTurn b.shared.spec b.shared.x b.shared.F b.shared.table b.shared.contents old.counts new.counts old.pool number pooled new.pool) (law : TurnsContinue) (sound : IsSound b.shared.spec) (belongs : PoolBelongs b.shared.spec b.shared.x old.pool) (later_belongs : PoolBelongs b.shared.spec b.shared.x new.pool) (same : new.shared ≡ old.shared) (after : IsPoolAfter b.shared b.limits b.sources b.counts new.counts (asked ++ number ∷ []) new.pool) (cost : new.cost ≡ old.cost) (levels : new.raised ≤ 6) (rises : old.raised ≤ new.raised) (raised : new.raised ≡ max old.raised (level_for (bits_to_nodes_at number old.pool new.pool))) (ticks : new.ticks ≤ old.ticks + cost_between old.cost old.raised new.raised) (within : number < length old.pool) (number_is : length new.pool ≡ length old.pool) where
+  module _ (h : IsPoolTurn b.shared.spec b.shared.x b.shared.F b.shared.table b.shared.contents old.counts new.counts old.pool number pooled new.pool) (law : TurnsContinue) (sound : IsSound b.shared.spec) (belongs : PoolBelongs b.shared.spec b.shared.x old.pool) (later_belongs : PoolBelongs b.shared.spec b.shared.x new.pool) (same : new.shared ≡ old.shared) (after : IsPoolAfter b.shared b.limits b.sources b.counts new.counts (asked ++ number ∷ []) new.pool) (cost : new.cost ≡ old.cost) (levels : new.raised ≤ 6) (rises : old.raised ≤ new.raised) (raised : new.raised ≡ max old.raised (level_for (bits_to_nodes_at number old.pool new.pool))) (ticks : new.ticks ≤ old.ticks + cost_between old.cost old.raised new.raised) (within : number < length old.pool) (number_is : length new.pool ≡ length old.pool) (grew : (name : List ℕ) → old.counts name ≤ new.counts name) where
     pub so-far-on : IsSoFar b (asked ++ number ∷ []) new
     so-far-on = record {
       same = same ∙ p.same;
-      mosts = mosts_on b.shared old.counts new.counts old.pool new.pool number pooled h b.limits law sound belongs later_belongs p.mosts p.each;
-      each = each-on b.shared old.counts new.counts old.pool new.pool number pooled h b.limits law sound belongs later_belongs p.mosts p.each;
+      mosts = mosts_on b.shared old.counts new.counts old.pool new.pool number pooled h b.limits law sound belongs later_belongs b.counts p.after.rose grew p.mosts p.each;
+      each = each-on b.shared old.counts new.counts old.pool new.pool number pooled h b.limits law sound belongs later_belongs b.counts p.after.rose grew p.mosts p.each;
       after = after;
       cost_is = cost ∙ p.cost_is;
       levels = levels;
@@ -147,8 +147,8 @@ pub same-shared : (s t : Spec) (x y : Fraction) (F : ℕ) (table other : (level 
 same-shared s t x y F table other contents others es ex et ec = ap (λ z. setting z x F table contents) es ∙ ap (λ z. setting t z F table contents) ex ∙ ap (λ z. setting t y F z contents) et ∙ ap (λ z. setting t y F other z) ec
 
 -- the same, of what the drawings share as the code has it
-pub so-far-by : (b : Beginning) (asked : List ℕ) (old new : Moment) (number : ℕ) (pooled : Pooled) (w : Setting) → w ≡ b.shared → IsSoFar b asked old → IsPoolTurn w.spec w.x w.F w.table w.contents old.counts new.counts old.pool number pooled new.pool → TurnsContinue → IsSound w.spec → PoolBelongs w.spec w.x old.pool → PoolBelongs w.spec w.x new.pool → new.shared ≡ old.shared → ((limits : Limits) (sources : List TapeSource) (begun : List ℕ → ℕ) (turns : List ℕ) → IsPoolAfter w limits sources begun old.counts turns old.pool → IsPoolAfter w limits sources begun new.counts (turns ++ number ∷ []) new.pool) → new.cost ≡ old.cost → new.raised ≤ 6 → old.raised ≤ new.raised → new.raised ≡ max old.raised (level_for (bits_to_nodes_at number old.pool new.pool)) → new.ticks ≤ old.ticks + cost_between old.cost old.raised new.raised → number < length old.pool → length new.pool ≡ length old.pool → IsSoFar b (asked ++ number ∷ []) new
-so-far-by b asked old new number pooled w is p h law sound belongs later_belongs same alone cost levels rises raised ticks within number_is =
+pub so-far-by : (b : Beginning) (asked : List ℕ) (old new : Moment) (number : ℕ) (pooled : Pooled) (w : Setting) → w ≡ b.shared → IsSoFar b asked old → IsPoolTurn w.spec w.x w.F w.table w.contents old.counts new.counts old.pool number pooled new.pool → TurnsContinue → IsSound w.spec → PoolBelongs w.spec w.x old.pool → PoolBelongs w.spec w.x new.pool → new.shared ≡ old.shared → ((limits : Limits) (sources : List TapeSource) (begun : List ℕ → ℕ) (turns : List ℕ) → IsPoolAfter w limits sources begun old.counts turns old.pool → IsPoolAfter w limits sources begun new.counts (turns ++ number ∷ []) new.pool) → new.cost ≡ old.cost → new.raised ≤ 6 → old.raised ≤ new.raised → new.raised ≡ max old.raised (level_for (bits_to_nodes_at number old.pool new.pool)) → new.ticks ≤ old.ticks + cost_between old.cost old.raised new.raised → number < length old.pool → length new.pool ≡ length old.pool → ((name : List ℕ) → old.counts name ≤ new.counts name) → IsSoFar b (asked ++ number ∷ []) new
+so-far-by b asked old new number pooled w is p h law sound belongs later_belongs same alone cost levels rises raised ticks within number_is grew =
     so-far-on b asked old new number pooled p
     (subst (λ (z : Setting). IsPoolTurn z.spec z.x z.F z.table z.contents old.counts new.counts old.pool number pooled new.pool) is h)
     law
@@ -157,7 +157,7 @@ so-far-by b asked old new number pooled w is p h law sound belongs later_belongs
     (subst (λ (z : Setting). PoolBelongs z.spec z.x new.pool) is later_belongs)
     same
     (subst (λ z. IsPoolAfter z b.limits b.sources b.counts new.counts (asked ++ number ∷ []) new.pool) is (alone b.limits b.sources b.counts asked (subst (λ z. IsPoolAfter z b.limits b.sources b.counts old.counts asked old.pool) (sym is) p.after)))
-    cost levels rises raised ticks within number_is
+    cost levels rises raised ticks within number_is grew
 
 -- a turn without memory takes no step
 pub so-far-still : (b : Beginning) (asked : List ℕ) (old : Moment) (ticks : ℕ) → ticks ≤ old.ticks + cost_between old.cost old.raised old.raised → IsSoFar b asked old → IsSoFar b asked (moment old.shared old.counts old.cost old.raised ticks old.pool)

@@ -3,7 +3,7 @@ use Rattle.std.specs.Prelude.{◌≡◌, ◌≢◌, ℕ, ◌+◌, ◌-◌, ◌*�
 use Rattle.std.specs.List.{All}
 use Rattle.bz_model.specs.Fraction.{Fraction}
 use Rattle.bz_model.specs.Spec.{Spec}
-use Rattle.bit_tape.specs.Tape.{TapeSource, TapeState, bits_of}
+use Rattle.bit_tape.specs.Tape.{TapeSource, TapeState, CountsFault, bits_of}
 use Rattle.choice_draw.specs.Decision.{level_for}
 use Rattle.class_system.specs.Sound.{IsSound}
 use Rattle.oracle_memo.specs.Levels.{cost_at, costs}
@@ -14,7 +14,7 @@ use Rattle.size_window.specs.declared.ending.Ending.{Ending}
 use Rattle.size_window.specs.RunByBits.{Limits}
 use Rattle.size_window.specs.Drawing.{DrawingState}
 use Rattle.size_window.specs.Turn.{HasLabels, entry_of, turns_of}
-use Rattle.sample_command.specs.UnderWay.{IsCourseSoFar}
+use Rattle.sample_command.specs.UnderWay.{IsCourseSoFar, has_failed}
 use Rattle.pool_command.specs.Schedule.{ends_in, all_asked, named}
 use Rattle.pool_command.specs.PoolCommand.{greatest_below}
 
@@ -43,13 +43,22 @@ turns_of_member (Some m) = m.drawing.turns
 abbrev pub turns_at : List MemberState → (number : ℕ) → ℕ
 turns_at pool number = turns_of_member (slice_get pool number)
 
+-- Two moments between which a drawing met its tape, told by the counts of failed reads: the first isn't before the pool began, nor the second after now. In between the count of the tape's name rose once where the drawing ended with a failed read; else no count changed.
+pub record AreMoments (source : TapeSource) (failed : Bool) (begun counts : List ℕ → ℕ) : Type 0 where
+  pub before : List ℕ → ℕ
+  pub now : List ℕ → ℕ
+  pub since : (name : List ℕ) → begun name ≤ before name
+  pub until : (name : List ℕ) → now name ≤ counts name
+  pub reads : CountsFault failed source before now
+
 -- A drawing is under way or has ended: it has a course so far, whose entries are those that were kept, each with labels as the mode wants them. Each turn that was counted took at most 60 bits for each of at most 1000000 atoms.
-pub record IsMemberUnderWay (w : Setting) (limits : Limits) (m : MemberState) (most : ℕ) : Type 0 where
+pub record IsMemberUnderWay (w : Setting) (limits : Limits) (begun counts : List ℕ → ℕ) (m : MemberState) (most : ℕ) : Type 0 where
   pub so_far : IsCourseSoFar w.spec w.x w.F w.table limits (bits_of m.tape.source w.contents) m.drawing m.tape.used most
   pub entries : so_far.course.entries ≡ map entry_of m.entries
   pub labels : All (HasLabels w.spec.mode) m.entries
   pub few : m.drawing.ending ≡ None → m.tape.used ≤ 60000000 * m.drawing.turns
   pub used : m.tape.used < 2 ^ 63
+  pub moments : AreMoments m.tape.source (has_failed m.drawing.ending) begun counts
 
 -- A moment of a pool: what its drawings share, the counts of failed reads, what raising a level costs, how far the levels are raised, the steps taken, and its drawings.
 pub record Moment : Type 0 where
@@ -78,7 +87,7 @@ beginning shared limits sources counts ticks = record { shared = shared; limits 
 pub record IsSoFar (b : Beginning) (asked : List ℕ) (n : Moment) : Type 0 where
   pub same : n.shared ≡ b.shared
   pub mosts : ℕ → ℕ
-  pub each : (number : ℕ) (m : MemberState) → slice_get n.pool number ≡ Some m → IsMemberUnderWay b.shared b.limits m (mosts number)
+  pub each : (number : ℕ) (m : MemberState) → slice_get n.pool number ≡ Some m → IsMemberUnderWay b.shared b.limits b.counts n.counts m (mosts number)
   pub after : IsPoolAfter b.shared b.limits b.sources b.counts n.counts asked n.pool
   pub cost_is : n.cost ≡ costs
   pub levels : n.raised ≤ 6

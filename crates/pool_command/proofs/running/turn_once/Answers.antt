@@ -25,6 +25,7 @@ returns-in-Going-clause-so_far g c = λ b asked p.
     (six-levels (g.O.Oracle.raised c.args.oracle.now) _ (g.O.Oracle.raised c.turn.new.oracle) p.levels c.turn.ensures.node_bits c.turn.ensures.raised)
     left.rises c.turn.ensures.raised left.ticks
     (subst (λ n. c.args.number < n) (sym c.requires.can.number) c.requires.number) c.turn.ensures.number
+    (counts-kept _ h.old_member.tape.source (g.S.Shelf.faults c.args.shelf.now) (g.S.Shelf.faults c.turn.new.shelf) h.turn.faults)
 
 pub returns-in-Going-clause-asked : goal.returns-in-Going-clause-asked
 returns-in-Going-clause-asked g c =
@@ -66,6 +67,7 @@ returns-in-Finished-clause-so_far g c = λ b asked p.
     (six-levels (g.O.Oracle.raised c.args.oracle.now) _ (g.O.Oracle.raised c.turn.new.oracle) p.levels c.turn.ensures.node_bits c.turn.ensures.raised)
     left.rises c.turn.ensures.raised left.ticks
     (subst (λ n. c.args.number < n) (sym c.requires.can.number) c.requires.number) c.turn.ensures.number
+    (counts-kept _ h.old_member.tape.source (g.S.Shelf.faults c.args.shelf.now) (g.S.Shelf.faults c.turn.new.shelf) h.turn.faults)
 
 pub returns-in-Finished-clause-asked : goal.returns-in-Finished-clause-asked
 returns-in-Finished-clause-asked g c =
