@@ -1,20 +1,22 @@
 -- The lines of a pool's drawings, one after another.
 use Rattle.std.proofs.Common.{◌≡◌, ◌≢◌, ℕ, zero, suc, ◌+◌, ◌<◌, ◌≤◌, ◌⊎◌, inl, inr, arith, Bool, true, false, List, [], ◌∷◌, ◌++◌, length, map, take, get_or, append-nil, append_assoc, refl, sym, ◌∙◌, ap, subst, add-one}
-use Rattle.std.specs.Prelude.{Option, Some, None, slice_get, nat_eq, if◌then◌else◌}
+use Rattle.std.specs.Prelude.{Option, Some, None, IfSome, slice_get, nat_eq, if◌then◌else◌}
 use Rattle.std.specs.List.{All}
 use Rattle.std.proofs.lemmas.Bool.Decides.{eqb_tells}
 use Rattle.std.proofs.lemmas.List.{map-append}
 use Rattle.std.proofs.Math.Seq.{take-suc}
 use Rattle.bz_model.specs.Spec.{Spec}
+use Rattle.object_store.specs.Tokens.{IsOf}
 use Rattle.size_window.specs.declared.turned.Entry.{Entry}
-use Rattle.size_window.specs.Turn.{entry_of}
+use Rattle.size_window.specs.Turn.{HasLabels, entry_of}
 use Rattle.session_pool.specs.Member.{MemberState}
 use Rattle.call_stages.specs.Lines.{lines_below}
 use Rattle.sample_command.specs.Drawn.{AreLinesOf, Lists}
 use Rattle.sample_command.specs.Drawn as drawn
 use Rattle.call_stages.specs.declared.status.Status.{Status}
-use Rattle.pool_command.specs.PoolCommand.{first_of, first_status}
-use Rattle.pool_command.specs.Pages.{told_session, AreLinesOfMember, AreAppended}
+use Rattle.pool_command.specs.PoolCommand.{first_of, first_status, session_line}
+use Rattle.pool_command.specs.Pages.{told_session, closing_of_member, AreLinesOfMember, AreAppended, AllCanPrint}
+use Rattle.pool_command.proofs.Orders.{is-there}
 
 -- lines that are alike below a number make one text
 pub below-alike : (f g : ℕ → List ℕ) (n : ℕ) → ((i : ℕ) → i < n → f i ≡ g i) → lines_below f n ≡ lines_below g n
@@ -110,3 +112,27 @@ pub status-more : (statuses : ℕ → Status) (n : ℕ) (so_far status next : St
 unfolding first_status
 status-more statuses n so_far status next before is first =
     first ∙ ap (λ s. first_of s status) before ∙ ap (first_of (first_status statuses n)) is ∙ ap (first_status statuses) (sym (add-one n))
+
+-- the entries of a drawing of which all can be printed
+pub printable-at : (s : Spec) (pool : List MemberState) (number : ℕ) (entries : List Entry) → AllCanPrint s pool → number < length pool → IfSome (slice_get pool number) (λ m. entries ≡ m.entries) → All (λ e. IsOf s 0 e.shape.items) entries × All (HasLabels s.mode) entries
+printable-at s pool number entries all within told = go (slice_get pool number) refl told
+  where
+    go : (o : Option MemberState) → slice_get pool number ≡ o → IfSome o (λ m. entries ≡ m.entries) → All (λ e. IsOf s 0 e.shape.items) entries × All (HasLabels s.mode) entries
+    go None at k = absurd (is-there pool number within at)
+    go (Some m) at k = let can = all.each number m at in (subst (All (λ (e : Entry). IsOf s 0 e.shape.items)) (sym k) can.are_of, subst (All (HasLabels s.mode)) (sym k) can.labels)
+
+-- the lines of entries are those of a drawing
+lines-of-member : (s : Spec) (o : Option MemberState) (entries : List Entry) (lines : List ℕ) → IfSome o (λ m. entries ≡ m.entries) → Lists s (map entry_of entries) lines → AreLinesOfMember s o lines
+lines-of-member s None entries lines told l = tt
+lines-of-member s (Some m) entries lines told l = subst (λ es. Lists s (map entry_of es) lines) told l
+
+-- the lines of a drawing are appended
+pub session-appended : (s : Spec) (pool : List MemberState) (number : ℕ) (entries : List Entry) (old first with_entries next line : List ℕ) → IfSome (slice_get pool number) (λ m. entries ≡ m.entries) → line ≡ session_line number → first ≡ old ++ line → (lines : List ℕ) × Lists s (map entry_of entries) lines × (with_entries ≡ first ++ lines) → next ≡ with_entries ++ closing_of_member (slice_get pool number) → (lines : List ℕ) × AreLinesOfMember s (slice_get pool number) lines × (next ≡ old ++ told_session pool number lines)
+session-appended s pool number entries old first with_entries next line told is first_is p next_is = (
+  p.0,
+  lines-of-member s (slice_get pool number) entries p.0 told p.1,
+  next_is
+  ∙ ap (λ t. t ++ closing_of_member (slice_get pool number)) (p.2 ∙ ap (λ t. t ++ p.0) (first_is ∙ ap (λ l. old ++ l) is))
+  ∙ append_assoc (old ++ session_line number) p.0 (closing_of_member (slice_get pool number))
+  ∙ append_assoc old (session_line number) (p.0 ++ closing_of_member (slice_get pool number)),
+)

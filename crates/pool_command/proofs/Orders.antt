@@ -1,6 +1,6 @@
 -- The order of the drawings that ended, with one drawing asked once more, and with all asked until they end.
-use Rattle.std.proofs.Common.{◌≡◌, ◌≢◌, ℕ, zero, suc, ◌+◌, ◌-◌, ◌<◌, ◌≤◌, ◌⊎◌, inl, inr, arith, Bool, true, false, cond, List, [], ◌∷◌, ◌++◌, length, append-nil, append_assoc, add-one, take, ◌*◌, ◌%◌, refl, sym, ◌∙◌, ap, subst}
-use Rattle.std.specs.Option.{is_none}
+use Rattle.std.proofs.Common.{◌≡◌, ◌≢◌, ℕ, zero, suc, ◌+◌, ◌-◌, ◌<◌, ◌≤◌, ◌⊎◌, inl, inr, arith, Bool, true, false, cond, not, List, [], ◌∷◌, ◌++◌, length, append-nil, append_assoc, add-one, take, ◌*◌, ◌%◌, refl, sym, ◌∙◌, ap, subst}
+use Rattle.std.specs.Option.{is_none, is_some}
 use Rattle.std.specs.Prelude.{Option, Some, None, IfSome, IsSome, slice_get, get_or, nat_eq, replicate}
 use Rattle.std.proofs.lemmas.Bool.Decides.{eqb_tells}
 use Rattle.std.proofs.lemmas.List.{map-append}
@@ -227,11 +227,17 @@ unfolding ends_in
 starts-under-way b n order p none = record { so_far = p; order_is = none }
 
 -- one more byte names a drawing
-pub named-more : (asked : List ℕ) (n : ℕ) (bytes : List ℕ) (i byte number : ℕ) → i < length bytes → byte ≡ get_or bytes i byte → number ≡ byte % n → (asked ++ named n (take i bytes)) ++ number ∷ [] ≡ asked ++ named n (take (i + 1) bytes)
-named-more asked n bytes i byte number within at is =
-    append_assoc asked (named n (take i bytes)) (number ∷ [])
-    ∙ ap (λ k. asked ++ (named n (take i bytes) ++ k ∷ [])) is
+pub named-more : (asked : List ℕ) (n : ℕ) (bytes : List ℕ) (i byte d : ℕ) → i < length bytes → byte ≡ get_or bytes i d → (asked ++ named n (take i bytes)) ++ byte % n ∷ [] ≡ asked ++ named n (take (i + 1) bytes)
+named-more asked n bytes i byte d within at =
+    append_assoc asked (named n (take i bytes)) (byte % n ∷ [])
     ∙ ap (λ xs. asked ++ xs) (sym (map-append (λ b. b % n) (take i bytes) (byte ∷ [])))
     ∙ ap (λ b. asked ++ named n (take i bytes ++ b ∷ [])) at
-    ∙ ap (λ xs. asked ++ named n xs) (sym (take-suc bytes i byte within))
+    ∙ ap (λ xs. asked ++ named n xs) (sym (take-suc bytes i d within))
     ∙ ap (λ k. asked ++ named n (take k bytes)) (sym (add-one i))
+
+-- whether there is no ending
+pub none-by : (o : Option Told) (b v : Bool) → is_some o ≡ not b → b ≡ v → is_none o ≡ v
+none-by None true v is same = same
+none-by None false v is same = absurd (cc)
+none-by (Some e) true v is same = absurd (cc)
+none-by (Some e) false v is same = same

@@ -11,14 +11,21 @@ use Rattle.size_window.specs.RunByBits.{Ending, at_start}
 use Rattle.size_window.specs.Drawing.{ending_of}
 use Rattle.session_pool.specs.Member.{MemberState}
 use Rattle.session_pool.specs.Pool.{ending_at, ending_of_member, sources_of}
+use Rattle.session_pool.specs.Interleaving.{EndedRightly, RoseBy}
+use Rattle.call_stages.specs.Lines.{lines_below, certified_format}
 use Rattle.call_stages.specs.Outcomes.{IsWithin}
 use Rattle.call_stages.specs.Stages.{Files, files}
 use Rattle.call_stages.specs.declared.status.Status.{Status}
+use Rattle.sample_command.specs.Drawn.{closing_lines, drawn_header, ending_status}
 use Rattle.sample_command.proofs.AtTheEnd.{Chosen}
-use Rattle.pool_command.specs.PoolCommand.{PoolSetting, PoolCourse, PoolDrawing, AreCoursesIn, IsCourseIn, PoolDrawn, table_of, greatest_below, raising_ticks}
+use Rattle.pool_command.specs.PoolCommand.{PoolSetting, PoolCourse, PoolDrawing, AreCoursesIn, IsCourseIn, IsDrawnIn, PoolDrawn, table_of, greatest_below, raising_ticks, session_line, session_lines, failures_from, first_status, asks_of, drawings_text, order_line, pool_end_line}
 use Rattle.pool_command.specs.PoolCommand as pooled
-use Rattle.pool_command.specs.UnderWay.{Beginning, beginning, Moment, IsSoFar, IsBroken}
-use Rattle.pool_command.proofs.Ended.{shared_of, course_of_member, course-in}
+use Rattle.pool_command.specs.UnderWay.{beginning, Moment, IsSoFar, asked_by, asked_of_member}
+use Rattle.pool_command.specs.Schedule.{named, all_asked, ends_in, asks_to_end}
+use Rattle.pool_command.specs.Pages.{told_session, closing_of_member, status_by, AreLinesOfMember}
+use Rattle.pool_command.proofs.Ended.{shared_of, course_of_member, course-in, drawn-in, closing-same, asks-same}
+use Rattle.pool_command.proofs.Appending.{below-alike}
+use Rattle.pool_command.proofs.OnePool.{statuses-alike, order-alike}
 use Rattle.pool_command.proofs.Orders.{is-there}
 
 -- numbers that are alike have one greatest
@@ -77,3 +84,73 @@ module _ (p : PoolSetting) (contents : List ℕ → Option (List ℕ)) (begun be
     is = pooled.so_far course-at (record { each = λ i name is. course-in-at i name is (slice_get n.pool i) refl }) (record { status_is = refl; text_is = refl; ticks_are = refl });
     few = few-ticks;
   }
+
+  -- the ending of a drawing that has one
+  end-of : Option Told → Ending
+  end-of None = Ending.TapeEnded
+  end-of (Some e) = ending_of e
+
+  ended-as : (o : Option Told) → IsSome o → (e : Told) × (o ≡ Some e)
+  ended-as None some = absurd (cc)
+  ended-as (Some e) some = (e, refl)
+
+  module _ (lines : ℕ → List ℕ) (lists : (i : ℕ) → i < length names → AreLinesOfMember p.setting.spec (slice_get n.pool i) (lines i)) (ended : (i : ℕ) → i < length names → IsSome (ending_at n.pool i)) where
+    -- a drawing
+    drawing-from : (i : ℕ) (o : Option MemberState) → slice_get n.pool i ≡ o → PoolDrawing
+    drawing-from i o at = record { so_far = course-from i o at; ending = end-of (ending_of_member o); lines = lines i }
+
+    abbrev pub drawing-at : (i : ℕ) → PoolDrawing
+    drawing-at i = drawing-from i (slice_get n.pool i) refl
+
+    rightly-of : (i : ℕ) (m : MemberState) (at : slice_get n.pool i ≡ Some m) (e : Told) → m.drawing.ending ≡ Some e → EndedRightly (shared_of p contents) p.limits m.tape.source begun n.counts m.drawing e
+    rightly-of i m at e is = subst (λ o. IfSome o (EndedRightly (shared_of p contents) p.limits m.tape.source begun n.counts m.drawing)) is (h.after.each i m at).ended
+
+    drawn-in-at : (i : ℕ) (name : List ℕ) → slice_get names i ≡ Some name → (o : Option MemberState) (at : slice_get n.pool i ≡ o) → IsDrawnIn p (files contents before n.counts) name (drawing-from i o at)
+    drawn-in-at i name is None at = absurd (within-pool i (slice_get_within names i name is) at)
+    drawn-in-at i name is (Some m) at =
+        let few = slice_get_within names i name is in
+        let e = ended-as m.drawing.ending (subst (λ o. IsSome (ending_of_member o)) at (ended i few)) in
+        let right = rightly-of i m at e.0 e.1 in
+        let its = subst (λ o. AreLinesOfMember p.setting.spec o (lines i)) at (lists i few) in
+        subst (λ z. IsDrawnIn p (files contents before n.counts) z (drawing-from i (Some m) at)) (name-at names i name is)
+        (subst (λ f. IsDrawnIn p (files contents before n.counts) (get_or names i []) (record { so_far = course-from i (Some m) at; ending = f; lines = lines i })) (sym (ap end-of e.1))
+        (drawn-in p contents begun n.counts before chosen earlier m (h.mosts i) (h.each i m at) (get_or names i []) (source-at n.pool names i m h.after.same_sources at) e.0 e.1 right (lines i) its))
+
+    session-at : (i : ℕ) → i < length names → (o : Option MemberState) (at : slice_get n.pool i ≡ o) → session_line i ++ (lines i ++ closing_of_member o) ≡ session_line i ++ (lines i ++ closing_lines (table_of p) (drawing-from i o at).so_far.course (drawing-from i o at).ending)
+    session-at i few None at = absurd (within-pool i few at)
+    session-at i few (Some m) at =
+        let e = ended-as m.drawing.ending (subst (λ o. IsSome (ending_of_member o)) at (ended i few)) in
+        let right = rightly-of i m at e.0 e.1 in
+        ap (λ c. session_line i ++ (lines i ++ c))
+        (closing-same p contents begun n.counts before chosen earlier m (h.mosts i) (h.each i m at) (get_or names i []) (source-at n.pool names i m h.after.same_sources at) e.0 e.1 right
+        ∙ ap (closing_lines (table_of p) (course-from i (Some m) at).course) (sym (ap end-of e.1)))
+
+    asks-at : (i : ℕ) → i < length names → (o : Option MemberState) (at : slice_get n.pool i ≡ o) → asks_to_end (drawing-from i o at).ending (drawing-from i o at).so_far.course.state.turns ≡ asked_of_member o
+    asks-at i few None at = absurd (within-pool i few at)
+    asks-at i few (Some m) at =
+        let e = ended-as m.drawing.ending (subst (λ o. IsSome (ending_of_member o)) at (ended i few)) in
+        let right = rightly-of i m at e.0 e.1 in
+        ap (λ f. asks_to_end f (course-from i (Some m) at).course.state.turns) (ap end-of e.1)
+        ∙ asks-same p contents begun n.counts before chosen earlier m (h.mosts i) (h.each i m at) (get_or names i []) (source-at n.pool names i m h.after.same_sources at) e.0 e.1 right
+
+    status-at : (o : Option Told) → IsSome o → status_by o ≡ ending_status (end-of o)
+    status-at None some = absurd (cc)
+    status-at (Some e) some = refl
+
+    -- all have ended
+    pub ended-told : (schedule order header sessions text : List ℕ) (status : Status) → 1 ≤ length names → order ≡ ends_in (asked_by n.pool) [] (all_asked (asked_by n.pool) (named (length names) schedule) (length names)) → header ≡ drawn_header certified_format p.setting p.base p.limits → sessions ≡ header ++ lines_below (λ i. told_session n.pool i (lines i)) (length names) → text ≡ sessions ++ (order_line order ++ pool_end_line) → status ≡ first_status (λ i. status_by (ending_at n.pool i)) (length names) → ((name : List ℕ) → RoseBy (failures_from name (λ i. (drawing-at i).ending) 0 names) (before name) (n.counts name)) → IsWithin (PoolDrawn p (files contents before n.counts) names schedule) status text first n.ticks
+    ended-told schedule order header sessions text status some order_is header_is sessions_are text_is status_is failed = record {
+      ticks = raising_ticks (length names) course-at;
+      is = pooled.ended drawing-at (record { each = λ i name is. drawn-in-at i name is (slice_get n.pool i) refl; failed = failed }) (record {
+        status_is = status_is ∙ statuses-alike (λ i. status_by (ending_at n.pool i)) (λ i. ending_status (drawing-at i).ending) (length names) (λ i few. status-at (ending_at n.pool i) (ended i few));
+        text_is =
+            text_is
+            ∙ ap (λ t. t ++ (order_line order ++ pool_end_line)) (
+              sessions_are
+              ∙ ap (λ t. t ++ lines_below (λ i. told_session n.pool i (lines i)) (length names)) header_is
+              ∙ ap (λ t. drawn_header certified_format p.setting p.base p.limits ++ t) (below-alike (λ i. told_session n.pool i (lines i)) (session_lines (table_of p) drawing-at) (length names) (λ i few. session-at i few (slice_get n.pool i) refl)))
+            ∙ ap (λ o. drawings_text p (length names) drawing-at ++ (order_line o ++ pool_end_line)) (order_is ∙ order-alike (asks_of drawing-at) (asked_by n.pool) (length names) schedule some (λ i few. sym (asks-at i few (slice_get n.pool i) refl)));
+        ticks_are = refl;
+      });
+      few = few-ticks;
+    }

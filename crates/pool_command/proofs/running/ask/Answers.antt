@@ -25,4 +25,4 @@ returns-in_ok-push-clause-under_way g c = λ b asked p.
 pub returns-else-branch-clause-under_way : goal.returns-else-branch-clause-under_way
 returns-else-branch-clause-under_way g c = λ b asked p.
     let within = subst (λ n. c.args.number < n) (sym c.requires.can.number) c.requires.number in
-    order-same b asked (moment (setting (g.O.Oracle.spec c.args.oracle.now) (g.O.Oracle.x c.args.oracle.now) g.row.F (g.O.Oracle.table c.args.oracle.now) (g.S.Shelf.content c.args.shelf.now)) (g.S.Shelf.faults c.args.shelf.now) (g.O.Oracle.cost c.args.oracle.now) (g.O.Oracle.raised c.args.oracle.now) c.args.steps.now c.args.pool.now) (moment (setting (g.O.Oracle.spec c.turn_once.new.oracle) (g.O.Oracle.x c.turn_once.new.oracle) g.row.F (g.O.Oracle.table c.turn_once.new.oracle) (g.S.Shelf.content c.turn_once.new.shelf)) (g.S.Shelf.faults c.turn_once.new.shelf) (g.O.Oracle.cost c.turn_once.new.oracle) (g.O.Oracle.raised c.turn_once.new.oracle) c.turn_once.new.steps c.turn_once.new.pool) c.args.order.now.items c.args.number p c.in_ok-turn_once.ensures.asked (c.in_ok-turn_once.ensures.so_far b asked p.so_far) within (sym c.else-branch.false ∙ c.in_ok-turn_once.ensures.ends)
+    order-same b asked (moment (setting (g.O.Oracle.spec c.args.oracle.now) (g.O.Oracle.x c.args.oracle.now) g.row.F (g.O.Oracle.table c.args.oracle.now) (g.S.Shelf.content c.args.shelf.now)) (g.S.Shelf.faults c.args.shelf.now) (g.O.Oracle.cost c.args.oracle.now) (g.O.Oracle.raised c.args.oracle.now) c.args.steps.now c.args.pool.now) (moment (setting (g.O.Oracle.spec c.turn_once.new.oracle) (g.O.Oracle.x c.turn_once.new.oracle) g.row.F (g.O.Oracle.table c.turn_once.new.oracle) (g.S.Shelf.content c.turn_once.new.shelf)) (g.S.Shelf.faults c.turn_once.new.shelf) (g.O.Oracle.cost c.turn_once.new.oracle) (g.O.Oracle.raised c.turn_once.new.oracle) c.turn_once.new.steps c.turn_once.new.pool) c.args.order.now.items c.args.number p c.in_ok-turn_once.ensures.asked (c.in_ok-turn_once.ensures.so_far b asked p.so_far) within (sym c.if-branch.false ∙ c.in_ok-turn_once.ensures.ends)

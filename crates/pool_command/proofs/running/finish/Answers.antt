@@ -1,8 +1,8 @@
-use Rattle.std.proofs.Common.{◌≡◌, ◌<◌, ◌++◌, ℕ, refl, sym, ◌∙◌, subst, arith}
+use Rattle.std.proofs.Common.{◌≡◌, ◌<◌, ◌++◌, ℕ, true, false, refl, sym, ◌∙◌, subst, arith}
 use Rattle.std.specs.Prelude.{replicate}
 use Rattle.session_pool.specs.Interleaving.{setting}
 use Rattle.pool_command.specs.UnderWay.{moment}
-use Rattle.pool_command.proofs.Orders.{finish-start, finish-more, finish-end, going-at, ended-at, fewer-left}
+use Rattle.pool_command.proofs.Orders.{finish-start, finish-more, finish-end, going-at, ended-at, none-by, fewer-left}
 use Rattle.pool_command.proofs.Results.{on-err}
 use Rattle.pool_command.proofs.running.finish.Goals as goal
 
@@ -21,7 +21,7 @@ pub turns-smaller : goal.turns-smaller
 turns-smaller g c =
     let inv = c.turns.invariant in
     fewer-left c.args.founded.now (g.O.Oracle.x c.turns.oracle) c.turns.pool c.ask.new.pool c.args.number inv.can.drawings c.in_ok-ask.ensures.asked
-    (going-at c.turns.pool c.args.number c.result.result.ending c.result.ensures.ending (sym c.is_none.ensures ∙ c.turns-test.true))
+    (going-at c.turns.pool c.args.number c.result.result.ending c.result.ensures.ending (none-by c.result.result.ending c.is_none.result true c.is_none.ensures c.turns-test.true))
     (subst (λ n. c.args.number < n) (sym inv.can.number) c.requires.number)
 
 -- it was asked once more
@@ -38,7 +38,7 @@ turns-preserved g c =
           finish-more b asked (moment (setting (g.O.Oracle.spec c.turns.oracle) (g.O.Oracle.x c.turns.oracle) g.row.F (g.O.Oracle.table c.turns.oracle) (g.S.Shelf.content c.turns.shelf)) (g.S.Shelf.faults c.turns.shelf) (g.O.Oracle.cost c.turns.oracle) (g.O.Oracle.raised c.turns.oracle) c.turns.steps c.turns.pool) (moment (setting (g.O.Oracle.spec c.ask.new.oracle) (g.O.Oracle.x c.ask.new.oracle) g.row.F (g.O.Oracle.table c.ask.new.oracle) (g.S.Shelf.content c.ask.new.shelf)) (g.S.Shelf.faults c.ask.new.shelf) (g.O.Oracle.cost c.ask.new.oracle) (g.O.Oracle.raised c.ask.new.oracle) c.ask.new.steps c.ask.new.pool) c.turns.order.items c.ask.new.order.items c.args.number f c.in_ok-ask.ensures.asked
           (c.in_ok-ask.ensures.under_way b (asked ++ replicate f.0 c.args.number) f.1)
           (subst (λ n. c.args.number < n) (sym inv.can.number) c.requires.number)
-          (going-at c.turns.pool c.args.number c.result.result.ending c.result.ensures.ending (sym c.is_none.ensures ∙ c.turns-test.true));
+          (going-at c.turns.pool c.args.number c.result.result.ending c.result.ensures.ending (none-by c.result.result.ending c.is_none.result true c.is_none.ensures c.turns-test.true));
     }
 
 -- it was broken off
@@ -50,12 +50,12 @@ pub returns-clause-under_way : goal.returns-clause-under_way
 returns-clause-under_way g c = λ b asked p.
     let inv = c.turns.invariant in
     finish-end b asked (moment (setting (g.O.Oracle.spec c.turns.oracle) (g.O.Oracle.x c.turns.oracle) g.row.F (g.O.Oracle.table c.turns.oracle) (g.S.Shelf.content c.turns.shelf)) (g.S.Shelf.faults c.turns.shelf) (g.O.Oracle.cost c.turns.oracle) (g.O.Oracle.raised c.turns.oracle) c.turns.steps c.turns.pool) c.turns.order.items c.args.number (inv.under_way b asked p)
-    (ended-at c.turns.pool c.args.number c.result.result.ending c.result.ensures.ending (subst (λ n. c.args.number < n) (sym inv.can.number) c.requires.number) (sym c.is_none.ensures ∙ c.turns-test.false))
+    (ended-at c.turns.pool c.args.number c.result.result.ending c.result.ensures.ending (subst (λ n. c.args.number < n) (sym inv.can.number) c.requires.number) (none-by c.result.result.ending c.is_none.result false c.is_none.ensures c.turns-test.false))
 
 pub returns-clause-finished : goal.returns-clause-finished
 returns-clause-finished g c =
     let inv = c.turns.invariant in
     record {
-      ended = ended-at c.turns.pool c.args.number c.result.result.ending c.result.ensures.ending (subst (λ n. c.args.number < n) (sym inv.can.number) c.requires.number) (sym c.is_none.ensures ∙ c.turns-test.false);
+      ended = ended-at c.turns.pool c.args.number c.result.result.ending c.result.ensures.ending (subst (λ n. c.args.number < n) (sym inv.can.number) c.requires.number) (none-by c.result.result.ending c.is_none.result false c.is_none.ensures c.turns-test.false);
       others = inv.others;
     }
