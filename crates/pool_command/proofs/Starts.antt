@@ -3,19 +3,27 @@ use Rattle.std.proofs.Common.{◌≡◌, ℕ, zero, suc, ◌+◌, ◌≤◌, max
 use Rattle.std.specs.Prelude.{Option, Some, None, option_map, slice_get}
 use Rattle.std.specs.List.{All}
 use Rattle.std.proofs.lemmas.Option.{slice_get_within, get_or_from_slice_get}
-use Rattle.bit_tape.specs.Tape.{TapeSource, bits_of}
+use Rattle.bit_tape.specs.Tape.{TapeSource, TapeState, Belongs, bits_of}
+use Rattle.bit_tape.proofs.NewTapes.{belongs_new}
+use Rattle.bz_model.specs.Fraction.{ratio}
+use Rattle.kleene_lower.specs.Lower.{zeros}
+use Rattle.oracle_memo.specs.Memos.{Memory}
+use Rattle.rounded_map.specs.RoundedMap.{Setting as Rounded}
+use Rattle.rounded_map.specs.RoundedMap as rounded
 use Rattle.choice_draw.specs.Decision.{level_for}
-use Rattle.oracle_memo.specs.Levels.{costs}
+use Rattle.oracle_memo.specs.Levels.{level_bounds_from, costs}
 use Rattle.size_window.specs.declared.ending.Ending.{Ending as Told}
 use Rattle.size_window.specs.RunByBits.{Limits, State, at_start}
 use Rattle.size_window.specs.Drawing.{ending_of}
 use Rattle.size_window.specs.Turn.{HasLabels, entry_of}
 use Rattle.size_window.specs.Trace.{HasTrace, TracesStart}
 use Rattle.session_pool.specs.Member.{MemberState, IsNewMember}
-use Rattle.session_pool.specs.Interleaving.{Setting, IsPoolAfter}
+use Rattle.session_pool.specs.Interleaving.{Setting, setting, IsPoolAfter}
+use Rattle.session_pool.specs.Pool.{IsNewPool, tapes_of}
 use Rattle.sample_command.specs.UnderWay.{IsCourseSoFar, has_failed}
-use Rattle.pool_command.specs.PoolCommand.{greatest_below}
-use Rattle.pool_command.specs.UnderWay.{AreMoments, IsMemberUnderWay, Beginning, Moment, IsSoFar, moment}
+use Rattle.pool_command.specs.PoolCommand.{greatest_below, pool_of}
+use Rattle.pool_command.specs.UnderWay.{AreMoments, IsMemberUnderWay, Beginning, Moment, IsSoFar, beginning, moment, tape_over}
+use Rattle.pool_command.proofs.Ended.{shared_of}
 
 -- a drawing that starts hasn't ended
 not-ended : (o : Option Told) → option_map ending_of o ≡ None → o ≡ None
@@ -59,3 +67,31 @@ starts-so-far starts b ticks pool new unused after few = record {
   raised_is = sym (ap level_for (greatest-none (length pool)));
   few = omega (arith, few);
 }
+
+-- the tapes over files
+pub sources-of-tapes : (names : List (List ℕ)) → map (λ (t : TapeState). t.source) (map tape_over names) ≡ map TapeSource.Named names
+sources-of-tapes [] = refl
+sources-of-tapes (n ∷ names) = ap (λ ss. TapeSource.Named n ∷ ss) (sources-of-tapes names)
+
+pub tapes-unused : (names : List (List ℕ)) → All (λ tape. tape.used ≡ 0) (map tape_over names)
+tapes-unused [] k d lt = absurd (omega (arith, lt))
+tapes-unused (n ∷ names) zero d lt = refl
+tapes-unused (n ∷ names) (suc k) d lt = tapes-unused names k d (omega (arith, lt))
+
+pub tapes-belong : (contents : List ℕ → Option (List ℕ)) (names : List (List ℕ)) → All (Belongs contents) (map tape_over names)
+tapes-belong contents [] k d lt = absurd (omega (arith, lt))
+tapes-belong contents (n ∷ names) zero d lt = belongs_new contents (TapeSource.Named n) 0
+tapes-belong contents (n ∷ names) (suc k) d lt = tapes-belong contents names k d (omega (arith, lt))
+
+members-unused : (pool : List MemberState) (names : List (List ℕ)) → tapes_of pool ≡ map tape_over names → All (λ m. m.tape.used ≡ 0) pool
+members-unused [] names same k d lt = absurd (omega (arith, lt))
+members-unused (m ∷ pool) [] same k d lt = absurd (cc)
+members-unused (m ∷ pool) (n ∷ names) same zero d lt = let here : m.tape ≡ tape_over n = cc in ap (λ (t : TapeState). t.used) here
+members-unused (m ∷ pool) (n ∷ names) same (suc k) d lt = members-unused pool names (let rest : tapes_of pool ≡ map tape_over names = cc in rest) k d (omega (arith, lt))
+
+-- a pool by a memo of which no level is raised
+pub memo-starts : TracesStart → (t : Rounded) (base : List ℕ) (limits : Limits) (contents : List ℕ → Option (List ℕ)) (names : List (List ℕ)) (counts : List ℕ → ℕ) (ticks now : ℕ) (m : Memory) (tapes : List TapeState) (pool : List MemberState) → m ≡ record { spec = t.spec; num = t.num; den = t.den; start = zeros t; base = base; raised = 0 } → tapes ≡ map tape_over names → IsNewPool limits tapes pool → ((w : Setting) (c : List ℕ → ℕ) → IsPoolAfter w limits (map (λ (tape : TapeState). tape.source) tapes) c c [] pool) → now ≤ ticks → IsSoFar (beginning (shared_of (pool_of t base limits) contents) limits (map TapeSource.Named names) counts ticks) [] (moment (setting m.spec (ratio m.num m.den) t.bits (level_bounds_from (rounded.setting m.spec m.num m.den t.bits) m.start m.base) contents) counts costs m.raised now pool)
+memo-starts law t base limits contents names counts ticks now m tapes pool made tapes_are new alone few =
+    subst (λ (k : Memory). IsSoFar (beginning (shared_of (pool_of t base limits) contents) limits (map TapeSource.Named names) counts ticks) [] (moment (setting k.spec (ratio k.num k.den) t.bits (level_bounds_from (rounded.setting k.spec k.num k.den t.bits) k.start k.base) contents) counts costs k.raised now pool)) (sym made)
+    (starts-so-far law (beginning (shared_of (pool_of t base limits) contents) limits (map TapeSource.Named names) counts ticks) now pool new.each (members-unused pool names (new.same_tapes ∙ tapes_are))
+    (subst (λ ss. IsPoolAfter (shared_of (pool_of t base limits) contents) limits ss counts counts [] pool) (ap (map (λ (tape : TapeState). tape.source)) tapes_are ∙ sources-of-tapes names) (alone (shared_of (pool_of t base limits) contents) counts)) few)
