@@ -53,39 +53,33 @@ none-appended s pool text = record {
 -- the lines of one more drawing are
 pub one-appended : (s : Spec) (pool : List MemberState) (n : ℕ) (start text next line : List ℕ) → AreAppended s pool n start text → AreLinesOfMember s (slice_get pool n) line → next ≡ text ++ told_session pool n line → AreAppended s pool (n + 1) start next
 one-appended s pool n start text next line p of is = record {
-  lines = all;
+  lines = replaced p.lines n line;
   lists = λ i few. listed i few (eqb_tells i n);
   text_is = text-is;
 }
   where
-    all : ℕ → List ℕ
-    all = replaced p.lines n line
-
-    listed : (i : ℕ) → i < n + 1 → ((nat_eq i n ≡ true) × (i ≡ n)) ⊎ ((nat_eq i n ≡ false) × (i ≢ n)) → AreLinesOfMember s (slice_get pool i) (all i)
-    unfolding all
+    listed : (i : ℕ) → i < n + 1 → ((nat_eq i n ≡ true) × (i ≡ n)) ⊎ ((nat_eq i n ≡ false) × (i ≢ n)) → AreLinesOfMember s (slice_get pool i) (replaced p.lines n line i)
     listed i few (inl k) = subst (AreLinesOfMember s (slice_get pool i)) (sym (replaced-at p.lines n line i k.0)) (subst (λ j. AreLinesOfMember s (slice_get pool j) line) (sym k.1) of)
     listed i few (inr k) = subst (AreLinesOfMember s (slice_get pool i)) (sym (replaced-not p.lines n line i k.0)) (p.lists i (let other = k.1 in omega (arith, few, other)))
 
-    same : (i : ℕ) → i < n → ((nat_eq i n ≡ true) × (i ≡ n)) ⊎ ((nat_eq i n ≡ false) × (i ≢ n)) → told_session pool i (p.lines i) ≡ told_session pool i (all i)
-    unfolding all
+    same : (i : ℕ) → i < n → ((nat_eq i n ≡ true) × (i ≡ n)) ⊎ ((nat_eq i n ≡ false) × (i ≢ n)) → told_session pool i (p.lines i) ≡ told_session pool i (replaced p.lines n line i)
     same i few (inl k) = absurd (let is = k.1 in omega (arith, few, is))
     same i few (inr k) = ap (told_session pool i) (sym (replaced-not p.lines n line i k.0))
 
-    here : ((nat_eq n n ≡ true) × (n ≡ n)) ⊎ ((nat_eq n n ≡ false) × (n ≢ n)) → line ≡ all n
-    unfolding all
+    here : ((nat_eq n n ≡ true) × (n ≡ n)) ⊎ ((nat_eq n n ≡ false) × (n ≢ n)) → line ≡ replaced p.lines n line n
     here (inl k) = sym (replaced-at p.lines n line n k.0)
     here (inr k) = absurd (k.1 refl)
 
-    text-is : next ≡ start ++ lines_below (λ number. told_session pool number (all number)) (n + 1)
+    text-is : next ≡ start ++ lines_below (λ number. told_session pool number (replaced p.lines n line number)) (n + 1)
     text-is =
         is
         ∙ ap (λ t. t ++ told_session pool n line) p.text_is
         ∙ append_assoc start (lines_below (λ number. told_session pool number (p.lines number)) n) (told_session pool n line)
         ∙ ap (λ t. start ++ t) (
-          ap (λ t. t ++ told_session pool n line) (below-alike (λ number. told_session pool number (p.lines number)) (λ number. told_session pool number (all number)) n (λ i few. same i few (eqb_tells i n)))
-          ∙ ap (λ l. lines_below (λ number. told_session pool number (all number)) n ++ told_session pool n l) (here (eqb_tells n n))
-          ∙ sym (below-next (λ number. told_session pool number (all number)) n)
-          ∙ ap (lines_below (λ number. told_session pool number (all number))) (sym (add-one n)))
+          ap (λ t. t ++ told_session pool n line) (below-alike (λ number. told_session pool number (p.lines number)) (λ number. told_session pool number (replaced p.lines n line number)) n (λ i few. same i few (eqb_tells i n)))
+          ∙ ap (λ l. lines_below (λ number. told_session pool number (replaced p.lines n line number)) n ++ told_session pool n l) (here (eqb_tells n n))
+          ∙ sym (below-next (λ number. told_session pool number (replaced p.lines n line number)) n)
+          ∙ ap (lines_below (λ number. told_session pool number (replaced p.lines n line number))) (sym (add-one n)))
 
 -- the lines of one more entry are appended
 pub entry-appended : (s : Spec) (entries : List Entry) (k : ℕ) (e : Entry) (start text next : List ℕ) → k < length entries → e ≡ get_or entries k e → (lines : List ℕ) × Lists s (map entry_of (take k entries)) lines × (text ≡ start ++ lines) → (more : List ℕ) × AreLinesOf s (entry_of e) more × (next ≡ text ++ more) → (lines : List ℕ) × Lists s (map entry_of (take (k + 1) entries)) lines × (next ≡ start ++ lines)

@@ -59,16 +59,16 @@ asks-are told.ReadFault turns = omega arith
 
 -- a drawing of a pool is one of the command
 module _ (p : PoolSetting) (contents : List ℕ → Option (List ℕ)) (begun counts before : List ℕ → ℕ) (chosen : Chosen p.setting.spec p.setting.bits (table_of p)) (earlier : (other : List ℕ) → before other ≤ begun other) (m : MemberState) (most : ℕ) (h : IsMemberUnderWay (shared_of p contents) p.limits begun counts m most) (name : List ℕ) (source : m.tape.source ≡ TapeSource.Named name) where
-  abbrev SoFarOver : TapeSource → Type 0
+  abbrev pub SoFarOver : TapeSource → Type 0
   SoFarOver s = IsCourseSoFar p.setting.spec (ratio p.setting.num p.setting.den) p.setting.bits (table_of p) p.limits (bits_of s contents) m.drawing m.tape.used most
 
-  over-name : (q : SoFarOver (TapeSource.Named name)) × (q.course.entries ≡ map entry_of m.entries)
+  pub over-name : (q : SoFarOver (TapeSource.Named name)) × (q.course.entries ≡ map entry_of m.entries)
   over-name = subst (λ s. (q : SoFarOver s) × (q.course.entries ≡ map entry_of m.entries)) source (h.so_far, h.entries)
 
-  met-between : AreMoments (TapeSource.Named name) (has_failed m.drawing.ending) begun counts
+  pub met-between : AreMoments (TapeSource.Named name) (has_failed m.drawing.ending) begun counts
   met-between = subst (λ s. AreMoments s (has_failed m.drawing.ending) begun counts) source h.moments
 
-  in-call : AreInCall (files contents before counts) met-between.before met-between.now
+  pub in-call : AreInCall (files contents before counts) met-between.before met-between.now
   in-call = record { since = λ other. let one = earlier other in let two = met-between.since other in omega (arith, one, two); until = met-between.until }
 
   abbrev pub course_of_member : PoolCourse
@@ -84,7 +84,7 @@ module _ (p : PoolSetting) (contents : List ℕ → Option (List ℕ)) (begun co
   }
 
   module _ (e : Told) (is : m.drawing.ending ≡ Some e) (rightly : EndedRightly (shared_of p contents) p.limits m.tape.source begun counts m.drawing e) where
-    at-end-of : IsAtEnd (table_of p) p.limits m.drawing m.tape.used e
+    pub at-end-of : IsAtEnd (table_of p) p.limits m.drawing m.tape.used e
     at-end-of = record {
       ended = is;
       kept = rightly.kept;

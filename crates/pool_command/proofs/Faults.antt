@@ -24,14 +24,14 @@ one-more name m pool =
     omega (arith, both, one)
 
 -- the mark of an ending
-same-mark : (name tape : List ℕ) (e : Told) → (if is_read_fault (ending_of e) && bytes_eq name tape then 1 else 0) ≡ cond (has_failed name (TapeSource.Named tape) (Some e)) 1 0
+same-mark : (name tape : List ℕ) (e : Told) → ◌≡◌ {A = ℕ} (if is_read_fault (ending_of e) && bytes_eq name tape then 1 else 0) (cond (has_failed name (TapeSource.Named tape) (Some e)) 1 0)
 same-mark name tape told.Done = refl
 same-mark name tape told.TapeEnded = refl
 same-mark name tape (told.Undecided straddle) = refl
 same-mark name tape told.TurnLimit = refl
 same-mark name tape told.ReadFault = refl
 
-mark-at : (name tape : List ℕ) (m : MemberState) (e : Told) → m.tape.source ≡ TapeSource.Named tape → m.drawing.ending ≡ Some e → (if is_read_fault (ending_of e) && bytes_eq name tape then 1 else 0) ≡ mark name m
+mark-at : (name tape : List ℕ) (m : MemberState) (e : Told) → m.tape.source ≡ TapeSource.Named tape → m.drawing.ending ≡ Some e → ◌≡◌ {A = ℕ} (if is_read_fault (ending_of e) && bytes_eq name tape then 1 else 0) (mark name m)
 mark-at name tape m e source is = same-mark name tape e ∙ ap (λ o. cond (has_failed name (TapeSource.Named tape) o) 1 0) (sym is) ∙ ap (λ s. cond (has_failed name s m.drawing.ending) 1 0) (sym source)
 
 -- What is told of the endings of drawings: that of each is the one told.

@@ -9,3 +9,6 @@ pub mod Carrying
 pub mod OnePool
 pub mod Ended
 pub mod Told
+pub mod Starts
+pub mod Printable
+pub mod Faults

@@ -31,7 +31,7 @@ use Rattle.pool_command.proofs.Appending.{below-alike}
 use Rattle.pool_command.proofs.Orders.{asked-alike}
 
 -- Drawings print the same.
-record ArePrintedAlike (d e : PoolDrawing) : Type 0 where
+pub record ArePrintedAlike (d e : PoolDrawing) : Type 0 where
   pub course : d.so_far.course ≡ e.so_far.course
   pub ending : d.ending ≡ e.ending
   pub lines : d.lines ≡ e.lines

@@ -53,7 +53,7 @@ name-at names i name at = same_Some (get_or names i []) name (sym (slice_get-get
 
 module _ (p : PoolSetting) (contents : List ℕ → Option (List ℕ)) (begun before : List ℕ → ℕ) (names : List (List ℕ)) (first : ℕ) (chosen : Chosen p.setting.spec p.setting.bits (table_of p)) (earlier : (other : List ℕ) → before other ≤ begun other) (asked : List ℕ) (n : Moment) (h : IsSoFar (beginning (shared_of p contents) p.limits (map TapeSource.Named names) begun first) asked n) (number : length n.pool ≡ length names) where
   -- the course of a drawing; one that isn't there has none
-  pub course-from : (i : ℕ) (o : Option MemberState) → slice_get n.pool i ≡ o → PoolCourse
+  abbrev pub course-from : (i : ℕ) (o : Option MemberState) → slice_get n.pool i ≡ o → PoolCourse
   course-from i None at = record { course = at_start; most = 0 }
   course-from i (Some m) at = course_of_member p contents begun n.counts before chosen earlier m (h.mosts i) (h.each i m at) (get_or names i []) (source-at n.pool names i m h.after.same_sources at)
 
@@ -86,7 +86,7 @@ module _ (p : PoolSetting) (contents : List ℕ → Option (List ℕ)) (begun be
   }
 
   -- the ending of a drawing that has one
-  end-of : Option Told → Ending
+  abbrev pub end-of : Option Told → Ending
   end-of None = Ending.TapeEnded
   end-of (Some e) = ending_of e
 
@@ -96,7 +96,7 @@ module _ (p : PoolSetting) (contents : List ℕ → Option (List ℕ)) (begun be
 
   module _ (lines : ℕ → List ℕ) (lists : (i : ℕ) → i < length names → AreLinesOfMember p.setting.spec (slice_get n.pool i) (lines i)) (ended : (i : ℕ) → i < length names → IsSome (ending_at n.pool i)) where
     -- a drawing
-    drawing-from : (i : ℕ) (o : Option MemberState) → slice_get n.pool i ≡ o → PoolDrawing
+    abbrev pub drawing-from : (i : ℕ) (o : Option MemberState) → slice_get n.pool i ≡ o → PoolDrawing
     drawing-from i o at = record { so_far = course-from i o at; ending = end-of (ending_of_member o); lines = lines i }
 
     abbrev pub drawing-at : (i : ℕ) → PoolDrawing

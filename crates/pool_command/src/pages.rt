@@ -76,7 +76,8 @@ fn append_session(
     let first = session_line(alloc, number)?;
     text.extend_from_slice(first.as_bytes())?;
     append_entries(alloc, founded, pool.result(number).entries, text)?;
-    append_closing(alloc, pool, number, text)
+    append_closing(alloc, pool, number, text)?;
+    Ok(())
 }
 
 /// The line before a drawing's entries.
