@@ -95,3 +95,10 @@ memo-starts law t base limits contents names counts ticks now m tapes pool made 
     subst (λ (k : Memory). IsSoFar (beginning (shared_of (pool_of t base limits) contents) limits (map TapeSource.Named names) counts ticks) [] (moment (setting k.spec (ratio k.num k.den) t.bits (level_bounds_from (rounded.setting k.spec k.num k.den t.bits) k.start k.base) contents) counts costs k.raised now pool)) (sym made)
     (starts-so-far law (beginning (shared_of (pool_of t base limits) contents) limits (map TapeSource.Named names) counts ticks) now pool new.each (members-unused pool names (new.same_tapes ∙ tapes_are))
     (subst (λ ss. IsPoolAfter (shared_of (pool_of t base limits) contents) limits ss counts counts [] pool) (ap (map (λ (tape : TapeState). tape.source)) tapes_are ∙ sources-of-tapes names) (alone (shared_of (pool_of t base limits) contents) counts)) few)
+
+-- there is one drawing for each tape
+pub members-counted : (pool : List MemberState) (names : List (List ℕ)) → tapes_of pool ≡ map tape_over names → length pool ≡ length names
+members-counted [] [] same = refl
+members-counted [] (n ∷ names) same = absurd (cc)
+members-counted (m ∷ pool) [] same = absurd (cc)
+members-counted (m ∷ pool) (n ∷ names) same = let rest = members-counted pool names (let more : tapes_of pool ≡ map tape_over names = cc in more) in omega (arith, rest)
