@@ -24,6 +24,17 @@ def tools(folder: str, *words: str) -> subprocess.CompletedProcess:
     )
 
 
+def draws() -> bool:
+    """Whether graphviz is there and set up: while it is being installed it has no formats yet."""
+    if not shutil.which("dot"):
+        return False
+    for form in ("svg", "png"):
+        ran = subprocess.run(["dot", "-T" + form], input=b"digraph {}", capture_output=True)
+        if ran.returncode:
+            return False
+    return True
+
+
 class PictureTest(unittest.TestCase):
     def folder(self, row: str = ROW):
         """A stored run as files."""
@@ -47,7 +58,7 @@ class PictureTest(unittest.TestCase):
             (ran.returncode, ran.stderr), (1, "boltz-tools: the certificate has no object 9\n")
         )
 
-    @unittest.skipUnless(shutil.which("dot"), "not installed: graphviz")
+    @unittest.skipUnless(draws(), "not installed: graphviz")
     def test_objects_are_drawn(self):
         with self.folder() as folder:
             for form in ("parts", "atoms", "whole"):

@@ -37,6 +37,9 @@ use Rattle.call_stages.proofs.Endings as endings
 use Rattle.call_stages.proofs.Endings.{ends_as, written_on}
 use Rattle.sample_command.proofs.Starting.{one-drawn-over}
 use Rattle.bulk_command.proofs.OneBulk.{one-bulk}
+use Rattle.point_command.proofs.Printing.{one-carried as one-point}
+use Rattle.chance_command.proofs.Weighing.{one-carried as one-chance}
+use Rattle.rank_commands.proofs.OneOutcome.{one-count, one-unrank, one-rank}
 use Rattle.call_stages.proofs.OneReading.{one-said, one-specified, one-based}
 
 -- the tape of a sample is known, and no read of it failed
@@ -58,6 +61,11 @@ one-carried f (command.Sample file x word limits F fast) calm =
     let met = tape_in f (source_of word) in
     one-specified f file (λ s. Based (t s) (DrawnOver fast (t s) (limits_of limits) met)) calm.0 (λ s. one-based (t s) (DrawnOver fast (t s) (limits_of limits) met) (one-drawn-over fast (t s) (limits_of limits) met bits.0 bits.1 (calm-tape f word calm.1)))
 one-carried f (command.Bulk n F) calm = one-bulk n (fraction_bits F)
+one-carried f (command.Point file) calm = one-point f file calm
+one-carried f (command.Chance file x object F) calm = one-chance f file x object (fraction_bits F) calm
+one-carried f (command.Count file n) calm = one-count f file n calm.0
+one-carried f (command.Unrank file n number) calm = one-unrank f file n number calm.0
+one-carried f (command.Rank file object) calm = one-rank f file object calm.0 calm.1.0
 one-carried f later calm = one-said Status.WordsRefused not_yet_line 0
 
 -- words that are refused

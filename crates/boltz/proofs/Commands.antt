@@ -36,10 +36,12 @@ one-fault words NotACommand (BadValue v) m n h i = absurd (h.formless i.name i.a
 one-fault words (BadValue v) NotACommand m n h i = absurd (i.formless h.name h.arguments h.form)
 one-fault words (BadValue v) (BadValue u) m n h i = ap BadValue (one_bad_value words v u h i)
 
--- The limits of a drawing and the number of a run are within those that the command takes.
+-- The limits of a drawing, the number of a run and a size are within those that the command takes.
 abbrev HasLimits : Command → Type 0
 HasLimits (command.Sample file x word limits F fast) = AreWithin (limits_of limits)
 HasLimits (command.Bulk n F) = (1 ≤ n) × (n ≤ 1000)
+HasLimits (command.Count file n) = n ≤ 500
+HasLimits (command.Unrank file n number) = n ≤ 500
 HasLimits other = Unit {0}
 
 set-max : (name : CommandName) (texts : List (List ℕ)) (n : ℕ) → IsSet name value.Max 1000 texts n → n ≤ 1000000
@@ -70,8 +72,8 @@ has-limits given name c (makes.migrate f k e) = tt
 has-limits given name c (makes.bulk t n b e st is) = st.within
 has-limits given name c (makes.point f e) = tt
 has-limits given name c (makes.chance f t o x b e r is) = tt
-has-limits given name c (makes.count f t n e st) = tt
-has-limits given name c (makes.unrank f t k n number e st ranked) = tt
+has-limits given name c (makes.count f t n e st) = st.within
+has-limits given name c (makes.unrank f t k n number e st ranked) = st.within
 has-limits given name c (makes.rank f o e) = tt
 
 pub sample_limits : (file : List ℕ) (x : Fraction) (word : TapeWord) (limits : Limits) (F : FractionBits) (fast : Bool) → IsStoodFor (command.Sample file x word limits F fast) → AreWithin (limits_of limits)
@@ -79,3 +81,9 @@ sample_limits file x word limits F fast h = has-limits _ _ (command.Sample file 
 
 pub bulk_limits : (n : ℕ) (F : FractionBits) → IsStoodFor (command.Bulk n F) → (1 ≤ n) × (n ≤ 1000)
 bulk_limits n F h = has-limits _ _ (command.Bulk n F) h.is.made
+
+pub count_limit : (file : List ℕ) (n : ℕ) → IsStoodFor (command.Count file n) → n ≤ 500
+count_limit file n h = has-limits _ _ (command.Count file n) h.is.made
+
+pub unrank_limit : (file : List ℕ) (n number : ℕ) → IsStoodFor (command.Unrank file n number) → n ≤ 500
+unrank_limit file n number h = has-limits _ _ (command.Unrank file n number) h.is.made

@@ -32,6 +32,15 @@ use Rattle.sample_command.specs.Drawn as drawn
 use Rattle.bulk_command.specs.BulkText.{bulk_text}
 use Rattle.bulk_command.specs.BulkCommand.{BulkDrawn}
 use Rattle.bulk_command.specs.BulkCommand as bulks
+use Rattle.point_command.specs.PointCommand.{PointedPrinted}
+use Rattle.point_command.proofs.Printing.{pointed-no-words}
+use Rattle.chance_command.specs.ChanceCommand.{Weighed, WeighedAt, ReadAndWeighed}
+use Rattle.chance_command.proofs.Weighing.{weighed-no-words}
+use Rattle.object_stage.proofs.OneObject.{object-no-words}
+use Rattle.rank_commands.specs.CountCommand.{CountedTo}
+use Rattle.rank_commands.specs.UnrankCommand.{Unranked}
+use Rattle.rank_commands.specs.RankCommand.{RankedIn}
+use Rattle.rank_commands.proofs.NoWords.{count-no-words, unrank-no-words, rank-no-words}
 use Rattle.boltz.specs.OracleCommand.{Bounded, bounded_text}
 use Rattle.call_stages.specs.Outcomes.{Outcome, Says, MaySay}
 use Rattle.call_stages.specs.Outcomes as outcomes
@@ -89,6 +98,13 @@ unfit-carried w p (command.Oracle file x F) is status text ticks memory h =
 unfit-carried w p (command.Sample file x word limits F fast) is status text ticks memory h =
     let next = λ (s : Spec). Based (setting s x.num x.den (fraction_bits F)) (DrawnOver fast (setting s x.num x.den (fraction_bits F)) (limits_of limits) (tape_in w.files (source_of word))) in
     unfit-only w p next status text ticks memory (subst (λ f. Specified w.files f next status text ticks) is h)
+unfit-carried w p (command.Point file) is status text ticks memory h = unfit-only w p PointedPrinted status text ticks memory (subst (λ f. Specified w.files f PointedPrinted status text ticks) is h)
+unfit-carried w p (command.Chance file x object F) is status text ticks memory h =
+    let next = λ (s : Spec). ReadAndWeighed w.files object (setting s x.num x.den (fraction_bits F)) in
+    unfit-only w p next status text ticks memory (subst (λ f. Specified w.files f next status text ticks) is h)
+unfit-carried w p (command.Count file n) is status text ticks memory h = unfit-only w p (CountedTo n) status text ticks memory (subst (λ f. Specified w.files f (CountedTo n) status text ticks) is h)
+unfit-carried w p (command.Unrank file n number) is status text ticks memory h = unfit-only w p (Unranked n number) status text ticks memory (subst (λ f. Specified w.files f (Unranked n number) status text ticks) is h)
+unfit-carried w p (command.Rank file object) is status text ticks memory h = unfit-only w p (RankedIn w.files object) status text ticks memory (subst (λ f. Specified w.files f (RankedIn w.files object) status text ticks) is h)
 unfit-carried w p later is status text ticks memory h = absurd is
 
 pub refused : (w : World) (status : Status) (text : List ℕ) (ticks : ℕ) → IsUnfit w → status ≢ Status.OutOfMemory → Answers w status text ticks → status ≡ Status.SpecRefused
@@ -188,6 +204,11 @@ over-no-words fast t limits met base status text ticks (starting.no_fast none sa
 over-no-words fast t limits met base status text ticks (starting.no_memory says) is = not-words Status.OutOfMemory status _ text _ ticks (λ e. absurd (cc)) says is
 over-no-words fast t limits met base status text ticks (starting.started start more has p sum) is = drawn-no-words fast t limits met base start status text more p is
 
+bulk-no-words : (n : ℕ) (t : Setting) (base : List ℕ) (status : Status) (text : List ℕ) (ticks : ℕ) → BulkDrawn n t base status text ticks → status ≡ Status.WordsRefused → ⊥
+bulk-no-words n t base status text ticks (bulks.ended c given d h says) is = not-words (ending_status d) status _ text _ ticks (ending-no-words d) says is
+bulk-no-words n t base status text ticks (bulks.so_far c given h says) is = not-words Status.OutOfMemory status _ text _ ticks (λ e. absurd (cc)) says is
+bulk-no-words n t base status text ticks (bulks.no_memory says) is = not-words Status.OutOfMemory status _ text _ ticks (λ e. absurd (cc)) says is
+
 carried-no-words : (f : Files) (asked : Command) → ¬ (¬ (IsBuilt asked)) → (status : Status) (text : List ℕ) (ticks : ℕ) → Carries f asked status text ticks → status ≡ Status.WordsRefused → ⊥
 carried-no-words f (command.Spec file) built status text ticks h is = specified-no-words f file Printed (λ s status text ticks p e. said-no-words Status.Done (spec_text s) 0 status text ticks (λ e. absurd (cc)) p e) status text ticks h is
 carried-no-words f (command.Oracle file x F) built status text ticks h is =
@@ -200,6 +221,13 @@ carried-no-words f (command.Sample file x word limits F fast) built status text 
 carried-no-words f (command.Bulk n F) built status text ticks h is =
     let t = λ (s : Spec). setting s 3 16 (fraction_bits F) in
     judged-no-words (bulk_text n) (λ s. Based (t s) (BulkDrawn n (t s))) (λ s. based-no-words (t s) (BulkDrawn n (t s)) (bulk-no-words n (t s))) status text ticks h is
+carried-no-words f (command.Point file) built status text ticks h is = specified-no-words f file PointedPrinted pointed-no-words status text ticks h is
+carried-no-words f (command.Chance file x object F) built status text ticks h is =
+    let t = λ (s : Spec). setting s x.num x.den (fraction_bits F) in
+    specified-no-words f file (λ s. ReadAndWeighed f object (t s)) (λ s. object-no-words f s object (λ tokens labels. WeighedAt (t s) tokens) (λ tokens labels. based-no-words (t s) (Weighed (t s) tokens) (weighed-no-words (t s) tokens))) status text ticks h is
+carried-no-words f (command.Count file n) built status text ticks h is = specified-no-words f file (CountedTo n) (count-no-words n) status text ticks h is
+carried-no-words f (command.Unrank file n number) built status text ticks h is = specified-no-words f file (Unranked n number) (unrank-no-words n number) status text ticks h is
+carried-no-words f (command.Rank file object) built status text ticks h is = specified-no-words f file (RankedIn f object) (rank-no-words f object) status text ticks h is
 carried-no-words f later built status text ticks h is = absurd (built (λ no. no))
 
 only-refused : (w : World) (asked : Command) → IsCommand w.words asked → (status : Status) (text : List ℕ) (ticks : ℕ) → Carries w.files asked status text ticks → status ≡ Status.WordsRefused → AreRefused w.words
@@ -207,6 +235,11 @@ only-refused w (command.Spec file) named status text ticks h is = absurd (carrie
 only-refused w (command.Oracle file x F) named status text ticks h is = absurd (carried-no-words w.files (command.Oracle file x F) (λ no. no tt) status text ticks h is)
 only-refused w (command.Sample file x word limits F fast) named status text ticks h is = absurd (carried-no-words w.files (command.Sample file x word limits F fast) (λ no. no tt) status text ticks h is)
 only-refused w (command.Bulk n F) named status text ticks h is = absurd (carried-no-words w.files (command.Bulk n F) (λ no. no tt) status text ticks h is)
+only-refused w (command.Point file) named status text ticks h is = absurd (carried-no-words w.files (command.Point file) (λ no. no tt) status text ticks h is)
+only-refused w (command.Chance file x object F) named status text ticks h is = absurd (carried-no-words w.files (command.Chance file x object F) (λ no. no tt) status text ticks h is)
+only-refused w (command.Count file n) named status text ticks h is = absurd (carried-no-words w.files (command.Count file n) (λ no. no tt) status text ticks h is)
+only-refused w (command.Unrank file n number) named status text ticks h is = absurd (carried-no-words w.files (command.Unrank file n number) (λ no. no tt) status text ticks h is)
+only-refused w (command.Rank file object) named status text ticks h is = absurd (carried-no-words w.files (command.Rank file object) (λ no. no tt) status text ticks h is)
 only-refused w later named status text ticks h is = commands.not_yet later named (λ built. built)
 
 pub words_only : (w : World) (status : Status) (text : List ℕ) (ticks : ℕ) → Answers w status text ticks → status ≡ Status.WordsRefused → AreRefused w.words
@@ -225,6 +258,11 @@ later-only f (command.Spec file) unbuilt status text ticks memory h = absurd (un
 later-only f (command.Oracle file x F) unbuilt status text ticks memory h = absurd (unbuilt tt)
 later-only f (command.Sample file x word limits F fast) unbuilt status text ticks memory h = absurd (unbuilt tt)
 later-only f (command.Bulk n F) unbuilt status text ticks memory h = absurd (unbuilt tt)
+later-only f (command.Point file) unbuilt status text ticks memory h = absurd (unbuilt tt)
+later-only f (command.Chance file x object F) unbuilt status text ticks memory h = absurd (unbuilt tt)
+later-only f (command.Count file n) unbuilt status text ticks memory h = absurd (unbuilt tt)
+later-only f (command.Unrank file n number) unbuilt status text ticks memory h = absurd (unbuilt tt)
+later-only f (command.Rank file object) unbuilt status text ticks memory h = absurd (unbuilt tt)
 later-only f later unbuilt status text ticks memory h = may-say-only Status.WordsRefused not_yet_line 0 status text ticks memory h
 
 pub not_yet : (w : World) (asked : Command) (status : Status) (text : List ℕ) (ticks : ℕ) → IsCommand w.words asked → ¬ (IsBuilt asked) → status ≢ Status.OutOfMemory → Answers w status text ticks → (status ≡ Status.WordsRefused) × (text ≡ not_yet_line)

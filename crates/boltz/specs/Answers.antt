@@ -10,6 +10,11 @@ use Rattle.command_words.specs.declared.command.TapeWord.TheVariants as tape
 use Rattle.command_words.specs.declared.fault.WordsFault.{WordsFault}
 use Rattle.call_stages.specs.Outcomes.{Outcome, Says, MaySay}
 use Rattle.bulk_command.specs.BulkCommand.{CarriesBulk}
+use Rattle.point_command.specs.PointCommand.{CarriesPoint}
+use Rattle.chance_command.specs.ChanceCommand.{CarriesChance}
+use Rattle.rank_commands.specs.CountCommand.{CarriesCount}
+use Rattle.rank_commands.specs.UnrankCommand.{CarriesUnrank}
+use Rattle.rank_commands.specs.RankCommand.{CarriesRank}
 use Rattle.boltz.specs.OracleCommand.{CarriesOracle}
 use Rattle.call_stages.specs.Refusals.{words_line, not_yet_line}
 use Rattle.sample_command.specs.SampleCommand.{CarriesSample}
@@ -35,6 +40,11 @@ Carries f (command.Spec file) = CarriesSpec f file
 Carries f (command.Oracle file x F) = CarriesOracle f file x (fraction_bits F)
 Carries f (command.Sample file x word limits F fast) = CarriesSample f file x word limits (fraction_bits F) fast
 Carries f (command.Bulk n F) = CarriesBulk n (fraction_bits F)
+Carries f (command.Point file) = CarriesPoint f file
+Carries f (command.Chance file x object F) = CarriesChance f file x object (fraction_bits F)
+Carries f (command.Count file n) = CarriesCount f file n
+Carries f (command.Unrank file n number) = CarriesUnrank f file n number
+Carries f (command.Rank file object) = CarriesRank f file object
 Carries f later = NotYet
 
 -- Words that stand for no command are refused for a reason; memory may run out instead.
@@ -57,6 +67,11 @@ abbrev pub files_of : Command → List (List ℕ)
 files_of (command.Spec file) = file ∷ []
 files_of (command.Oracle file x F) = file ∷ []
 files_of (command.Sample file x word limits F fast) = file ∷ tape_files word
+files_of (command.Point file) = file ∷ []
+files_of (command.Chance file x object F) = file ∷ object ∷ []
+files_of (command.Count file n) = file ∷ []
+files_of (command.Unrank file n number) = file ∷ []
+files_of (command.Rank file object) = file ∷ object ∷ []
 files_of later = []
 
 -- A call is undisturbed where each file that its words ask to read is known and no read of it failed.

@@ -5,12 +5,17 @@ use Rattle.command_words.specs.declared.command.Command.{Command}
 use Rattle.command_words.specs.declared.command.Command.TheVariants as command
 use Rattle.command_words.specs.declared.fault.WordsFault.{WordsFault}
 
--- The program does what `spec`, `oracle`, `sample` and `bulk` ask for, and not yet what the other commands do.
+-- The program does what every command asks for, but for `pool`, `verify` and `migrate`, which aren't built yet.
 abbrev pub IsBuilt : Command → Type 0
 IsBuilt (command.Spec file) = Unit {0}
 IsBuilt (command.Oracle file x F) = Unit {0}
 IsBuilt (command.Sample file x word limits F fast) = Unit {0}
 IsBuilt (command.Bulk n F) = Unit {0}
+IsBuilt (command.Point file) = Unit {0}
+IsBuilt (command.Chance file x object F) = Unit {0}
+IsBuilt (command.Count file n) = Unit {0}
+IsBuilt (command.Unrank file n number) = Unit {0}
+IsBuilt (command.Rank file object) = Unit {0}
 IsBuilt later = ⊥
 
 -- A command that is built reads its specification from this file; `bulk` makes its own.
@@ -18,6 +23,11 @@ abbrev pub Specifies : Command → (file : List ℕ) → Type 0
 Specifies (command.Spec file) name = file ≡ name
 Specifies (command.Oracle file x F) name = file ≡ name
 Specifies (command.Sample file x word limits F fast) name = file ≡ name
+Specifies (command.Point file) name = file ≡ name
+Specifies (command.Chance file x object F) name = file ≡ name
+Specifies (command.Count file n) name = file ≡ name
+Specifies (command.Unrank file n number) name = file ≡ name
+Specifies (command.Rank file object) name = file ≡ name
 Specifies later name = ⊥
 
 -- There are words that stand for a command.

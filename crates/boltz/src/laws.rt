@@ -17,7 +17,7 @@ ghost use Rattle.rounded_map.specs.RoundedMap.{setting};
 ghost use Rattle.size_window.specs.Drawing.{limits_of};
 ghost use Rattle.size_window.specs.RunByBits.{Ending};
 ghost use Rattle.size_window.specs.declared.limits.Limits.{Limits};
-ghost use Rattle.boltz.specs.Answers.{World, Answers, IsUndisturbed};
+ghost use Rattle.boltz.specs.Answers.{World, Answers, Carries, IsUndisturbed};
 ghost use Rattle.boltz.specs.Commands.{IsBuilt, AreRefused};
 ghost use Rattle.boltz.specs.Complete.{IsPrintable, IsUnfit, IsDrawable, IsBoundable, IsBaseless, IsWithoutFast, IsCountable, undisturbed};
 ghost use Rattle.bulk_command.specs.BulkCommand.{bulk_course, course_line};
@@ -42,6 +42,13 @@ pub fn without_a_failed_write_the_answer_is_whole()
 /// An undisturbed call has one status with one text, but for want of memory.
 pub fn an_undisturbed_call_has_one_answer()
     ensures one { (w : World) → IsUndisturbed w → IsOne (Answers w) }
+{}
+
+/// But for want of memory, what comes of words that stand for a command is what comes of the command. So
+/// the laws of the crate of a command hold of the call.
+pub fn a_call_has_the_outcome_of_its_command()
+    ensures outcome { (w : World) (c : Command) (status : Status) (text : List ℕ) (ticks : ℕ) → IsCommand w.words c
+        → status ≢ Status.OutOfMemory → Answers w status text ticks → Carries w.files c status text ticks }
 {}
 
 /// Words that stand for no command have no other answer than the line that says why, and words that

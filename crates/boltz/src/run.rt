@@ -8,19 +8,24 @@ ghost use Rattle.call_stages.specs.Stages.{files};
 ghost use Rattle.call_stages.specs.declared.status.Status.{Status};
 
 use crate::oracle::oracle;
-use bulk_command::bulk::bulk;
-use call_stages::refusals::{not_yet_refusal, words_refusal};
-use call_stages::report::written;
-use sample_command::sample::sample;
 use crate::spec::spec;
-use call_stages::status::Status;
+use bulk_command::bulk::bulk;
 use bz_model::steps::Steps;
 use bz_outside::shelf::Shelf;
 use bz_outside::sink::Sink;
 use bz_outside::word::Word;
+use call_stages::refusals::{not_yet_refusal, words_refusal};
+use call_stages::report::written;
+use call_stages::status::Status;
+use chance_command::chance::chance;
 use command_words::command::Command;
 use command_words::fault::WordsFault;
 use command_words::read::read_words;
+use point_command::point::point;
+use rank_commands::count::count;
+use rank_commands::rank::rank;
+use rank_commands::unrank::unrank;
+use sample_command::sample::sample;
 use std::alloc::Global;
 use std::sync::ledger::Ledger;
 
@@ -85,11 +90,16 @@ fn carried_out<S: Shelf, K: Sink, L: Ledger>(
         Command::Verify { .. } => not_yet(alloc, out),
         Command::Migrate { .. } => not_yet(alloc, out),
         Command::Bulk { n, fraction } => bulk(alloc, *n, *fraction, out, steps),
-        Command::Point { .. } => not_yet(alloc, out),
-        Command::Chance { .. } => not_yet(alloc, out),
-        Command::Count { .. } => not_yet(alloc, out),
-        Command::Unrank { .. } => not_yet(alloc, out),
-        Command::Rank { .. } => not_yet(alloc, out),
+        Command::Point { file } => point(alloc, file, shelf, out),
+        Command::Chance {
+            file,
+            x,
+            object,
+            fraction,
+        } => chance(alloc, file, *x, object, *fraction, shelf, out, steps),
+        Command::Count { file, n } => count(alloc, file, *n, shelf, out),
+        Command::Unrank { file, n, number } => unrank(alloc, file, *n, *number, shelf, out),
+        Command::Rank { file, object } => rank(alloc, file, object, shelf, out),
     }
 }
 

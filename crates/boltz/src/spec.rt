@@ -4,13 +4,13 @@ ghost use Rattle.call_stages.specs.Ends.{EndsBy, output};
 ghost use Rattle.boltz.specs.SpecCommand.{CarriesSpec, Printed, spec_text};
 ghost use Rattle.call_stages.specs.Stages.{files};
 
+use bz_outside::shelf::Shelf;
+use bz_outside::sink::Sink;
+use bz_outside::word::Word;
 use call_stages::format::spec_end;
 use call_stages::report::{refused, written};
 use call_stages::stages::specified;
 use call_stages::status::Status;
-use bz_outside::shelf::Shelf;
-use bz_outside::sink::Sink;
-use bz_outside::word::Word;
 use class_system::system::System;
 use std::alloc::{AllocError, Global};
 use well_founded::examination::Founded;

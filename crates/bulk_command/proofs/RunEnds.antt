@@ -11,7 +11,8 @@ use Rattle.oracle_memo.specs.Levels.{level_bounds, cost_at}
 use Rattle.rounded_map.specs.RoundedMap.{Setting, setting}
 use Rattle.size_window.specs.declared.ending.Ending.{Ending as Told}
 use Rattle.size_window.specs.RunByBits.{Limits, State, start}
-use Rattle.size_window.specs.Drawing.{DrawingState, state_of, ending_of}
+use Rattle.class_system.specs.Sound.{IsSound}
+use Rattle.size_window.specs.Drawing.{AreLimits, DrawingState, state_of, ending_of}
 use Rattle.size_window.specs.Trace.{atoms_in, TracesStart}
 use Rattle.size_window.proofs.Turning.{attempt-used}
 use Rattle.call_stages.specs.Ends.{output, EndsBy}
@@ -25,12 +26,17 @@ use Rattle.call_stages.proofs.Endings.{no_front, ends_on, ends_as, written_on}
 use Rattle.call_stages.proofs.Staging.{judged_as}
 use Rattle.sample_command.specs.Drawn.{IsCourse, ending_word, ending_status}
 use Rattle.sample_command.specs.UnderWay.{has_failed, IsAtEnd}
-use Rattle.sample_command.proofs.AtTheEnd.{Chosen, course-starts, course-of, drawn-at-end}
+use Rattle.sample_command.proofs.TapeEnds.{Chosen, EndLaws}
+use Rattle.sample_command.proofs.AtTheEnd.{course-starts, course-of, drawn-at-end}
 use Rattle.bulk_command.specs.BulkCommand.{bulk_limits, bulk_tape, bulk_line, course_line, BulkDrawn, CarriesBulk}
 use Rattle.bulk_command.specs.BulkText.{classes_of, bulk_text}
 use Rattle.bulk_command.specs.BulkCommand as bulk
 use Rattle.bulk_command.specs.NoFiles.{empty_files, no_faults}
 use Rattle.bulk_command.specs.Running.{IsRunning}
+
+-- a run's limits are limits
+pub bulk-limits : (n : ℕ) → 1 ≤ n → n ≤ 1000 → AreLimits (bulk_limits n)
+bulk-limits n some few = record { window = omega arith; max = omega arith; some = omega arith; count = omega arith; some_turns = omega arith; turns = omega arith }
 
 -- a run begins
 pub starts-running : (law : TracesStart) (s : Spec) (x : Fraction) (F : ℕ) (table : (level node : ℕ) → Bounds) (limits : Limits) (source : TapeSource) (d : DrawingState) (used raised : ℕ) → used ≡ 0 → state_of d 0 ≡ start → d.limits ≡ limits → d.atoms ≡ 0 → raised ≡ 0 → IsRunning s x F table limits source d used raised
@@ -61,7 +67,7 @@ module _ (n : ℕ) (t : Setting) (base : List ℕ) (chosen : Chosen t.spec t.bit
     few = few-given;
   })
 
-  module _ (e : Told) (end : IsAtEnd (level_bounds t base) (bulk_limits n) d used e) where
+  module _ (e : Told) (end : IsAtEnd (level_bounds t base) (bulk_limits n) d e) (laws : EndLaws) (sound : IsSound t.spec) (are : AreLimits (bulk_limits n)) where
     -- the counts of the drawing are those of its course
     same-line : (word : List ℕ) (a b c k f g u v q r : ℕ) → a ≡ b → c ≡ k → f ≡ g → u ≡ v → q ≡ r → bulk_line n (classes_of n) word a c f u q ≡ bulk_line n (classes_of n) word b k g v r
     same-line word a b c k f g u v q r ab ck fg uv qr = cc
@@ -78,7 +84,7 @@ module _ (n : ℕ) (t : Setting) (base : List ℕ) (chosen : Chosen t.spec t.bit
 
     -- what may be said of a run is an outcome of it
     is-drawn : (line : List ℕ) → line ≡ course_line n h.so_far.course (ending_of e) → (status : Status) (text : List ℕ) (ticks : ℕ) → MaySay (ending_status (ending_of e)) line 0 status text ticks → BulkDrawn n t base status text (cost_at (level_for h.most))
-    is-drawn line is status text ticks (outcomes.says says) = bulk.ended h.so_far.course h.most (ending_of e) (drawn-at-end t.spec (ratio t.num t.den) t.bits (level_bounds t base) (bulk_limits n) (bulk_tape n) chosen d used h.most h.so_far reads e end) (record { status_is = says.status_is; text_is = says.text_is ∙ is; ticks_are = refl })
+    is-drawn line is status text ticks (outcomes.says says) = bulk.ended h.so_far.course h.most (ending_of e) (drawn-at-end t.spec (ratio t.num t.den) t.bits (level_bounds t base) (bulk_limits n) (bulk_tape n) chosen d used h.most h.so_far laws sound are reads e end) (record { status_is = says.status_is; text_is = says.text_is ∙ is; ticks_are = refl })
     is-drawn line is status text ticks (outcomes.no_memory says) = bulk.so_far h.so_far.course h.most is-course (record { status_is = says.status_is; text_is = says.text_is; ticks_are = refl })
 
     -- a run ends with its line

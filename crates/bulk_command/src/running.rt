@@ -28,7 +28,8 @@ use sample_command::entries::{status_of, word_of};
 use size_window::drawing::Drawing;
 use size_window::ending::Ending;
 use size_window::laws::{
-    a_table_has_its_chooser, a_trace_starts_with_its_drawing, a_turn_continues_a_trace,
+    a_course_uses_few_bits, a_table_has_its_chooser, a_trace_starts_with_its_drawing,
+    a_turn_continues_a_trace, the_tape_ends_where_its_bits_are_used,
 };
 use size_window::limits::{Counts, Limits};
 use size_window::turned::Turned;
@@ -59,7 +60,9 @@ pub(crate) fn drawn<const F: u32, K: Sink, L: Ledger>(
     requires least { 1 ≤ n }
     requires greatest { n ≤ 1000 }
     requires post_fixed { IsPostFixed (setting founded.now x.num x.den F) base }
-    ensures ends { EndsBy (BulkDrawn n (setting founded.now x.num x.den F) base.entry) (output (K.written out.old) (K.written out.new) (K.faults out.old) (K.faults out.new) steps.old steps.new) result }
+    ensures ends { EndsBy (BulkDrawn n (setting founded.now x.num x.den F) base.entry)
+        (output (K.written out.old) (K.written out.new) (K.faults out.old) (K.faults out.new)
+        steps.old steps.new) result }
     ensures writes { K.faults out.old ≤ K.faults out.new }
 {
     let limits = Limits {
@@ -78,6 +81,8 @@ pub(crate) fn drawn<const F: u32, K: Sink, L: Ledger>(
     memo.known();
     a_table_has_its_chooser();
     a_trace_starts_with_its_drawing();
+    a_course_uses_few_bits();
+    the_tape_ends_where_its_bits_are_used();
     let mut tape = Tape::seeded(n);
     match draw_to_the_end::<F, _, L>(founded, &mut memo, &mut tape, &mut drawing, steps) {
         Ok(ending) => finished(alloc, n, ending, drawing.counts(), tape.used(), out),
@@ -94,7 +99,11 @@ fn finished<K: Sink>(
     bits: u64,
     out: &mut K,
 ) -> Status
-    ensures ends { EndsBy (MaySay (ending_status (ending_of ending)) (bulk_line n (classes_of n) (ending_word (ending_of ending)) counts.kept counts.thrown counts.atoms bits counts.turns) 0) (output (K.written out.old) (K.written out.new) (K.faults out.old) (K.faults out.new) 0 0) result }
+    ensures ends { EndsBy (MaySay (ending_status (ending_of ending))
+        (bulk_line n (classes_of n) (ending_word (ending_of ending)) counts.kept counts.thrown
+        counts.atoms bits counts.turns) 0)
+        (output (K.written out.old) (K.written out.new) (K.faults out.old) (K.faults out.new) 0 0)
+        result }
     ensures writes { K.faults out.old ≤ K.faults out.new }
 {
     match line(alloc, n, class_count(n), word_of(ending), counts, bits) {
@@ -112,7 +121,8 @@ fn line(
     counts: Counts,
     bits: u64,
 ) -> Result<String, AllocError>
-    ensures { IfOk result (λ line. string_bytes line ≡ bulk_line n classes word.now counts.kept counts.thrown counts.atoms bits counts.turns) }
+    ensures { IfOk result (λ line. string_bytes line ≡ bulk_line n classes word.now counts.kept
+        counts.thrown counts.atoms bits counts.turns) }
 {
     let numbers = counted(alloc, counts, bits)?;
     let mut line = format!(in alloc; "bulk {n} classes {classes} end {word}")?;
@@ -122,7 +132,8 @@ fn line(
 
 /// What the line of a run counts.
 fn counted(alloc: Global, counts: Counts, bits: u64) -> Result<String, AllocError>
-    ensures { IfOk result (λ text. string_bytes text ≡ run_counts counts.kept counts.thrown counts.atoms bits counts.turns) }
+    ensures { IfOk result (λ text. string_bytes text ≡ run_counts counts.kept counts.thrown
+        counts.atoms bits counts.turns) }
 {
     let (kept, thrown) = (counts.kept, counts.thrown);
     let (atoms, turns) = (counts.atoms, counts.turns);
@@ -141,16 +152,18 @@ fn draw_to_the_end<const F: u32, O: Oracle<F>, L: Ledger>(
     requires spec { O.spec oracle.old ≡ founded.now }
     requires costs { AreCosts (O.cost oracle.old) }
     requires levels { O.raised oracle.old ≤ 6 }
-    requires can_turn { CanTurn founded.now (O.x oracle.old) empty_files drawing.old.limits drawing.old tape.old }
+    requires can_turn { CanTurn founded.now (O.x oracle.old) empty_files drawing.old.limits
+        drawing.old tape.old }
     ensures under_way { IsRunning founded.now (O.x oracle.old) F (O.table oracle.old)
         drawing.old.limits tape.old.source drawing.old tape.old.used (O.raised oracle.old)
         → IsRunning founded.now (O.x oracle.old) F (O.table oracle.old)
         drawing.old.limits tape.old.source drawing.new tape.new.used (O.raised oracle.new) }
-    ensures ended { IfOk result (IsAtEnd (O.table oracle.old) drawing.old.limits drawing.new tape.new.used) }
+    ensures ended { IfOk result (IsAtEnd (O.table oracle.old) drawing.old.limits drawing.new) }
     ensures oracle { LeavesOracle O.spec O.x O.table O.cost O.raised
         oracle.old oracle.new steps.old steps.new }
     ensures levels { O.raised oracle.new ≤ 6 }
-    ensures reads { CountsFault (has_failed drawing.new.ending) tape.old.source no_faults no_faults }
+    ensures reads { CountsFault (has_failed drawing.new.ending) tape.old.source no_faults
+        no_faults }
 {
     'turns: loop {
         let Ok(turned) = turn_once(founded, oracle, tape, drawing, steps) else {
@@ -172,7 +185,8 @@ fn turn_once<const F: u32, O: Oracle<F>, L: Ledger>(
 ) -> Result<Option<Ending>, AllocError>
     requires fraction { (24 ≤ F) × (F ≤ 56) }
     requires spec { O.spec oracle.old ≡ founded.now }
-    requires can_turn { CanTurn founded.now (O.x oracle.old) empty_files drawing.old.limits drawing.old tape.old }
+    requires can_turn { CanTurn founded.now (O.x oracle.old) empty_files drawing.old.limits
+        drawing.old tape.old }
     ensures under_way { IsRunning founded.now (O.x oracle.old) F (O.table oracle.old)
         drawing.old.limits tape.old.source drawing.old tape.old.used (O.raised oracle.old)
         → IsRunning founded.now (O.x oracle.old) F (O.table oracle.old)
@@ -183,7 +197,8 @@ fn turn_once<const F: u32, O: Oracle<F>, L: Ledger>(
         oracle.old oracle.new steps.old steps.new }
     ensures levels { O.raised oracle.old ≤ 6 → O.raised oracle.new ≤ 6 }
     ensures source { tape.new.source ≡ tape.old.source }
-    ensures reads { CountsFault (has_failed drawing.new.ending) tape.old.source no_faults no_faults }
+    ensures reads { CountsFault (has_failed drawing.new.ending) tape.old.source no_faults
+        no_faults }
 {
     a_turn_continues_a_trace();
     let mut files = NoFiles;

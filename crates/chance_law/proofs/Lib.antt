@@ -10,3 +10,4 @@ pub mod Come
 pub mod FewFactors
 pub mod Equal
 pub mod Shares
+pub mod OneChance

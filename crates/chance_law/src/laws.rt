@@ -1,5 +1,5 @@
 //! Laws on chances.
-ghost use Rattle.std.specs.Prelude.{ℕ, ◌<◌};
+ghost use Rattle.std.specs.Prelude.{◌≡◌, ℕ, ◌<◌};
 ghost use Rattle.bz_model.specs.declared.cell.Bounds.{Bounds};
 ghost use Rattle.bz_model.specs.Fraction.{Fraction, units};
 ghost use Rattle.bz_model.specs.Spec.{Spec};
@@ -15,6 +15,12 @@ pub fn chances_are_enclosed()
         (b : ChanceBounds) → 0 < root.hi → Below x (units F root.lo) (Belongs s e)
         → Above x (units F root.hi) (Belongs s e) → AreChanceBounds F x root o b
         → IsEnclosed s x e o b }
+{}
+
+/// An object has one pair of bounds of its chance, from x and the bounds of its class's value.
+pub fn an_object_has_one_pair_of_bounds()
+    ensures one { (F : ℕ) (x : Fraction) (root : Bounds) (o : Object) (b c : ChanceBounds)
+        → AreChanceBounds F x root o b → AreChanceBounds F x root o c → b ≡ c }
 {}
 
 /// Worked chances: `1.Z` of `C = Z + Z` at 1/2 has the chance 1/2, and the cycle of two atoms of

@@ -11,7 +11,8 @@ use Rattle.labelling.specs.declared.labelled.Labelled.{Labelled}
 use Rattle.labelling.specs.declared.labelled.Labelled.TheVariants.{Labels, Straddles, Ended, ReadFault, OutOfMemory}
 use Rattle.labelling.specs.LabelsByBits.{Labelling, bits_in, labelling}
 
--- The labelling that an answer tells, where it isn't want of memory. Where it was cut short, these are the cells of the numbers finished; so many bits are used now.
+-- The labelling that an answer tells, where it isn't want of memory. Where it was cut short, these
+-- are the cells of the numbers finished; so many bits are used now.
 abbrev pub told_labelling : Labelled → (finished : List Cell) → (used : ℕ) → Labelling
 told_labelling (Labels labels cells) finished used = Labelling.Given labels cells.items used
 told_labelling (Straddles m cell) finished used = Labelling.Straddled m cell finished used
@@ -34,31 +35,44 @@ abbrev pub EndsThere : Labelled → (used : ℕ) → (bits : ℕ → Option Bool
 EndsThere Ended used bits = bits used ≡ None
 EndsThere _ used bits = Unit {0}
 
--- The bits used from one number to another are those of the cells, and those of the cell that straddles, or fewer than 60 more where the tape ended or its shelf failed. Want of memory uses none.
+-- The bits used from one number to another are those of the cells, and those of the cell that
+-- straddles, or fewer than 60 more where the tape ended or its shelf failed. Want of memory uses
+-- none.
 abbrev pub UsesBits : Labelled → (finished : List Cell) → (before after : ℕ) → Type 0
 UsesBits (Labels labels cells) finished before after = after ≡ before + bits_in cells.items
 UsesBits (Straddles m cell) finished before after = after ≡ before + bits_in finished + cell.b
-UsesBits Ended finished before after = (before + bits_in finished ≤ after) × (after < before + bits_in finished + 60)
-UsesBits ReadFault finished before after = (before + bits_in finished ≤ after) × (after < before + bits_in finished + 60)
+UsesBits Ended finished before after =
+    (before + bits_in finished ≤ after) × (after < before + bits_in finished + 60)
+UsesBits ReadFault finished before after =
+    (before + bits_in finished ≤ after) × (after < before + bits_in finished + 60)
 UsesBits OutOfMemory finished before after = after ≡ before
 
--- An answer of a labelling of n atoms from the start on is the one over the bits that it was given: it was given as many bits as were used, the tape's own where they are told; there are cells of the numbers finished; and over every tape that has these bits there, and ends where the answer says that it did, it is the labelling that they fix, where the shelf fails only if the answer says so. Out of memory nothing was given.
-pub record IsLabelling (told : Option (ℕ → Option Bool)) (n start : ℕ) (answer : Labelled) (used : ℕ) : Type 0 where
+-- An answer of a labelling of n atoms from the start on is the one over the bits that it was given:
+-- it was given as many bits as were used, the tape's own where they are told; there are cells of
+-- the numbers finished; and over every tape that has these bits there, and ends where the answer
+-- says that it did, it is the labelling that they fix, where the shelf fails only if the answer
+-- says so. Out of memory nothing was given.
+pub record IsLabelling (told : Option (ℕ → Option Bool)) (n start : ℕ) (answer : Labelled)
+    (used : ℕ) : Type 0 where
   pub given : List Bool
   pub gave : Gave told start used given
   pub ended : IfSome told (EndsThere answer used)
   pub finished : List Cell
   pub uses : UsesBits answer finished start used
-  pub exact : (bits : ℕ → Option Bool) → HasBits bits start given → EndsThere answer used bits → answer ≢ OutOfMemory → told_labelling answer finished used ≡ labelling (bit_of bits (fault_place answer used)) n start
+  pub exact : (bits : ℕ → Option Bool) → HasBits bits start given → EndsThere answer used bits
+      → answer ≢ OutOfMemory
+      → told_labelling answer finished used ≡ labelling (bit_of bits (fault_place answer used)) n start
 
 -- What is said of the labels and their cells holds, where the answer has them.
 abbrev pub OnLabels : Labelled → (List ℕ → List Cell → Type 0) → Type 0
 OnLabels (Labels labels cells) P = P labels cells.items
 OnLabels _ P = Unit {0}
 
--- For every list of numbers in the cells, and any further numbers, these are the ideal labels of n atoms, and the further numbers are left; so they are 1 to n in some order.
+-- For every list of numbers in the cells, and any further numbers, these are the ideal labels of n
+-- atoms, and the further numbers are left; so they are 1 to n in some order.
 pub record AreIdealLabels (n : ℕ) (labels : List ℕ) (cells : List Cell) : Type 0 where
-  pub labels_of : (us rest : List Fraction) → AreInCells us cells → IdealLabels n (us ++ rest) labels rest
+  pub labels_of : (us rest : List Fraction) → AreInCells us cells
+      → IdealLabels n (us ++ rest) labels rest
   pub one_to : AreOneTo n labels
 
 -- Each is a cell, and there is one for each of n atoms but the last.

@@ -2,7 +2,8 @@
 use Rattle.std.specs.Prelude.{ℕ, List, [], ◌∷◌, ◌++◌, remove, slice_index}
 use Rattle.bz_model.specs.declared.cell.Cell.{Cell}
 
--- These labels remain, least first; these were given to the first atoms, in order; and these are the cells of the numbers drawn for them.
+-- These labels remain, least first; these were given to the first atoms, in order; and these are
+-- the cells of the numbers drawn for them.
 pub record ProgressState : Type 0 where
   pub remaining : List ℕ
   pub given : List ℕ

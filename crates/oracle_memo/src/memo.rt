@@ -50,8 +50,14 @@ impl<'a, const F: u32> Model for Memo<'a, F> {
 
     ghost Value = { Memory };
 
-    ghost view = { λ m. record { spec = m.founded.now; num = m.x.num; den = m.x.den;
-        start = m.start.items; base = m.base; raised = m.raised } };
+    ghost view = { λ m. record {
+      spec = m.founded.now;
+      num = m.x.num;
+      den = m.x.den;
+      start = m.start.items;
+      base = m.base;
+      raised = m.raised;
+    } };
 
     ghost invariant = { λ m. IsMemory (setting m.founded.now m.x.num m.x.den F) m.start.items m.base
         m.raised m.lower m.upper.items m.table.items (vec_len m.low_values)
@@ -71,9 +77,14 @@ impl<'a, const F: u32> Memo<'a, F> {
     ) -> Result<Memo<'a, F>, AllocError>
         requires fraction_bits { (24 ≤ F) × (F ≤ 56) }
         requires belongs { IsPostFixed (setting founded.now x.num x.den F) base }
-        ensures made { IfOk result (λ memo. memo ≡ record { spec = founded.now; num = x.num;
-            den = x.den; start = zeros (setting founded.now x.num x.den F); base = base.entry;
-            raised = 0 }) }
+        ensures made { IfOk result (λ memo. memo ≡ record {
+          spec = founded.now;
+          num = x.num;
+          den = x.den;
+          start = zeros (setting founded.now x.num x.den F);
+          base = base.entry;
+          raised = 0;
+        }) }
     {
         let system = founded.system();
         system.known();
@@ -97,8 +108,14 @@ impl<'a, const F: u32> Memo<'a, F> {
         requires belongs { IsPostFixed (setting founded.now x.num x.den F) base }
         requires one_per_class { length start.items ≡ length founded.now.bodies }
         requires reached { AreBelow founded.now (ratio x.num x.den) F start.items }
-        ensures made { IfOk result (λ memo. memo ≡ record { spec = founded.now; num = x.num;
-            den = x.den; start = start.items; base = base.entry; raised = 0 }) }
+        ensures made { IfOk result (λ memo. memo ≡ record {
+          spec = founded.now;
+          num = x.num;
+          den = x.den;
+          start = start.items;
+          base = base.entry;
+          raised = 0;
+        }) }
     {
         let system = founded.system();
         system.known();

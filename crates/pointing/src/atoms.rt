@@ -22,7 +22,8 @@ pub(crate) fn is_marked(marks: &[bool], number: u32) -> bool
 
 /// How many of the parts are marked.
 pub(crate) fn count_marked(marks: &[bool], parts: &[ExprId]) -> usize
-    ensures { result ≡ how_many (map (answer_at marks.now) (map number parts.now)) }
+    ensures count { result ≡ how_many (map (answer_at marks.now) (map number parts.now)) }
+    ensures few { result ≤ length parts.now }
 {
     let mut count: usize = 0;
     for part in parts {

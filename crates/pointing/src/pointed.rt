@@ -1,9 +1,10 @@
 //! Pointing a specification.
-ghost use Rattle.std.specs.Prelude.{◌≡◌, map, length, IfOk, OnOk, IfErr, IfSome, IfNone};
+ghost use Rattle.std.specs.Prelude.{◌≡◌, ◌<◌, ◌^◌, map, length, IfOk, OnOk, IfErr, IfSome, IfNone};
 ghost use Rattle.bz_model.specs.Spec as model;
 ghost use Rattle.class_system.specs.Limits.{IsWithinLimits};
+ghost use Rattle.object_store.specs.Tokens.{size_of, IsOf};
 ghost use Rattle.pointing.specs.Atoms.{is_atomic};
-ghost use Rattle.pointing.specs.Calls.{IsFirstRanged, IsPointingOf, TellsFault};
+ghost use Rattle.pointing.specs.Calls.{AreMarked, IsFirstRanged, IsPointingOf, TellsFault};
 ghost use Rattle.pointing.specs.Forms.{all_forms};
 ghost use Rattle.pointing.specs.PointedSpec.{IsPlain, pointed_by, pointed_spec};
 
@@ -11,12 +12,16 @@ use crate::atoms::{atomic_classes, atomic_nodes, is_marked};
 use crate::building::lay_out;
 use crate::fault::PointFault;
 use crate::layout::Layout;
+use crate::marking::with_mark;
 use crate::naming::named_draft;
+use crate::unmarking::without_mark;
+use crate::ways::way_to;
 use class_system::draft::{Draft, Mode};
 use class_system::ids::ExprId;
 use class_system::limits::BuildFault;
 use class_system::ranges::plain;
 use class_system::system::System;
+use object_store::shape::Shape;
 use std::alloc::{AllocError, Global};
 use std::marker::Model;
 use well_founded::examination::Founded;
@@ -34,6 +39,13 @@ impl Model for Pointed {
     ghost Value = { Pointing };
 
     ghost view = { λ p. record { system = p.system; atomic = p.atomic.items } };
+}
+
+/// An object with one of its atoms, numbered from 0 in token order.
+#[derive(Drop)]
+pub struct Marked {
+    pub shape: Shape,
+    pub atom: u64,
 }
 
 /// Points a specification: class `Pi` of the result has the objects of class i with one atom marked.
@@ -79,6 +91,46 @@ impl Pointed {
         ensures system { result.now ≡ self.now.system }
     {
         &self.system
+    }
+
+    /// The object of class 0 with its atom of this number marked, as one of the pointed class 0.
+    ///
+    /// Atoms are numbered from 0 in token order. Nothing recurses over the object.
+    pub fn mark(&self, founded: &Founded, shape: &Shape, atom: u64) -> Result<Shape, AllocError>
+        requires same { IsPointingOf founded.now self.now }
+        requires is_of { IsOf founded.now 0 shape.now.items }
+        requires there { atom < size_of shape.now.items }
+        ensures marked { IfOk result (λ m. AreMarked founded.now shape.now.items atom m.items) }
+        ensures size { IfOk result (λ m. size_of m.items ≡ size_of shape.now.items) }
+    {
+        founded.known();
+        let system = founded.system();
+        system.known();
+        let alloc = *self.atomic.allocator();
+        let places = way_to(alloc, system, shape, atom)?;
+        let object = with_mark(alloc, system, &self.atomic, shape, &places)?;
+        Ok(object)
+    }
+
+    /// The object of class 0 that an object of the pointed class 0 came from, and the number of the
+    /// marked atom.
+    ///
+    /// Nothing recurses over the object.
+    pub fn unmark(&self, founded: &Founded, shape: &Shape) -> Result<Marked, AllocError>
+        requires same { IsPointingOf founded.now self.now }
+        requires is_of { IsOf self.now.system 0 shape.now.items }
+        requires few { length shape.now.items < 2 ^ 32 }
+        ensures marked { IfOk result (λ r. AreMarked founded.now r.shape.items r.atom
+            shape.now.items) }
+        ensures size { IfOk result (λ r. size_of r.shape.items ≡ size_of shape.now.items) }
+        ensures there { IfOk result (λ r. r.atom < size_of r.shape.items) }
+    {
+        founded.known();
+        let system = founded.system();
+        system.known();
+        let alloc = *self.atomic.allocator();
+        let (plain, atom) = without_mark(alloc, system, &self.system, &self.atomic, shape)?;
+        Ok(Marked { shape: plain, atom })
     }
 }
 

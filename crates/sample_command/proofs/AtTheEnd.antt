@@ -11,8 +11,8 @@ use Rattle.class_system.specs.Sound.{IsSound}
 use Rattle.shape_sampler.specs.Answer.{ChoosesBy}
 use Rattle.size_window.specs.declared.ending.Ending.{Ending as Told}
 use Rattle.size_window.specs.declared.ending.Ending.TheVariants as told
-use Rattle.size_window.specs.RunByBits.{Limits, State, Course, Entry, Ending, start, at_start}
-use Rattle.size_window.specs.Drawing.{DrawingState, DrawingBelongs, state_of, ending_of}
+use Rattle.size_window.specs.RunByBits.{Limits, State, Ending, start, at_start}
+use Rattle.size_window.specs.Drawing.{AreLimits, DrawingState, DrawingBelongs, state_of, ending_of}
 use Rattle.size_window.specs.Ideally.{chooser_of}
 use Rattle.size_window.specs.Trace.{EndsAt, TracesStart}
 use Rattle.size_window.proofs.Turning.{if-told, attempt-used}
@@ -32,7 +32,7 @@ use Rattle.call_stages.specs.declared.report.Stop.TheVariants as stop
 use Rattle.call_stages.specs.declared.status.Status.{Status}
 use Rattle.call_stages.proofs.Endings.{no_front}
 use Rattle.call_stages.proofs.Held.{appends-both, front-both, front-more, front-whole, held-start}
-use Rattle.sample_command.proofs.TapeEnds.{all-used}
+use Rattle.sample_command.proofs.TapeEnds.{Chosen, EndLaws, all-used}
 
 -- a drawing that starts hasn't ended
 not-ended : (o : Option Told) → option_map ending_of o ≡ None → o ≡ None
@@ -46,7 +46,6 @@ starts s x sound contents limits d tape used at same belongs ahead = record {
   within = same;
   goes_on = not-ended d.ending (ap (λ (st : State). st.ending) at);
   ahead = ahead;
-  few = omega (arith, used);
   so_far = record { course = at_start; state = sym at ∙ ap (state_of d) (sym used); goes = goes-start s x limits };
 }
 
@@ -93,10 +92,6 @@ same-fault (Some told.ReadFault) = refl
 same-closing : (o p word : List ℕ) (k l m n u v r q : ℕ) → o ≡ p → k ≡ l → m ≡ n → u ≡ v → r ≡ q → o ++ end_line word k m u r ≡ p ++ end_line word l n v q
 same-closing o p word k l m n u v r q a b c d e = cc
 
--- a chooser by the table
-abbrev pub Chosen : Spec → (F : ℕ) → ((level node : ℕ) → Bounds) → Type 0
-Chosen s F table = ChoosesBy s F table (chooser_of s F table (has_empty s))
-
 module _ (s : Spec) (x : Fraction) (F : ℕ) (table : (level node : ℕ) → Bounds) (limits : Limits) (t : TapeMet) (chosen : Chosen s F table) (d : DrawingState) (used most : ℕ) (h : IsCourseSoFar s x F table limits (bits_of t.source t.contents) d used most) where
   ending-is : h.course.state.ending ≡ option_map ending_of d.ending
   ending-is = ap (λ (st : State). st.ending) h.drawing.state
@@ -122,24 +117,20 @@ module _ (s : Spec) (x : Fraction) (F : ℕ) (table : (level node : ℕ) → Bou
       }
 
   -- one that has come to its end is one that is drawn
-  pub drawn-at-end : CountsFault (has_failed d.ending) t.source t.before t.now → (e : Told) → IsAtEnd table limits d used e → IsDrawn s x F table limits t h.course most (ending_of e)
-  drawn-at-end reads e end =
+  pub drawn-at-end : EndLaws → IsSound s → AreLimits limits → CountsFault (has_failed d.ending) t.source t.before t.now → (e : Told) → IsAtEnd table limits d e → IsDrawn s x F table limits t h.course most (ending_of e)
+  drawn-at-end laws sound are reads e end =
       let at = h.drawing.state in
-      let trace = h.drawing.trace in
-      let c = h.course in
       let ended = ending-is ∙ ap (option_map ending_of) end.ended in
       record {
         course = course-of reads;
         ended = ended;
         kept = λ is. ap (λ (st : State). st.kept) at ∙ end.kept (done-told e is);
         out_of_turns = λ is. ap (λ (st : State). st.turns) at ∙ end.out_of_turns (limit-told e is);
-        used_up = λ is.
-            let none = if-told (bits_of t.source t.contents) (λ tape at. subst (λ o. EndsAt o c.state.attempt.used tape) (ended ∙ ap Some is) at) trace.ended in
-            all-used t.source t.contents c.state.attempt.used trace.given trace.gave none (let few = end.few in let same = used-is in omega (arith, few, same));
+        used_up = λ is. all-used laws s x F table limits sound chosen are h.turns most h.course (ended ∙ ap Some is) t.source t.contents h.drawing.trace;
       }
 
   -- the lines after the last object
-  pub closing-is : (e : Told) (kept thrown bits turns : ℕ) → IsAtEnd table limits d used e → kept ≡ d.kept → thrown ≡ d.thrown → bits ≡ used → turns ≡ d.turns → told_open e ++ end_line (ending_word (ending_of e)) kept thrown bits turns ≡ closing_lines table h.course (ending_of e)
+  pub closing-is : (e : Told) (kept thrown bits turns : ℕ) → IsAtEnd table limits d e → kept ≡ d.kept → thrown ≡ d.thrown → bits ≡ used → turns ≡ d.turns → told_open e ++ end_line (ending_word (ending_of e)) kept thrown bits turns ≡ closing_lines table h.course (ending_of e)
   closing-is e kept thrown bits turns end is_kept is_thrown are_bits are_turns =
       let at = h.drawing.state in
       let c = h.course in
@@ -181,7 +172,7 @@ module _ (cost : ℕ → ℕ) (s : Spec) (x : Fraction) (F : ℕ) (table : (leve
 pub no-drawing : (cost : ℕ → ℕ) (s : Spec) (x : Fraction) (F : ℕ) (table : (level node : ℕ) → Bounds) (limits : Limits) (t : TapeMet) (header : List ℕ) (o : Option (List ℕ)) (fb fa ticks : ℕ) → EndsBy (Drawn cost header s x F table limits t) (output o o fb fa ticks ticks) Status.OutOfMemory
 no-drawing cost s x F table limits t header o fb fa ticks = ends.out_of_memory refl (record { text = []; ticks = 0; is = drawn.no_memory (record { status_is = refl; text_is = refl; ticks_are = refl }); front = no_front o []; few = omega arith })
 
-module _ (cost : ℕ → ℕ) (s : Spec) (x : Fraction) (F : ℕ) (table : (level node : ℕ) → Bounds) (limits : Limits) (t : TapeMet) (chosen : Chosen s F table) (d : DrawingState) (used raised : ℕ) (header : List ℕ) (b m : Option (List ℕ)) (page : List ℕ) (e : Told) (over : IsUnderWay s x F table limits (bits_of t.source t.contents) d used raised header b m page) (end : IsAtEnd table limits d used e) (reads : CountsFault (has_failed d.ending) t.source t.before t.now) (fb fm : ℕ) (writes : fb ≤ fm) (tb ta : ℕ) (few : ta ≤ tb + cost raised) (closing : List ℕ) (is_closing : closing ≡ closing_lines table over.so_far.course (ending_of e)) where
+module _ (cost : ℕ → ℕ) (s : Spec) (x : Fraction) (F : ℕ) (table : (level node : ℕ) → Bounds) (limits : Limits) (t : TapeMet) (chosen : Chosen s F table) (d : DrawingState) (used raised : ℕ) (header : List ℕ) (b m : Option (List ℕ)) (page : List ℕ) (e : Told) (over : IsUnderWay s x F table limits (bits_of t.source t.contents) d used raised header b m page) (end : IsAtEnd table limits d e) (laws : EndLaws) (sound : IsSound s) (are : AreLimits limits) (reads : CountsFault (has_failed d.ending) t.source t.before t.now) (fb fm : ℕ) (writes : fb ≤ fm) (tb ta : ℕ) (few : ta ≤ tb + cost raised) (closing : List ℕ) (is_closing : closing ≡ closing_lines table over.so_far.course (ending_of e)) where
   -- the steps are those that these bits ask for
   few-given : ta ≤ tb + cost (level_for over.most)
   few-given = subst (λ n. ta ≤ tb + cost n) over.raised_is few
@@ -198,7 +189,7 @@ module _ (cost : ℕ → ℕ) (s : Spec) (x : Fraction) (F : ℕ) (table : (leve
 
   -- the whole drawing, with this status
   is-drawn : (status : Status) (text : List ℕ) → status ≡ ending_status (ending_of e) → text ≡ page ++ closing → Drawn cost header s x F table limits t status (over.held_is.sent ++ text) (cost (level_for over.most))
-  is-drawn status text answered same = drawn.ended over.so_far.course over.most (ending_of e) over.lines (drawn-at-end s x F table limits t chosen d used over.most over.so_far reads e end) over.lists (record { status_is = answered; text_is = ap (λ z. over.held_is.sent ++ z) same ∙ whole-text; ticks_are = refl })
+  is-drawn status text answered same = drawn.ended over.so_far.course over.most (ending_of e) over.lines (drawn-at-end s x F table limits t chosen d used over.most over.so_far laws sound are reads e end) over.lists (record { status_is = answered; text_is = ap (λ z. over.held_is.sent ++ z) same ∙ whole-text; ticks_are = refl })
 
   -- what was drawn, of which no closing was made
   is-so-far : (status : Status) → status ≡ Status.OutOfMemory → Drawn cost header s x F table limits t status (header ++ over.lines) (cost (level_for over.most))

@@ -1,8 +1,8 @@
 pub mod Courses
 pub mod KeptObjects
 pub mod KeptLabels
-pub mod OneTurn
 pub mod TapeEnds
+pub mod OneTurn
 pub mod AtTheEnd
 pub mod Turns
 pub mod OneDrawing

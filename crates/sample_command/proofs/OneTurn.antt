@@ -1,5 +1,5 @@
 -- A course with one turn more.
-use Rattle.std.proofs.Common.{◌≡◌, ℕ, zero, suc, ◌+◌, ◌-◌, ◌*◌, ◌^◌, ◌<◌, ◌≤◌, max, arith, Bool, List, [], ◌++◌, append-nil, refl, sym, ◌∙◌, ap, subst}
+use Rattle.std.proofs.Common.{◌≡◌, ℕ, zero, suc, ◌+◌, ◌-◌, ◌*◌, ◌≤◌, max, arith, Bool, List, [], ◌++◌, append-nil, refl, sym, ◌∙◌, ap, subst}
 use Rattle.std.specs.Prelude.{Option, Some, None, IfSome, option_to_list}
 use Rattle.bz_model.specs.declared.cell.Bounds.{Bounds}
 use Rattle.bz_model.specs.Fraction.{Fraction}
@@ -98,46 +98,24 @@ turns-none ending e none is = ap (λ o. turns_by o (answer.Finished e)) none ∙
 turns-one : (ending : Option Told) (a : Answer) → ending ≡ None → turns_by None a ≡ 1 → turns_by ending a ≡ 1
 turns-one ending a none one = ap (λ o. turns_by o a) none ∙ one
 
--- a turn takes at most 60 bits for each of at most 1000000 atoms
-turn-bits : (s : Spec) (x : Fraction) (d : DrawingState) → DrawingBelongs s x d → most_bits d.waiting ≤ 60000000
-turn-bits s x d b = go d.waiting b.waits
-  where
-    go : (w : Option MadeShape) → IfSome w (Waits s x d) → most_bits w ≤ 60000000
-    go None h = omega arith
-    go (Some shape) h = let fits = ideal-fits s x d.limits.max shape.tokens shape.cells h.ideal in let most = b.limits.max in omega (arith, fits, most)
-
-few-more : (n start used most turns now : ℕ) → start ≤ 60000000 * turns → now ≡ turns + n → used ≤ start + most → most ≤ 60000000 → (n ≡ 0 → used ≡ start) → used ≤ 60000000 * now
-few-more zero start used most turns now few counted uses each unused = let same = unused refl in omega arith
-few-more (suc n) start used most turns now few counted uses each unused = omega arith
-
--- What a turn tells of the bits that it used.
-pub record UsesFew (d now : DrawingState) (start used : ℕ) (a : Answer) : Type 0 where
-  pub uses : used ≤ start + most_bits d.waiting
-  pub unused : turns_by d.ending a ≡ 0 → used ≡ start
-
-few-on : (s : Spec) (x : Fraction) (d now : DrawingState) (start used : ℕ) (a : Answer) → DrawingBelongs s x d → IsCounted d a now → UsesFew d now start used a → start ≤ 60000000 * d.turns → used ≤ 60000000 * now.turns
-few-on s x d now start used a belongs counted h few = few-more (turns_by d.ending a) start used (most_bits d.waiting) d.turns now.turns few counted.turns h.uses (turn-bits s x d belongs) h.unused
-
 -- a drawing that ended in this turn has come to its end
-pub at-end : (s : Spec) (x : Fraction) (contents : List ℕ → Option (List ℕ)) (table : (level node : ℕ) → Bounds) (limits : Limits) (d now : DrawingState) (tape : TapeState) (used : ℕ) (e : Told) → CanTurn s x contents limits d tape → IsCounted d (answer.Finished e) now → UsesFew d now tape.used used (answer.Finished e) → DrawingBelongs s x now → ((answer.Finished e ≡ answer.Finished told.Done) → d.kept ≡ d.limits.count) → ((answer.Finished e ≡ answer.Finished told.TurnLimit) → d.turns ≡ d.limits.turns) → TellsOpen table (answer.Finished e) → IsAtEnd table limits now used e
-at-end s x contents table limits d now tape used e can counted bits belongs done turn_limit tells_open = record {
+pub at-end : (s : Spec) (x : Fraction) (contents : List ℕ → Option (List ℕ)) (table : (level node : ℕ) → Bounds) (limits : Limits) (d now : DrawingState) (tape : TapeState) (e : Told) → CanTurn s x contents limits d tape → IsCounted d (answer.Finished e) now → ((answer.Finished e ≡ answer.Finished told.Done) → d.kept ≡ d.limits.count) → ((answer.Finished e ≡ answer.Finished told.TurnLimit) → d.turns ≡ d.limits.turns) → TellsOpen table (answer.Finished e) → IsAtEnd table limits now e
+at-end s x contents table limits d now tape e can counted done turn_limit tells_open = record {
   ended = counted.ending;
   kept = λ is. let all = done (ap answer.Finished is) in let one = count-same d.limits limits can.within in let same = counted.kept in omega (arith, all, one, same);
   out_of_turns = λ is. let all = turn_limit (ap answer.Finished is) in let most = turns-same d.limits limits can.within in let same = counted.turns in let none = turns-none d.ending e can.goes_on is in omega (arith, all, most, same, none);
-  few = let few = few-on s x d now tape.used used (answer.Finished e) can.belongs counted bits can.few in let turns = belongs.turns in let most = belongs.limits.turns in omega (arith, few, turns, most);
   open_is = open-told table e tells_open;
 }
 
 -- a drawing that goes on can make another turn
-pub can-turn-on : (s : Spec) (x : Fraction) (F : ℕ) (table : (level node : ℕ) → Bounds) (limits : Limits) (told : Option (ℕ → Option Bool)) (contents : List ℕ → Option (List ℕ)) (d now : DrawingState) (before_tape tape : TapeState) (a : Answer) → TellsTurn s x F table limits told d now before_tape.used tape.used a → CanTurn s x contents limits d before_tape → UsesFew d now before_tape.used tape.used a → turns_by None a ≡ 1 → ending_by d.ending a ≡ d.ending → DrawingBelongs s x now → Belongs contents tape → CanTurn s x contents limits now tape × (now.turns ≡ d.turns + 1)
-can-turn-on s x F table limits told contents d now before_tape tape a h can bits one same belongs ahead = (
+pub can-turn-on : (s : Spec) (x : Fraction) (F : ℕ) (table : (level node : ℕ) → Bounds) (limits : Limits) (told : Option (ℕ → Option Bool)) (contents : List ℕ → Option (List ℕ)) (d now : DrawingState) (before_tape tape : TapeState) (a : Answer) → TellsTurn s x F table limits told d now before_tape.used tape.used a → CanTurn s x contents limits d before_tape → turns_by None a ≡ 1 → ending_by d.ending a ≡ d.ending → DrawingBelongs s x now → Belongs contents tape → CanTurn s x contents limits now tape × (now.turns ≡ d.turns + 1)
+can-turn-on s x F table limits told contents d now before_tape tape a h can one same belongs ahead = (
   record {
     sound = can.sound;
     belongs = belongs;
     within = h.counted.limits ∙ can.within;
     goes_on = h.counted.ending ∙ same ∙ can.goes_on;
     ahead = ahead;
-    few = few-on s x d now before_tape.used tape.used a can.belongs h.counted bits can.few;
     so_far = course-on s x F table limits told d now before_tape.used tape.used a h can.so_far;
   },
   h.counted.turns ∙ ap (λ n. d.turns + n) (turns-one d.ending a can.goes_on one),

@@ -1,16 +1,15 @@
 -- The search for a start: what ends a call, what follows a start, and that a command has one outcome.
-use Rattle.std.proofs.Common.{◌≡◌, ◌≢◌, ℕ, ◌+◌, ◌≤◌, List, [], arith, refl, sym, ap, subst, ◌∙◌}
-use Rattle.std.specs.Prelude.{Bool, true, false, Option, Some, None}
+use Rattle.std.proofs.Common.{◌≡◌, ◌≢◌, ℕ, ◌+◌, ◌≤◌, List, [], arith, refl, sym, subst, ◌∙◌}
+use Rattle.std.specs.Prelude.{Bool, Option, Some, None}
 use Rattle.bz_model.specs.Fraction.{ratio}
 use Rattle.bit_tape.specs.Tape.{bits_of}
-use Rattle.fast_lower.specs.FastVector.{fast_vector}
 use Rattle.oracle_memo.specs.Levels.{level_bounds_from, cost_at}
 use Rattle.oracle_memo.specs.Memos.{Memory}
 use Rattle.rounded_map.specs.RoundedMap.{Setting, setting}
 use Rattle.size_window.specs.RunByBits.{Limits}
 use Rattle.call_stages.specs.Ends.{Output, output, EndsBy}
 use Rattle.call_stages.specs.Ends as ends
-use Rattle.call_stages.specs.Outcomes.{Outcome, Never, Says, IsOne}
+use Rattle.call_stages.specs.Outcomes.{Outcome, Never, IsOne}
 use Rattle.call_stages.specs.Refusals.{no_fast_line}
 use Rattle.call_stages.specs.Reports.{refusal_status, refusal_text}
 use Rattle.call_stages.specs.declared.report.Refusal.{Refusal}

@@ -1,5 +1,5 @@
 -- Drawings under way, with one turn more.
-use Rattle.std.proofs.Common.{◌≡◌, ℕ, ◌+◌, ◌-◌, ◌≤◌, max, Bool, List, ◌++◌, refl, ◌∙◌, ap, subst, arith, append_assoc, sym}
+use Rattle.std.proofs.Common.{◌≡◌, ℕ, ◌+◌, ◌-◌, ◌≤◌, max, Bool, List, ◌++◌, ◌∙◌, ap, subst, arith, append_assoc, sym}
 use Rattle.std.specs.Prelude.{Option, option_to_list, slice_index}
 use Rattle.bz_model.specs.declared.cell.Bounds.{Bounds}
 use Rattle.bz_model.specs.Fraction.{Fraction}

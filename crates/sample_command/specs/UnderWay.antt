@@ -1,5 +1,5 @@
 -- Drawings under way and at their end, as the code has them.
-use Rattle.std.specs.Prelude.{◌≡◌, ℕ, ◌+◌, ◌*◌, ◌^◌, ◌<◌, ◌≤◌, Bool, true, false, List, [], ◌++◌, Option, Some, None}
+use Rattle.std.specs.Prelude.{◌≡◌, ℕ, ◌+◌, Bool, true, false, List, [], ◌++◌, Option, Some, None}
 use Rattle.bz_model.specs.Fraction.{Fraction}
 use Rattle.bz_model.specs.Spec.{Spec}
 use Rattle.bz_model.specs.declared.cell.Bounds.{Bounds}
@@ -39,14 +39,13 @@ pub record HasCourse (s : Spec) (x : Fraction) (limits : Limits) (d : DrawingSta
   pub state : course.state ≡ state_of d used
   pub goes : Goes s x limits course
 
--- A drawing from a sound specification over a tape can make a turn. Each turn that was counted took at most 60 bits for each of at most 1000000 atoms.
+-- A drawing from a sound specification over a tape can make a turn.
 pub record CanTurn (s : Spec) (x : Fraction) (contents : List ℕ → Option (List ℕ)) (limits : Limits) (d : DrawingState) (tape : TapeState) : Type 0 where
   pub sound : IsSound s
   pub belongs : DrawingBelongs s x d
   pub within : d.limits ≡ limits
   pub goes_on : d.ending ≡ None
   pub ahead : Belongs contents tape
-  pub few : tape.used ≤ 60000000 * d.turns
   pub so_far : HasCourse s x limits d tape.used
 
 -- The line of a number that was left open, with the bounds that the ending states of a node. Other endings have none.
@@ -55,12 +54,11 @@ told_open (Undecided (straddle.Node node cell lo hi)) = open_line node.0 cell (r
 told_open (Undecided (straddle.Label m cell)) = open_label_line m cell
 told_open _ = []
 
--- A drawing has come to this end, and states why. It used fewer bits than a tape gives.
-pub record IsAtEnd (table : (level node : ℕ) → Bounds) (limits : Limits) (d : DrawingState) (used : ℕ) (ending : Ending) : Type 0 where
+-- A drawing has come to this end, and states why.
+pub record IsAtEnd (table : (level node : ℕ) → Bounds) (limits : Limits) (d : DrawingState) (ending : Ending) : Type 0 where
   pub ended : d.ending ≡ Some ending
   pub kept : ending ≡ Done → d.kept ≡ limits.count
   pub out_of_turns : ending ≡ TurnLimit → d.turns ≡ limits.turns
-  pub few : used < 2 ^ 63
   pub open_is : told_open ending ≡ open_lines table (ending_of ending)
 
 -- A drawing is under way: its levels are raised for the bits that its numbers were given, and of the header with the lines of its entries a part was written and the rest is held back.
@@ -87,4 +85,4 @@ pub record IsBroken (s : Spec) (x : Fraction) (F : ℕ) (table : (level node : �
 -- Where a drawing goes on it can make another turn, and has made one more; else it has come to its end.
 abbrev pub GoesOn : (s : Spec) (x : Fraction) (table : (level node : ℕ) → Bounds) (contents : List ℕ → Option (List ℕ)) (limits : Limits) (before d : DrawingState) (tape : TapeState) → Option Ending → Type 0
 GoesOn s x table contents limits before d tape None = CanTurn s x contents limits d tape × (d.turns ≡ before.turns + 1)
-GoesOn s x table contents limits before d tape (Some ending) = IsAtEnd table limits d tape.used ending
+GoesOn s x table contents limits before d tape (Some ending) = IsAtEnd table limits d ending

@@ -13,18 +13,19 @@ ghost use Rattle.sample_command.specs.UnderWay.{met, has_failed, CanTurn, IsAtEn
 ghost use Rattle.call_stages.specs.declared.report.Stop.TheVariants as stop;
 
 use crate::entries::{append_entry, closing, status_of};
-use call_stages::page::send_enough;
-use call_stages::report::{Stop, written};
-use call_stages::status::Status;
 use bit_tape::tape::Tape;
 use bz_model::oracle::Oracle;
 use bz_model::steps::Steps;
 use bz_outside::shelf::Shelf;
 use bz_outside::sink::Sink;
+use call_stages::page::send_enough;
+use call_stages::report::{Stop, written};
+use call_stages::status::Status;
 use size_window::drawing::Drawing;
 use size_window::ending::Ending;
 use size_window::laws::{
-    a_table_has_its_chooser, a_trace_starts_with_its_drawing, a_turn_continues_a_trace,
+    a_course_uses_few_bits, a_table_has_its_chooser, a_trace_starts_with_its_drawing,
+    a_turn_continues_a_trace, the_tape_ends_where_its_bits_are_used,
 };
 use size_window::limits::{Counts, Limits};
 use size_window::turned::Turned;
@@ -54,9 +55,11 @@ pub fn drawn<const F: u32, O: Oracle<F>, S: Shelf, K: Sink, L: Ledger>(
     requires limits { AreLimits (limits_of limits) }
     requires unused { tape.used ≡ 0 }
     requires ahead { Belongs (S.content shelf.old) tape }
-    ensures ends { EndsBy (Drawn cost_at header.items founded.now (O.x oracle.old) F (O.table oracle.old)
-        (limits_of limits) (met tape.source (S.content shelf.old) (S.faults shelf.old) (S.faults shelf.new)))
-        (output (K.written out.old) (K.written out.new) (K.faults out.old) (K.faults out.new) steps.old steps.new) result }
+    ensures ends { EndsBy (Drawn cost_at header.items founded.now (O.x oracle.old) F
+        (O.table oracle.old) (limits_of limits)
+        (met tape.source (S.content shelf.old) (S.faults shelf.old) (S.faults shelf.new)))
+        (output (K.written out.old) (K.written out.new) (K.faults out.old) (K.faults out.new)
+        steps.old steps.new) result }
     ensures content { S.content shelf.new ≡ S.content shelf.old }
     ensures counts { (name : List ℕ) → S.faults shelf.old name ≤ S.faults shelf.new name }
     ensures writes { K.faults out.old ≤ K.faults out.new }
@@ -65,6 +68,8 @@ pub fn drawn<const F: u32, O: Oracle<F>, S: Shelf, K: Sink, L: Ledger>(
     oracle.known();
     a_table_has_its_chooser();
     a_trace_starts_with_its_drawing();
+    a_course_uses_few_bits();
+    the_tape_ends_where_its_bits_are_used();
     let Ok(mut drawing) = Drawing::new(alloc, founded, limits) else {
         return Status::OutOfMemory;
     };
@@ -93,7 +98,11 @@ fn finished<K: Sink>(
     mut page: Vec<u8>,
     out: &mut K,
 ) -> Status
-    ensures ends { EndsBy (MaySay (ending_status (ending_of ending)) (page.items ++ (told_open ending ++ end_line (ending_word (ending_of ending)) counts.kept counts.thrown bits counts.turns)) 0) (output (K.written out.old) (K.written out.new) (K.faults out.old) (K.faults out.new) 0 0) result }
+    ensures ends { EndsBy (MaySay (ending_status (ending_of ending))
+        (page.items ++ (told_open ending ++ end_line (ending_word (ending_of ending)) counts.kept
+        counts.thrown bits counts.turns)) 0)
+        (output (K.written out.old) (K.written out.new) (K.faults out.old) (K.faults out.new) 0 0)
+        result }
     ensures writes { K.faults out.old ≤ K.faults out.new }
 {
     let Ok(lines) = closing(alloc, ending, counts, bits) else {
@@ -121,22 +130,23 @@ fn draw_to_the_end<const F: u32, O: Oracle<F>, S: Shelf, K: Sink, L: Ledger>(
     requires spec { O.spec oracle.old ≡ founded.now }
     requires costs { AreCosts (O.cost oracle.old) }
     requires levels { O.raised oracle.old ≤ 6 }
-    requires can_turn { CanTurn founded.now (O.x oracle.old) (S.content shelf.old) drawing.old.limits drawing.old tape.old }
+    requires can_turn { CanTurn founded.now (O.x oracle.old) (S.content shelf.old)
+        drawing.old.limits drawing.old tape.old }
     ensures under_way { IfOk result (λ _. (header : List ℕ) (start : Option (List ℕ))
         → IsUnderWay founded.now (O.x oracle.old) F (O.table oracle.old) drawing.old.limits
-        (bits_of tape.old.source (S.content shelf.old)) drawing.old tape.old.used (O.raised oracle.old)
-        header start (K.written out.old) page.old.items
+        (bits_of tape.old.source (S.content shelf.old)) drawing.old tape.old.used
+        (O.raised oracle.old) header start (K.written out.old) page.old.items
         → IsUnderWay founded.now (O.x oracle.old) F (O.table oracle.old) drawing.old.limits
-        (bits_of tape.old.source (S.content shelf.old)) drawing.new tape.new.used (O.raised oracle.new)
-        header start (K.written out.new) page.new.items) }
-    ensures ended { IfOk result (IsAtEnd (O.table oracle.old) drawing.old.limits drawing.new tape.new.used) }
+        (bits_of tape.old.source (S.content shelf.old)) drawing.new tape.new.used
+        (O.raised oracle.new) header start (K.written out.new) page.new.items) }
+    ensures ended { IfOk result (IsAtEnd (O.table oracle.old) drawing.old.limits drawing.new) }
     ensures broken { IfErr result (λ _. (header : List ℕ) (start : Option (List ℕ))
         → IsUnderWay founded.now (O.x oracle.old) F (O.table oracle.old) drawing.old.limits
-        (bits_of tape.old.source (S.content shelf.old)) drawing.old tape.old.used (O.raised oracle.old)
-        header start (K.written out.old) page.old.items
+        (bits_of tape.old.source (S.content shelf.old)) drawing.old tape.old.used
+        (O.raised oracle.old) header start (K.written out.old) page.old.items
         → IsBroken founded.now (O.x oracle.old) F (O.table oracle.old) drawing.old.limits
-        (bits_of tape.old.source (S.content shelf.old)) drawing.new tape.new.used (O.raised oracle.new)
-        header start (K.written out.new)) }
+        (bits_of tape.old.source (S.content shelf.old)) drawing.new tape.new.used
+        (O.raised oracle.new) header start (K.written out.new)) }
     ensures cause { IfErr result (λ broken. broken ≡ stop.WriteFault
         → Rose (K.faults out.old) (K.faults out.new)) }
     ensures oracle { LeavesOracle O.spec O.x O.table O.cost O.raised
@@ -172,21 +182,22 @@ fn turn_once<const F: u32, O: Oracle<F>, S: Shelf, L: Ledger>(
 ) -> Result<Option<Ending>, AllocError>
     requires fraction { (24 ≤ F) × (F ≤ 56) }
     requires spec { O.spec oracle.old ≡ founded.now }
-    requires can_turn { CanTurn founded.now (O.x oracle.old) (S.content shelf.old) drawing.old.limits drawing.old tape.old }
+    requires can_turn { CanTurn founded.now (O.x oracle.old) (S.content shelf.old)
+        drawing.old.limits drawing.old tape.old }
     ensures under_way { IfOk result (λ _. (header : List ℕ) (start now : Option (List ℕ))
         → IsUnderWay founded.now (O.x oracle.old) F (O.table oracle.old) drawing.old.limits
-        (bits_of tape.old.source (S.content shelf.old)) drawing.old tape.old.used (O.raised oracle.old)
-        header start now page.old.items
+        (bits_of tape.old.source (S.content shelf.old)) drawing.old tape.old.used
+        (O.raised oracle.old) header start now page.old.items
         → IsUnderWay founded.now (O.x oracle.old) F (O.table oracle.old) drawing.old.limits
-        (bits_of tape.old.source (S.content shelf.old)) drawing.new tape.new.used (O.raised oracle.new)
-        header start now page.new.items) }
+        (bits_of tape.old.source (S.content shelf.old)) drawing.new tape.new.used
+        (O.raised oracle.new) header start now page.new.items) }
     ensures broken { OnErr result ((header : List ℕ) (start now : Option (List ℕ))
         → IsUnderWay founded.now (O.x oracle.old) F (O.table oracle.old) drawing.old.limits
-        (bits_of tape.old.source (S.content shelf.old)) drawing.old tape.old.used (O.raised oracle.old)
-        header start now page.old.items
+        (bits_of tape.old.source (S.content shelf.old)) drawing.old tape.old.used
+        (O.raised oracle.old) header start now page.old.items
         → IsBroken founded.now (O.x oracle.old) F (O.table oracle.old) drawing.old.limits
-        (bits_of tape.old.source (S.content shelf.old)) drawing.new tape.new.used (O.raised oracle.new)
-        header start now) }
+        (bits_of tape.old.source (S.content shelf.old)) drawing.new tape.new.used
+        (O.raised oracle.new) header start now) }
     ensures goes_on { IfOk result (GoesOn founded.now (O.x oracle.old) (O.table oracle.old)
         (S.content shelf.old) drawing.old.limits drawing.old drawing.new tape.new) }
     ensures oracle { LeavesOracle O.spec O.x O.table O.cost O.raised

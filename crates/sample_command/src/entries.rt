@@ -9,10 +9,10 @@ ghost use Rattle.sample_command.specs.Drawn.{ending_word, ending_status, drawn_h
 ghost use Rattle.call_stages.specs.Lines.{end_line};
 ghost use Rattle.sample_command.specs.UnderWay.{told_open};
 
-use call_stages::format::{append_base, end, entry, header_lines, open_label, open_number, window};
-use call_stages::status::Status;
 use bz_model::cell::Bounds;
 use bz_model::fraction::Fraction;
+use call_stages::format::{append_base, end, entry, header_lines, open_label, open_number, window};
+use call_stages::status::Status;
 use class_system::ids::ClassId;
 use class_system::system::System;
 use object_text::print::print_labelled;

@@ -40,7 +40,8 @@ pub(crate) fn specified<S: Shelf>(
 fn read_whole<S: Shelf>(alloc: Global, name: &Word, shelf: &mut S) -> Result<Vec<u8>, Refusal>
     ensures ok { IfOk result (λ bytes. AreRead (S.content shelf.old) name.now 65537 bytes.items) }
     ensures err { IfErr result (λ e. FileRead (files (S.content shelf.old) (S.faults shelf.old)
-        (S.faults shelf.new)) name.now 65537 (λ bytes. Never) (refusal_status e) (refusal_text e) 0) }
+        (S.faults shelf.new)) name.now 65537 (λ bytes. Never) (refusal_status e) (refusal_text e)
+        0) }
     ensures content { S.content shelf.new ≡ S.content shelf.old }
     ensures counts { (name : List ℕ) → S.faults shelf.old name ≤ S.faults shelf.new name }
     ensures steady { OnOk result (S.faults shelf.new ≡ S.faults shelf.old) }

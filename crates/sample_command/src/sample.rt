@@ -11,16 +11,16 @@ ghost use Rattle.sample_command.specs.UnderWay.{met};
 
 use crate::reading::specified;
 use crate::starts::drawn_over;
-use call_stages::at_fraction;
-use call_stages::report::refused;
-use call_stages::stages::based;
-use call_stages::status::Status;
 use bit_tape::tape::Tape;
 use bz_model::fraction::Fraction;
 use bz_model::steps::Steps;
 use bz_outside::shelf::Shelf;
 use bz_outside::sink::Sink;
 use bz_outside::word::Word;
+use call_stages::at_fraction;
+use call_stages::report::refused;
+use call_stages::stages::based;
+use call_stages::status::Status;
 use command_words::command::{FractionBits, TapeWord};
 use size_window::limits::Limits;
 use std::alloc::{AllocError, Global};
@@ -42,7 +42,11 @@ pub fn sample<S: Shelf, K: Sink, L: Ledger>(
     steps: &mut Steps<L>,
 ) -> Status
     requires { AreLimits (limits_of limits) }
-    ensures ends { EndsBy (CarriesSample (files (S.content shelf.old) (S.faults shelf.old) (S.faults shelf.new)) file.now x tape.now limits (fraction_bits fraction) fast) (output (K.written out.old) (K.written out.new) (K.faults out.old) (K.faults out.new) steps.old steps.new) result }
+    ensures ends { EndsBy (CarriesSample
+        (files (S.content shelf.old) (S.faults shelf.old) (S.faults shelf.new)) file.now x tape.now
+        limits (fraction_bits fraction) fast)
+        (output (K.written out.old) (K.written out.new) (K.faults out.old) (K.faults out.new)
+        steps.old steps.new) result }
     ensures content { S.content shelf.new ≡ S.content shelf.old }
     ensures counts { (name : List ℕ) → S.faults shelf.old name ≤ S.faults shelf.new name }
     ensures writes { K.faults out.old ≤ K.faults out.new }
@@ -71,7 +75,12 @@ fn sampled_at<S: Shelf, K: Sink, L: Ledger>(
     steps: &mut Steps<L>,
 ) -> Status
     requires limits { AreLimits (limits_of limits) }
-    ensures ends { EndsBy (Based (setting founded.now x.num x.den (fraction_bits fraction)) (DrawnOver fast (setting founded.now x.num x.den (fraction_bits fraction)) (limits_of limits) (met (source_of tape.now) (S.content shelf.old) (S.faults shelf.old) (S.faults shelf.new)))) (output (K.written out.old) (K.written out.new) (K.faults out.old) (K.faults out.new) steps.old steps.new) result }
+    ensures ends { EndsBy (Based (setting founded.now x.num x.den (fraction_bits fraction))
+        (DrawnOver fast (setting founded.now x.num x.den (fraction_bits fraction))
+        (limits_of limits) (met (source_of tape.now) (S.content shelf.old) (S.faults shelf.old)
+        (S.faults shelf.new))))
+        (output (K.written out.old) (K.written out.new) (K.faults out.old) (K.faults out.new)
+        steps.old steps.new) result }
     ensures content { S.content shelf.new ≡ S.content shelf.old }
     ensures counts { (name : List ℕ) → S.faults shelf.old name ≤ S.faults shelf.new name }
     ensures writes { K.faults out.old ≤ K.faults out.new }
@@ -93,7 +102,11 @@ fn sampled<const F: u32, S: Shelf, K: Sink, L: Ledger>(
 ) -> Status
     requires fraction_bits { (24 ≤ F) × (F ≤ 56) }
     requires limits { AreLimits (limits_of limits) }
-    ensures ends { EndsBy (Based (setting founded.now x.num x.den F) (DrawnOver fast (setting founded.now x.num x.den F) (limits_of limits) (met (source_of tape.now) (S.content shelf.old) (S.faults shelf.old) (S.faults shelf.new)))) (output (K.written out.old) (K.written out.new) (K.faults out.old) (K.faults out.new) steps.old steps.new) result }
+    ensures ends { EndsBy (Based (setting founded.now x.num x.den F)
+        (DrawnOver fast (setting founded.now x.num x.den F) (limits_of limits)
+        (met (source_of tape.now) (S.content shelf.old) (S.faults shelf.old) (S.faults shelf.new))))
+        (output (K.written out.old) (K.written out.new) (K.faults out.old) (K.faults out.new)
+        steps.old steps.new) result }
     ensures content { S.content shelf.new ≡ S.content shelf.old }
     ensures counts { (name : List ℕ) → S.faults shelf.old name ≤ S.faults shelf.new name }
     ensures writes { K.faults out.old ≤ K.faults out.new }
@@ -113,7 +126,8 @@ fn sampled<const F: u32, S: Shelf, K: Sink, L: Ledger>(
 fn tape_of(alloc: Global, word: &TapeWord) -> Result<Tape, AllocError>
     ensures source { IfOk result (λ tape. tape.source ≡ source_of word.now) }
     ensures unused { IfOk result (λ tape. tape.used ≡ 0) }
-    ensures belongs { IfOk result (λ tape. (contents : List ℕ → Option (List ℕ)) → Belongs contents tape) }
+    ensures belongs { IfOk result (λ tape. (contents : List ℕ → Option (List ℕ))
+        → Belongs contents tape) }
 {
     match word {
         TapeWord::File(name) => Ok(Tape::over(Word::from_bytes(alloc, name.bytes())?)),

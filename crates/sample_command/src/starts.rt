@@ -49,7 +49,11 @@ pub(crate) fn drawn_over<const F: u32, S: Shelf, K: Sink, L: Ledger>(
     requires limits { AreLimits (limits_of limits) }
     requires unused { tape.used ≡ 0 }
     requires ahead { Belongs (S.content shelf.old) tape }
-    ensures ends { EndsBy (DrawnOver fast (setting founded.now x.num x.den F) (limits_of limits) (met tape.source (S.content shelf.old) (S.faults shelf.old) (S.faults shelf.new)) base.entry) (output (K.written out.old) (K.written out.new) (K.faults out.old) (K.faults out.new) steps.old steps.new) result }
+    ensures ends { EndsBy (DrawnOver fast (setting founded.now x.num x.den F) (limits_of limits)
+        (met tape.source (S.content shelf.old) (S.faults shelf.old) (S.faults shelf.new))
+        base.entry)
+        (output (K.written out.old) (K.written out.new) (K.faults out.old) (K.faults out.new)
+        steps.old steps.new) result }
     ensures content { S.content shelf.new ≡ S.content shelf.old }
     ensures counts { (name : List ℕ) → S.faults shelf.old name ≤ S.faults shelf.new name }
     ensures writes { K.faults out.old ≤ K.faults out.new }
@@ -78,7 +82,11 @@ fn drawn_from_zero<const F: u32, S: Shelf, K: Sink, L: Ledger>(
     requires limits { AreLimits (limits_of limits) }
     requires unused { tape.used ≡ 0 }
     requires ahead { Belongs (S.content shelf.old) tape }
-    ensures ends { EndsBy (DrawnOver false (setting founded.now x.num x.den F) (limits_of limits) (met tape.source (S.content shelf.old) (S.faults shelf.old) (S.faults shelf.new)) base.entry) (output (K.written out.old) (K.written out.new) (K.faults out.old) (K.faults out.new) steps.old steps.new) result }
+    ensures ends { EndsBy (DrawnOver false (setting founded.now x.num x.den F) (limits_of limits)
+        (met tape.source (S.content shelf.old) (S.faults shelf.old) (S.faults shelf.new))
+        base.entry)
+        (output (K.written out.old) (K.written out.new) (K.faults out.old) (K.faults out.new)
+        steps.old steps.new) result }
     ensures content { S.content shelf.new ≡ S.content shelf.old }
     ensures counts { (name : List ℕ) → S.faults shelf.old name ≤ S.faults shelf.new name }
     ensures writes { K.faults out.old ≤ K.faults out.new }
@@ -91,7 +99,9 @@ fn drawn_from_zero<const F: u32, S: Shelf, K: Sink, L: Ledger>(
     let Ok(mut memo) = Memo::make(alloc, founded, x, base) else {
         return Status::OutOfMemory;
     };
-    drawn::<F, _, S, K, L>(alloc, founded, &mut memo, limits, tape, header, shelf, out, steps)
+    drawn::<F, _, S, K, L>(
+        alloc, founded, &mut memo, limits, tape, header, shelf, out, steps,
+    )
 }
 
 /// Searches the fast vector of the base, and draws objects by levels whose lower sweeps start from it.
@@ -111,7 +121,11 @@ fn drawn_fast<const F: u32, S: Shelf, K: Sink, L: Ledger>(
     requires limits { AreLimits (limits_of limits) }
     requires unused { tape.used ≡ 0 }
     requires ahead { Belongs (S.content shelf.old) tape }
-    ensures ends { EndsBy (DrawnOver true (setting founded.now x.num x.den F) (limits_of limits) (met tape.source (S.content shelf.old) (S.faults shelf.old) (S.faults shelf.new)) base.entry) (output (K.written out.old) (K.written out.new) (K.faults out.old) (K.faults out.new) steps.old steps.new) result }
+    ensures ends { EndsBy (DrawnOver true (setting founded.now x.num x.den F) (limits_of limits)
+        (met tape.source (S.content shelf.old) (S.faults shelf.old) (S.faults shelf.new))
+        base.entry)
+        (output (K.written out.old) (K.written out.new) (K.faults out.old) (K.faults out.new)
+        steps.old steps.new) result }
     ensures content { S.content shelf.new ≡ S.content shelf.old }
     ensures counts { (name : List ℕ) → S.faults shelf.old name ≤ S.faults shelf.new name }
     ensures writes { K.faults out.old ≤ K.faults out.new }
@@ -135,10 +149,12 @@ fn fast_start<const F: u32, L: Ledger>(
 ) -> Result<Fast<F>, Refusal>
     requires fraction_bits { (24 ≤ F) × (F ≤ 56) }
     requires post_fixed { IsPostFixed (setting founded.now x.num x.den F) base.now }
-    ensures start { IfOk result (λ start. start_of true (setting founded.now x.num x.den F) base.now ≡ Some start) }
+    ensures start { IfOk result (λ start. start_of true (setting founded.now x.num x.den F) base.now
+        ≡ Some start) }
     ensures below { IfOk result (AreBelow founded.now (ratio x.num x.den) F) }
     ensures one_per_class { IfOk result (λ start. length start ≡ length founded.now.bodies) }
-    ensures err { IfErr result (λ e. Started true (setting founded.now x.num x.den F) base.now (λ start. Never) (refusal_status e) (refusal_text e) (start_ticks true F)) }
+    ensures err { IfErr result (λ e. Started true (setting founded.now x.num x.den F) base.now
+        (λ start. Never) (refusal_status e) (refusal_text e) (start_ticks true F)) }
     ensures ticks { steps.new ≤ steps.old + start_ticks true F }
 {
     match Fast::<F>::propose::<L>(alloc, founded, x, base, steps) {
@@ -168,7 +184,11 @@ fn drawn_from<const F: u32, S: Shelf, K: Sink, L: Ledger>(
     requires limits { AreLimits (limits_of limits) }
     requires unused { tape.used ≡ 0 }
     requires ahead { Belongs (S.content shelf.old) tape }
-    ensures ends { EndsBy (DrawnFrom true (setting founded.now x.num x.den F) (limits_of limits) (met tape.source (S.content shelf.old) (S.faults shelf.old) (S.faults shelf.new)) base.entry start.entry) (output (K.written out.old) (K.written out.new) (K.faults out.old) (K.faults out.new) steps.old steps.new) result }
+    ensures ends { EndsBy (DrawnFrom true (setting founded.now x.num x.den F) (limits_of limits)
+        (met tape.source (S.content shelf.old) (S.faults shelf.old) (S.faults shelf.new)) base.entry
+        start.entry)
+        (output (K.written out.old) (K.written out.new) (K.faults out.old) (K.faults out.new)
+        steps.old steps.new) result }
     ensures content { S.content shelf.new ≡ S.content shelf.old }
     ensures counts { (name : List ℕ) → S.faults shelf.old name ≤ S.faults shelf.new name }
     ensures writes { K.faults out.old ≤ K.faults out.new }
@@ -181,5 +201,7 @@ fn drawn_from<const F: u32, S: Shelf, K: Sink, L: Ledger>(
     let Ok(mut memo) = FastMemo::make(alloc, founded, x, base, start) else {
         return Status::OutOfMemory;
     };
-    drawn::<F, _, S, K, L>(alloc, founded, &mut memo, limits, tape, header, shelf, out, steps)
+    drawn::<F, _, S, K, L>(
+        alloc, founded, &mut memo, limits, tape, header, shelf, out, steps,
+    )
 }

@@ -1,8 +1,7 @@
 -- A drawing that has ended makes a turn that changes nothing.
-use Rattle.std.proofs.Common.{◌≡◌, ℕ, ◌-◌, arith, Bool, true, false, List, [], ◌++◌, append-nil, refl, sym, ◌∙◌, ap, subst, inl}
+use Rattle.std.proofs.Common.{◌≡◌, ℕ, ◌-◌, arith, Bool, true, false, List, [], append-nil, refl, sym, ◌∙◌, ap, subst, inl}
 use Rattle.std.specs.Prelude.{Option, Some, None, IfSome, IsSome, is_some, option_map}
 use Rattle.bz_model.specs.declared.cell.Bounds.{Bounds}
-use Rattle.bz_model.specs.declared.cell.Cell.{Cell}
 use Rattle.bz_model.specs.Fraction.{Fraction}
 use Rattle.bz_model.specs.Spec.{Spec}
 use Rattle.std.proofs.lemmas.Option.{same_Some}
@@ -12,20 +11,14 @@ use Rattle.choice_draw.proofs.ToldDraws.{on_any}
 use Rattle.size_window.specs.declared.ending.Ending.{Ending as Told}
 use Rattle.size_window.specs.declared.ending.Ending.TheVariants as told
 use Rattle.size_window.specs.declared.turned.Turned.TheVariants as turned
-use Rattle.size_window.specs.RunByBits.{State, Entry, Course, quiet, turn_unless, followed_by}
+use Rattle.size_window.specs.RunByBits.{quiet, turn_unless}
 use Rattle.size_window.specs.Drawing.{DrawingState, state_of, ending_of}
 use Rattle.size_window.specs.Follows.{Goes}
+use Rattle.size_window.proofs.ToldTraces.{quiet-on}
 use Rattle.size_window.specs.Turn.{IsTurn, IsCounted, is_fault, EndsThere, turns_by, told_fault}
 use Rattle.session_pool.specs.declared.pooled.Pooled.TheVariants as pooled
 use Rattle.session_pool.specs.Member.{MemberState}
 use Rattle.session_pool.specs.Turn.{IsMemberTurn, answer_of}
-
-abbrev course : State → List Entry → List Cell → Course
-course st entries cells = record { state = st; entries = entries; cells = cells }
-
--- a quiet turn changes no course
-pub quiet-on : (c : Course) (st : State) → c.state ≡ st → followed_by c (quiet st) ≡ c
-quiet-on c st at = ap (λ s. course s (c.entries ++ []) (c.cells ++ [])) (sym at) ∙ (ap (λ entries. course c.state entries (c.cells ++ [])) (append-nil c.entries) ∙ ap (λ cells. course c.state c.entries cells) (append-nil c.cells))
 
 -- it meets no end of its tape
 ended-ends : (o : Option Told) (ending : Told) (used : ℕ) (tape : ℕ → Option Bool) → o ≡ Some ending → EndsThere (turned.Finished ending) o used tape

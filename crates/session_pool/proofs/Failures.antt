@@ -16,7 +16,8 @@ use Rattle.size_window.specs.Turn.{is_fault, ending_by}
 use Rattle.session_pool.specs.declared.pooled.Pooled.{Pooled}
 use Rattle.session_pool.specs.Member.{MemberState}
 use Rattle.session_pool.specs.Turn.{IsMemberTurn}
-use Rattle.session_pool.specs.Interleaving.{Setting, has_failed, failures, RoseBy}
+use Rattle.session_pool.proofs.Ended.{ended-no_fault}
+use Rattle.session_pool.specs.Interleaving.{Setting, has_failed, failures, ended_failing, all_failures, RoseBy}
 
 -- 1 where a test passes
 abbrev pub one-if : Bool → ℕ
@@ -104,3 +105,53 @@ module _ (w : Setting) (before now : List ℕ → ℕ) (m later : MemberState) (
   -- where drawings over a tape ended with a failed read, the count rose as often
   pub failures-on : (begun : ℕ) → before name ≤ now name → (pool : List MemberState) (number : ℕ) → slice_get pool number ≡ Some m → RoseBy (failures name pool) begun (before name) → RoseBy (failures name (slice_set pool number later)) begun (now name)
   failures-on begun up pool number at rose = rises begun (before name) (now name) (failures name pool) (failures name (slice_set pool number later)) (2 ^ 64 - 1) up rose (sums-then pool number at (marks-then m.drawing.ending refl))
+
+-- 1 where a drawing ended with a failed read
+abbrev pub end_mark : Option Told → ℕ
+end_mark ending = one-if (ended_failing ending)
+
+pub going-end : end_mark None ≡ 0
+going-end = refl
+
+-- a count that a failed read may have raised
+count-once : (source : TapeSource) (before now : List ℕ → ℕ) (name : List ℕ) → CountsFault true source before now → now name ≤ before name + 1
+count-once (TapeSource.Named other) before now name failed = let once = failed.once name in omega (arith, once)
+count-once (TapeSource.Seeded seed) before now name never = absurd never
+
+count-stays : (source : TapeSource) (before now : List ℕ → ℕ) (name : List ℕ) → CountsFault false source before now → now name ≤ before name
+count-stays source before now name same = let e : now name ≡ before name = ap (λ f. f name) same in omega (arith, e)
+
+-- After an answer of a drawing that went on: its mark stays and no count rises, or it is marked and a count rises once.
+answer-ends : (source : TapeSource) (before now : List ℕ → ℕ) (name : List ℕ) (a : Answer) → CountsFault (is_fault a None) source before now → now name + end_mark None ≤ before name + end_mark (ending_by None a)
+answer-ends source before now name turned.Going h = let c = count-stays source before now name h in omega (arith, c)
+answer-ends source before now name (turned.Kept entry) h = let c = count-stays source before now name h in omega (arith, c)
+answer-ends source before now name turned.OutOfMemory h = let c = count-stays source before now name h in omega (arith, c)
+answer-ends source before now name (turned.Finished told.Done) h = let c = count-stays source before now name h in omega (arith, c)
+answer-ends source before now name (turned.Finished told.TapeEnded) h = let c = count-stays source before now name h in omega (arith, c)
+answer-ends source before now name (turned.Finished (told.Undecided straddle)) h = let c = count-stays source before now name h in omega (arith, c)
+answer-ends source before now name (turned.Finished told.TurnLimit) h = let c = count-stays source before now name h in omega (arith, c)
+answer-ends source before now name (turned.Finished told.ReadFault) h = let c = count-once source before now name h in omega (arith, c)
+
+module _ (w : Setting) (before now : List ℕ → ℕ) (m later : MemberState) (answer : Pooled) (h : IsMemberTurn w.spec w.x w.F w.table w.contents before now m answer later) (name : List ℕ) where
+  ends-then : (o : Option Told) → m.drawing.ending ≡ o → now name + end_mark m.drawing.ending ≤ before name + end_mark later.drawing.ending
+  ends-then None is =
+      subst (λ o. now name + end_mark o ≤ before name + end_mark later.drawing.ending) (sym is)
+      (subst (λ o. now name + end_mark None ≤ before name + end_mark o) (sym (h.counted.ending ∙ ap (λ o. ending_by o h.told) is))
+      (answer-ends m.tape.source before now name h.told (subst (λ o. CountsFault (is_fault h.told o) m.tape.source before now) is h.faults)))
+  ends-then (Some ending) is =
+      let (told-is, same) = subst (λ o. IfSome o (λ ending. (h.told ≡ turned.Finished ending) × (later ≡ m))) is h.again in
+      let none : is_fault h.told m.drawing.ending ≡ false = ap (λ a. is_fault a m.drawing.ending) told-is ∙ sym (ended-no_fault m.drawing.ending ending is) in
+      let stays = count-stays m.tape.source before now name (subst (λ b. CountsFault b m.tape.source before now) none h.faults) in
+      let mark : end_mark later.drawing.ending ≡ end_mark m.drawing.ending = ap (λ (k : MemberState). end_mark k.drawing.ending) same in
+      omega (arith, stays, mark)
+
+  -- no count rises more often than drawings end with a failed read
+  pub only-on : (begun : ℕ) (pool : List MemberState) (number : ℕ) → slice_get pool number ≡ Some m → before name ≤ begun + all_failures pool → now name ≤ begun + all_failures (slice_set pool number later)
+  only-on begun pool number at only =
+      let sums = sum_by-set (λ (k : MemberState). end_mark k.drawing.ending) pool number later m (slice_get_within pool number m at) in
+      let old = ap (λ (k : MemberState). end_mark k.drawing.ending) (get_or_from_slice_get pool number m m at) in
+      let more = ends-then m.drawing.ending refl in
+      go (all_failures pool) (all_failures (slice_set pool number later)) _ (end_mark later.drawing.ending) (end_mark m.drawing.ending) (before name) (now name) sums old only more
+    where
+      go : (all rest a b c x y : ℕ) → rest + a ≡ all + b → a ≡ c → x ≤ begun + all → y + c ≤ x + b → y ≤ begun + rest
+      go all rest a b c x y sums old only more = omega (arith, sums, old, only, more)

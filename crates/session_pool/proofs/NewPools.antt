@@ -70,4 +70,5 @@ new-pool starts w limits counts tapes pool same each unused = record {
       new-member starts w limits counts m new none;
   rose = λ name. omega arith;
   failed = λ name. let none = none-failed limits pool name each in omega (arith, none);
+  only = λ name. omega arith;
 }

@@ -15,7 +15,7 @@ use Rattle.session_pool.specs.Turn.{IsPoolTurn}
 use Rattle.session_pool.specs.Interleaving.{Setting, IsMemberAfter, IsPoolAfter, times}
 use Rattle.session_pool.proofs.Replaced.{replaced-here, replaced-elsewhere}
 use Rattle.session_pool.proofs.OneTurn.{member-rests, member-turns}
-use Rattle.session_pool.proofs.Failures.{failures-on}
+use Rattle.session_pool.proofs.Failures.{failures-on, only-on}
 
 -- 1 where a test passes
 abbrev one-if : Bool → ℕ
@@ -70,6 +70,7 @@ module _ (w : Setting) (limits : Limits) (sources : List TapeSource) (begun befo
     each = each-then;
     rose = λ name. let up = p.rose name in let more = grew name in omega (arith, up, more);
     failed = λ name. failures-on w before now h.old_member h.new_member answer h.turn name (begun name) (grew name) pool number h.at (p.failed name);
+    only = λ name. only-on w before now h.old_member h.new_member answer h.turn name (begun name) pool number h.at (p.only name);
   }
 
   -- a pool in which a drawing made a turn stands where turns with one more leave it

@@ -1,5 +1,5 @@
 -- Turns in any order: each drawing of a pool stands where it would stand alone.
-use Rattle.std.specs.Prelude.{◌≡◌, ◌≢◌, ℕ, ◌+◌, ◌-◌, ◌^◌, ◌≤◌, min, nat_eq, Bool, false, List, map, slice_get, Option, Some, None, IfSome, IsSome}
+use Rattle.std.specs.Prelude.{◌≡◌, ◌≢◌, ℕ, ◌+◌, ◌-◌, ◌^◌, ◌≤◌, min, nat_eq, Bool, true, false, List, map, slice_get, Option, Some, None, IfSome, IsSome}
 use Rattle.std.specs.List.{count_by}
 use Rattle.std.specs.Str.{bytes_eq}
 use Rattle.bz_model.specs.declared.cell.Bounds.{Bounds}
@@ -18,7 +18,8 @@ use Rattle.size_window.specs.Trace.{HasTrace}
 use Rattle.session_pool.specs.Member.{MemberState}
 use Rattle.session_pool.specs.Pool.{sources_of}
 
--- What the drawings of a pool share: the specification, x, a table of bounds of its nodes in units of 2^-F, and the contents of the files where they are told.
+-- What the drawings of a pool share: the specification, x, a table of bounds of its nodes in units
+-- of 2^-F, and the contents of the files where they are told.
 pub record Setting : Type 0 where
   pub spec : Spec
   pub x : Fraction
@@ -27,27 +28,36 @@ pub record Setting : Type 0 where
   pub contents : List ℕ → Option (List ℕ)
 
 -- The setting of these.
-abbrev pub setting : Spec → Fraction → (F : ℕ) → (table : (level node : ℕ) → Bounds) → (contents : List ℕ → Option (List ℕ)) → Setting
+abbrev pub setting : Spec → Fraction → (F : ℕ) → (table : (level node : ℕ) → Bounds)
+    → (contents : List ℕ → Option (List ℕ)) → Setting
 setting s x F table contents = record { spec = s; x = x; F = F; table = table; contents = contents }
 
 -- How often a drawing's number stands in a list of turns.
 abbrev pub times : (number : ℕ) → (turns : List ℕ) → ℕ
 times number turns = count_by (nat_eq number) turns
 
--- A drawing was asked for so many turns. While it goes on all of them were counted. One that ended was asked for those that it counted at least, and for one more where its ending cost no turn.
+-- A drawing was asked for so many turns. While it goes on all of them were counted. One that ended
+-- was asked for those that it counted at least, and for one more where its ending cost no turn.
 abbrev pub WasAsked : (turns : ℕ) → DrawingState → Option Ending → Type 0
 WasAsked turns d None = d.turns ≡ turns
 WasAsked turns d (Some ending) = d.turns + (1 - turns_of ending) ≤ turns
 
--- Why a drawing ended: Done comes only where as many objects as wanted are kept, the limit of turns only where so many turns were counted and fewer objects are kept, and a failed read only where the count of its tape's name rose. Of a node whose number was left open the bounds of level 6 are told.
-pub record EndedRightly (w : Setting) (limits : Limits) (source : TapeSource) (begun counts : List ℕ → ℕ) (d : DrawingState) (ending : Ending) : Type 0 where
+-- Why a drawing ended: Done comes only where as many objects as wanted are kept, the limit of turns
+-- only where so many turns were counted and fewer objects are kept, and a failed read only where
+-- the count of its tape's name rose. Of a node whose number was left open the bounds of level 6 are
+-- told.
+pub record EndedRightly (w : Setting) (limits : Limits) (source : TapeSource) (begun counts : List ℕ
+    → ℕ) (d : DrawingState) (ending : Ending) : Type 0 where
   pub kept : ending ≡ Done → d.kept ≡ limits.count
   pub out_of_turns : ending ≡ TurnLimit → (d.kept ≢ limits.count) × (d.turns ≡ limits.turns)
   pub failed : ending ≡ ReadFault → HasFault source begun counts
   pub left_open : TellsOpen w.table (turned.Finished ending)
 
--- A drawing of a pool after so many turns of its own: it has the trace of a drawing alone that was asked for so many turns over the bits that its tape was given, and the trace's entries are those that the drawing kept.
-pub record IsMemberAfter (w : Setting) (limits : Limits) (begun counts : List ℕ → ℕ) (turns : ℕ) (m : MemberState) : Type 0 where
+-- A drawing of a pool after so many turns of its own: it has the trace of a drawing alone that was
+-- asked for so many turns over the bits that its tape was given, and the trace's entries are those
+-- that the drawing kept.
+pub record IsMemberAfter (w : Setting) (limits : Limits) (begun counts : List ℕ → ℕ) (turns : ℕ)
+    (m : MemberState) : Type 0 where
   pub most : ℕ
   pub course : Course
   pub trace : HasTrace w.spec w.x w.F w.table limits (bits_of m.tape.source w.contents) turns m.drawing m.tape.used most course
@@ -64,29 +74,52 @@ has_failed name source ending = false
 abbrev pub failures : (name : List ℕ) → List MemberState → ℕ
 failures name pool = count_by (λ m. has_failed name m.tape.source m.drawing.ending) pool
 
+-- A drawing ended with a failed read.
+abbrev pub ended_failing : Option Ending → Bool
+ended_failing (Some ReadFault) = true
+ended_failing ending = false
+
+-- How many drawings ended with a failed read.
+abbrev pub all_failures : List MemberState → ℕ
+all_failures pool = count_by (λ m. ended_failing m.drawing.ending) pool
+
 -- The count went up so many times, or stands at its last value.
 abbrev pub RoseBy : (number before now : ℕ) → Type 0
 RoseBy number before now = min (before + number) (2 ^ 64 - 1) ≤ now
 
--- A pool after these turns, each named by its drawing's number: each drawing stands where it would stand alone after as many turns as the list names it. The counts of failed reads never fell since the beginning, and for each name that count rose at least as often as drawings over its tape ended with a failed read.
-pub record IsPoolAfter (w : Setting) (limits : Limits) (sources : List TapeSource) (begun counts : List ℕ → ℕ) (turns : List ℕ) (pool : List MemberState) : Type 0 where
+-- A pool after these turns, each named by its drawing's number: each drawing stands where it would
+-- stand alone after as many turns as the list names it. The counts of failed reads never fell since
+-- the beginning; for each name that count rose at least as often as drawings over its tape ended with
+-- a failed read, and no count rose more often than drawings ended so.
+pub record IsPoolAfter (w : Setting) (limits : Limits) (sources : List TapeSource)
+    (begun counts : List ℕ → ℕ) (turns : List ℕ) (pool : List MemberState) : Type 0 where
   pub same_sources : sources_of pool ≡ sources
-  pub each : (number : ℕ) (m : MemberState) → slice_get pool number ≡ Some m → IsMemberAfter w limits begun counts (times number turns) m
+  pub each : (number : ℕ) (m : MemberState) → slice_get pool number ≡ Some m
+      → IsMemberAfter w limits begun counts (times number turns) m
   pub rose : (name : List ℕ) → begun name ≤ counts name
   pub failed : (name : List ℕ) → RoseBy (failures name pool) (begun name) (counts name)
+  pub only : (name : List ℕ) → counts name ≤ begun name + all_failures pool
 
--- Two drawings are alike: they have one state, with as many bits used, kept the same objects in the same order, and counted as many atoms.
+-- Two drawings are alike: they have one state, with as many bits used, kept the same objects in the
+-- same order, and counted as many atoms.
 pub record AreAlike (m other : MemberState) : Type 0 where
   pub state : state_of m.drawing m.tape.used ≡ state_of other.drawing other.tape.used
   pub atoms : m.drawing.atoms ≡ other.drawing.atoms
   pub entries : map entry_of m.entries ≡ map entry_of other.entries
 
--- What two pools over the same tapes tell of their drawings of one number, where the tape's bits are told and neither drawing ended with a failed read: they are alike, whatever the turns of the others, if this holds of the two.
-abbrev pub AreAlikeWhere : (Premise : (times other_times : ℕ) → MemberState → MemberState → Type 0) → Type 0
+-- Two pools over the same tapes made turns, in any orders. Where the bits of one of the tapes are
+-- told, and its drawing ended with a failed read in neither pool, the two drawings over it are alike
+-- if the premise holds of how often the orders name them and of the two.
+abbrev pub AreAlikeWhere : (Premise : (times other_times : ℕ) → MemberState → MemberState → Type 0)
+    → Type 0
 AreAlikeWhere Premise =
-    (w : Setting) (limits : Limits) (sources : List TapeSource) (c : Chooser) → ChoosesBy w.spec w.F w.table c
-    → (begun counts : List ℕ → ℕ) (turns : List ℕ) (pool : List MemberState) → IsPoolAfter w limits sources begun counts turns pool
-    → (begun_then counts_then : List ℕ → ℕ) (others : List ℕ) (other : List MemberState) → IsPoolAfter w limits sources begun_then counts_then others other
-    → (number : ℕ) (m n : MemberState) → slice_get pool number ≡ Some m → slice_get other number ≡ Some n → IsSome (bits_of m.tape.source w.contents)
+    (w : Setting) (limits : Limits) (sources : List TapeSource) (c : Chooser)
+    → ChoosesBy w.spec w.F w.table c
+    → (begun counts : List ℕ → ℕ) (turns : List ℕ) (pool : List MemberState)
+    → IsPoolAfter w limits sources begun counts turns pool
+    → (begun_then counts_then : List ℕ → ℕ) (others : List ℕ) (other : List MemberState)
+    → IsPoolAfter w limits sources begun_then counts_then others other
+    → (number : ℕ) (m n : MemberState) → slice_get pool number ≡ Some m
+    → slice_get other number ≡ Some n → IsSome (bits_of m.tape.source w.contents)
     → m.drawing.ending ≢ Some ReadFault → n.drawing.ending ≢ Some ReadFault
     → Premise (times number turns) (times number others) m n → AreAlike m n

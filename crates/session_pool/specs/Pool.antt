@@ -25,8 +25,10 @@ pub record PoolBelongs (s : Spec) (x : Fraction) (pool : List MemberState) : Typ
 pub record TapesBelong (contents : List ℕ → Option (List ℕ)) (tapes : List TapeState) : Type 0 where
   pub each : All (Belongs contents) tapes
 
--- A pool before its first turn: it has one drawing per tape, in order, and each is a new one over its tape.
-pub record IsNewPool (limits : Limits) (tapes : List TapeState) (pool : List MemberState) : Type 0 where
+-- A pool before its first turn: it has one drawing per tape, in order, and each is a new one over
+-- its tape.
+pub record IsNewPool (limits : Limits) (tapes : List TapeState)
+    (pool : List MemberState) : Type 0 where
   pub same_tapes : tapes_of pool ≡ tapes
   pub each : All (λ m. IsNewMember limits m.tape m) pool
 
@@ -35,7 +37,8 @@ abbrev pub bits_between : Option MemberState → Option MemberState → ℕ
 bits_between (Some m) (Some later) = bits_to_nodes m later
 bits_between _ _ = 0
 
--- How many bits a turn from one pool to another gave to numbers of nodes, in the drawing of this number.
+-- How many bits a turn from one pool to another gave to numbers of nodes, in the drawing of this
+-- number.
 abbrev pub bits_to_nodes_at : (number : ℕ) → (pool later : List MemberState) → ℕ
 bits_to_nodes_at number pool later = bits_between (slice_get pool number) (slice_get later number)
 
@@ -48,7 +51,12 @@ ending_of_member None = None
 abbrev pub ending_at : List MemberState → (number : ℕ) → Option Ending
 ending_at pool number = ending_of_member (slice_get pool number)
 
--- What a turn of a drawing leaves of its tape and the shelf, where there is a drawing before and after it: a failed read is counted exactly where the drawing ends with one.
-abbrev pub LeavesTapeOf : {S : Type 0} → (contents : S → List ℕ → Option (List ℕ)) → (counts : S → List ℕ → ℕ) → (before now : S) → Option MemberState → Option MemberState → Type 0
-LeavesTapeOf contents counts before now (Some m) (Some later) = LeavesTape contents counts (read_failed m.drawing.ending later.drawing.ending) before now m.tape later.tape
+-- What a turn of a drawing leaves of its tape and the shelf, where there is a drawing before and
+-- after it: a failed read is counted exactly where the drawing ends with one.
+abbrev pub LeavesTapeOf : {S : Type 0} → (contents : S → List ℕ → Option (List ℕ))
+    → (counts : S → List ℕ → ℕ) → (before now : S) → Option MemberState → Option MemberState
+    → Type 0
+LeavesTapeOf contents counts before now (Some m) (Some later) =
+    LeavesTape contents counts (read_failed m.drawing.ending later.drawing.ending)
+    before now m.tape later.tape
 LeavesTapeOf contents counts before now _ _ = Unit {0}

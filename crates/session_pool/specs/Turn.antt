@@ -24,14 +24,22 @@ abbrev pub answer_of : Option Ending → Pooled
 answer_of None = Going
 answer_of (Some ending) = Finished
 
--- A drawing that hadn't ended answers Done exactly where as many objects as wanted are kept, and else TurnLimit exactly where as many turns as the limit were counted. It tells the bounds of level 6 of a node whose number it left open.
-pub record AnswersRightly (table : (level node : ℕ) → Bounds) (m : MemberState) (told : Turned) : Type 0 where
+-- A drawing that hadn't ended answers Done exactly where as many objects as wanted are kept, and
+-- else TurnLimit exactly where as many turns as the limit were counted. It tells the bounds of
+-- level 6 of a node whose number it left open.
+pub record AnswersRightly (table : (level node : ℕ) → Bounds) (m : MemberState)
+    (told : Turned) : Type 0 where
   pub done : (told ≡ turned.Finished Done) ↔ (m.drawing.kept ≡ m.drawing.limits.count)
   pub turn_limit : (told ≡ turned.Finished TurnLimit) ↔ ((m.drawing.kept ≢ m.drawing.limits.count) × (m.drawing.turns ≡ m.drawing.limits.turns))
   pub left_open : TellsOpen table told
 
--- A turn of one drawing of a pool: the drawing makes its turn over its tape, and what it kept is appended to its entries. One that had ended answers its ending again and is as it was. A failed read is answered exactly where the count of its tape's name rose. The pool answers whether the drawing goes on.
-pub record IsMemberTurn (s : Spec) (x : Fraction) (F : ℕ) (table : (level node : ℕ) → Bounds) (contents : List ℕ → Option (List ℕ)) (before now : List ℕ → ℕ) (m : MemberState) (answer : Pooled) (later : MemberState) : Type 0 where
+-- A turn of one drawing of a pool: the drawing makes its turn over its tape, and what it kept is
+-- appended to its entries. One that had ended answers its ending again and is as it was. A failed
+-- read is answered exactly where the count of its tape's name rose. The pool answers whether the
+-- drawing goes on.
+pub record IsMemberTurn (s : Spec) (x : Fraction) (F : ℕ) (table : (level node : ℕ) → Bounds)
+    (contents : List ℕ → Option (List ℕ)) (before now : List ℕ → ℕ) (m : MemberState)
+    (answer : Pooled) (later : MemberState) : Type 0 where
   pub told : Turned
   pub made : told ≢ turned.OutOfMemory
   pub turn : IsTurn s x F table (bits_of m.tape.source contents) m.drawing m.tape.used told later.drawing later.tape.used
@@ -46,8 +54,11 @@ pub record IsMemberTurn (s : Spec) (x : Fraction) (F : ℕ) (table : (level node
   pub faults : CountsFault (is_fault told m.drawing.ending) m.tape.source before now
   pub answers : answer ≡ answer_of later.drawing.ending
 
--- A turn of a pool: the drawing of this number makes its turn, and every other one is as it was, with its tape and its entries.
-pub record IsPoolTurn (s : Spec) (x : Fraction) (F : ℕ) (table : (level node : ℕ) → Bounds) (contents : List ℕ → Option (List ℕ)) (before now : List ℕ → ℕ) (pool : List MemberState) (number : ℕ) (answer : Pooled) (later : List MemberState) : Type 0 where
+-- A turn of a pool: the drawing of this number makes its turn, and every other one is as it was,
+-- with its tape and its entries.
+pub record IsPoolTurn (s : Spec) (x : Fraction) (F : ℕ) (table : (level node : ℕ) → Bounds)
+    (contents : List ℕ → Option (List ℕ)) (before now : List ℕ → ℕ) (pool : List MemberState)
+    (number : ℕ) (answer : Pooled) (later : List MemberState) : Type 0 where
   pub old_member : MemberState
   pub new_member : MemberState
   pub at : slice_get pool number ≡ Some old_member

@@ -1,6 +1,8 @@
-//! A law of pools. The function's contract is the law; it does nothing.
+//! A law of pools. The function's contract is the law; it does nothing but call another.
 ghost use Rattle.std.specs.Prelude.{◌≡◌, IsSome};
 ghost use Rattle.session_pool.specs.Interleaving.{AreAlikeWhere};
+
+use size_window::laws::a_told_trace_is_the_course_of_its_tape;
 
 /// The order of turns leaves each drawing alike.
 ///
@@ -12,4 +14,6 @@ pub fn the_order_of_turns_leaves_each_drawing_alike()
     ensures named { AreAlikeWhere (λ times other_times m n. times ≡ other_times) }
     ensures ended { AreAlikeWhere (λ times other_times m n.
         IsSome m.drawing.ending × IsSome n.drawing.ending) }
-{}
+{
+    a_told_trace_is_the_course_of_its_tape();
+}

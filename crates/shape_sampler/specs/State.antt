@@ -18,7 +18,9 @@ use Rattle.shape_sampler.specs.declared.stepped.Stepped.TheVariants.{Moved, Made
 use Rattle.shape_sampler.specs.Visit.{Attempt}
 use Rattle.shape_sampler.specs.Belonging.{Belonging}
 
--- A session knows the body of class 0 and the whole room; it has an attempt with the nodes that are pending, the tokens and the cells so far and the room left, and the answer that stopped it, if one did.
+-- A session knows the body of class 0 and the whole room; it has an attempt with the nodes that are
+-- pending, the tokens and the cells so far and the room left, and the answer that stopped it, if
+-- one did.
 pub record SessionState : Type 0 where
   pub root : ℕ
   pub whole : ℕ
@@ -32,15 +34,18 @@ pub record SessionState : Type 0 where
 abbrev pub attempt_of : SessionState → (used : ℕ) → Attempt
 attempt_of st used = record { pending = st.pending; tokens = st.tokens; cells = st.cells; room = st.room; used = used }
 
--- A session at the start of an attempt: the body of class 0 is pending, tokens and cells are empty, the room is whole, and nothing stopped it.
+-- A session at the start of an attempt: the body of class 0 is pending, tokens and cells are empty,
+-- the room is whole, and nothing stopped it.
 abbrev pub begun_state : SessionState → SessionState
-begun_state st = record st { pending = st.root ∷ []; tokens = []; cells = []; room = st.whole; stopped = None }
+begun_state st =
+    record st { pending = st.root ∷ []; tokens = []; cells = []; room = st.whole; stopped = None }
 
 -- A session whose tokens and cells were moved out.
 abbrev pub emptied : SessionState → SessionState
 emptied st = record st { tokens = []; cells = [] }
 
--- A session belongs where it knows the body of class 0, which is a node, its attempt belongs, and its cells are cells.
+-- A session belongs where it knows the body of class 0, which is a node, its attempt belongs, and
+-- its cells are cells.
 pub record SessionBelongs (s : Spec) (x : Fraction) (st : SessionState) : Type 0 where
   pub root : body_of s 0 ≡ Some st.root
   pub root_in_range : st.root < length s.nodes
@@ -57,7 +62,9 @@ pub record Runs (before now : SessionState) : Type 0 where
 abbrev pub stopped_by : SessionState → Stepped → SessionState
 stopped_by st answer = record st { stopped = Some answer }
 
--- What an answer leaves. Moved: nodes are pending. Made and Overshot: none is. A cell that straddles, the tape's end and a failed read stop the session and leave its attempt as it was. Want of memory leaves the session as it was.
+-- What an answer leaves. Moved: nodes are pending. Made and Overshot: none is. A cell that
+-- straddles, the tape's end and a failed read stop the session and leave its attempt as it was.
+-- Want of memory leaves the session as it was.
 abbrev pub Leaves : Stepped → (before now : SessionState) → Type 0
 Leaves Moved before now = Runs before now × (now.pending ≢ [])
 Leaves Made before now = Runs before now × (now.pending ≡ [])
@@ -117,9 +124,11 @@ abbrev pub drawn_cells : Drawn → List Cell
 drawn_cells (drawn.Value value cell) = cell ∷ []
 drawn_cells _ = []
 
--- The part that was drawn is put in the place of the first pending node; without one the same nodes are pending.
+-- The part that was drawn is put in the place of the first pending node; without one the same nodes
+-- are pending.
 abbrev pub PutsPart : (parts : List ℕ) → Drawn → (before now : List ℕ) → Type 0
-PutsPart parts (drawn.Value value cell) before now = (e : ℕ) (rest : List ℕ) → before ≡ e ∷ rest → now ≡ slice_index parts value ∷ rest
+PutsPart parts (drawn.Value value cell) before now = (e : ℕ) (rest : List ℕ) → before ≡ e ∷ rest
+    → now ≡ slice_index parts value ∷ rest
 PutsPart parts _ before now = now ≡ before
 
 -- The tokens that an answer of a draw of a number of parts adds: the number, where there is one.
@@ -127,14 +136,17 @@ abbrev pub count_tokens : CountDrawn → List Token
 count_tokens (counted.Count value cell) = token.Count value ∷ []
 count_tokens _ = []
 
--- The cells that it adds: that of the number, or that of every number up to the room being passed over.
+-- The cells that it adds: that of the number, or that of every number up to the room being passed
+-- over.
 abbrev pub count_cells : CountDrawn → List Cell
 count_cells (counted.Count value cell) = cell ∷ []
 count_cells (counted.Over cell) = cell ∷ []
 count_cells _ = []
 
--- The part is put as often as was drawn in the place of the first pending node. Nothing is pending where every number up to the room is passed over; without an answer the same nodes are pending.
+-- The part is put as often as was drawn in the place of the first pending node. Nothing is pending
+-- where every number up to the room is passed over; without an answer the same nodes are pending.
 abbrev pub PutsParts : (part : ℕ) → CountDrawn → (before now : List ℕ) → Type 0
-PutsParts part (counted.Count value cell) before now = (e : ℕ) (rest : List ℕ) → before ≡ e ∷ rest → now ≡ replicate value part ++ rest
+PutsParts part (counted.Count value cell) before now = (e : ℕ) (rest : List ℕ) → before ≡ e ∷ rest
+    → now ≡ replicate value part ++ rest
 PutsParts part (counted.Over cell) before now = now ≡ []
 PutsParts part _ before now = now ≡ before

@@ -7,13 +7,15 @@ use Rattle.object_store.specs.declared.token.Token.TheVariants as token
 use Rattle.choice_draw.specs.Decision.{Choice}
 use Rattle.choice_draw.specs.Draw.{Bit, Draw, draw}
 
--- How choices are made: what a cell decides at a node with a room, and which nodes have an object of size 0.
+-- How choices are made: what a cell decides at a node with a room, and which nodes have an object
+-- of size 0.
 pub record Chooser : Type 0 where
   pub spec : Spec
   pub decide : (node room : ℕ) → Cell → Option Choice
   pub is_free : (node : ℕ) → Bool
 
--- An attempt has nodes that are pending, the tokens and the cells so far, the room left, and how many bits of the tape were used.
+-- An attempt has nodes that are pending, the tokens and the cells so far, the room left, and how
+-- many bits of the tape were used.
 pub record Attempt : Type 0 where
   pub pending : List ℕ
   pub tokens : List Token
@@ -21,7 +23,8 @@ pub record Attempt : Type 0 where
   pub room : ℕ
   pub used : ℕ
 
--- A visit goes on, is over the room, or stops: at a cell of 60 bits that straddles, at the tape's end, or at a failed read.
+-- A visit goes on, is over the room, or stops: at a cell of 60 bits that straddles, at the tape's
+-- end, or at a failed read.
 pub data Visited : Type 0 where
   Went : Attempt → Visited
   Over : Attempt → Visited
@@ -52,7 +55,8 @@ leaf_visited a rest = Visited.Went (with_pending (with_token a token.Unit) rest)
 -- An atom adds its token and lowers the room by one, and is over where there is none.
 abbrev pub atom_visited : Attempt → (rest : List ℕ) → (room : ℕ) → Visited
 atom_visited a rest zero = Visited.Over (given_up a)
-atom_visited a rest (suc room) = Visited.Went (record (with_pending (with_token a token.Dot) rest) { room = room })
+atom_visited a rest (suc room) =
+    Visited.Went (record (with_pending (with_token a token.Dot) rest) { room = room })
 
 -- What a draw's end means for an attempt, from what its answer means.
 abbrev pub after_draw : (node : ℕ) → (Choice → Cell → Visited) → Draw Choice → Visited
@@ -63,32 +67,44 @@ after_draw node answered (Draw.Failed place) = Visited.Failed place
 
 -- At a union the drawn part is pending in its place, after the token of its option.
 abbrev pub union_answered : Attempt → (parts rest : List ℕ) → Choice → Cell → Visited
-union_answered a parts rest (Choice.Take i) cell = Visited.Went (with_pending (with_token (with_cell a cell) (token.Pick i)) (slice_index parts i ∷ rest))
+union_answered a parts rest (Choice.Take i) cell =
+    Visited.Went (with_pending (with_token (with_cell a cell)
+    (token.Pick i)) (slice_index parts i ∷ rest))
 union_answered a parts rest Choice.Over cell = Visited.Over (given_up (with_cell a cell))
 
--- At a counted node the part is pending as often as was drawn, after the token of its number of parts.
+-- At a counted node the part is pending as often as was drawn, after the token of its number of
+-- parts.
 abbrev pub counted_answered : Attempt → (part : ℕ) → (rest : List ℕ) → Choice → Cell → Visited
-counted_answered a part rest (Choice.Take i) cell = Visited.Went (with_pending (with_token (with_cell a cell) (token.Count i)) (replicate i part ++ rest))
+counted_answered a part rest (Choice.Take i) cell =
+    Visited.Went (with_pending (with_token (with_cell a cell)
+    (token.Count i)) (replicate i part ++ rest))
 counted_answered a part rest Choice.Over cell = Visited.Over (given_up (with_cell a cell))
 
 -- The room of a count: 64 parts at most where a part takes no room.
 abbrev pub room_for : Chooser → (part room : ℕ) → ℕ
 room_for c part room = if c.is_free part then 64 else room
 
-abbrev pub union_visited : Chooser → (bit : ℕ → Bit) → Attempt → (e : ℕ) → (parts rest : List ℕ) → Visited
-union_visited c bit a e parts rest = after_draw e (union_answered a parts rest) (draw (c.decide e a.room) bit a.used)
+abbrev pub union_visited : Chooser → (bit : ℕ → Bit) → Attempt → (e : ℕ) → (parts rest : List ℕ)
+    → Visited
+union_visited c bit a e parts rest = after_draw e (union_answered a parts rest)
+    (draw (c.decide e a.room) bit a.used)
 
-abbrev pub counted_visited : Chooser → (bit : ℕ → Bit) → Attempt → (e part : ℕ) → (rest : List ℕ) → Visited
-counted_visited c bit a e part rest = after_draw e (counted_answered a part rest) (draw (c.decide e (room_for c part a.room)) bit a.used)
+abbrev pub counted_visited : Chooser → (bit : ℕ → Bit) → Attempt → (e part : ℕ) → (rest : List ℕ)
+    → Visited
+counted_visited c bit a e part rest = after_draw e (counted_answered a part rest)
+    (draw (c.decide e (room_for c part a.room)) bit a.used)
 
 -- The node e is visited, and the rest stays pending after what it puts in its place.
-abbrev pub node_visited : Chooser → (bit : ℕ → Bit) → Attempt → (e : ℕ) → (rest : List ℕ) → Option Node → Visited
+abbrev pub node_visited : Chooser → (bit : ℕ → Bit) → Attempt → (e : ℕ) → (rest : List ℕ)
+    → Option Node → Visited
 node_visited c bit a e rest None = Visited.Went (with_pending a rest)
 node_visited c bit a e rest (Some (Node.Empty word)) = leaf_visited a rest
 node_visited c bit a e rest (Some (Node.Atom word)) = atom_visited a rest a.room
-node_visited c bit a e rest (Some (Node.Class class)) = Visited.Went (with_pending a (slice_index c.spec.bodies class ∷ rest))
+node_visited c bit a e rest (Some (Node.Class class)) =
+    Visited.Went (with_pending a (slice_index c.spec.bodies class ∷ rest))
 node_visited c bit a e rest (Some (Node.Union parts)) = union_visited c bit a e parts rest
-node_visited c bit a e rest (Some (Node.Product parts)) = Visited.Went (with_pending a (parts ++ rest))
+node_visited c bit a e rest (Some (Node.Product parts)) =
+    Visited.Went (with_pending a (parts ++ rest))
 node_visited c bit a e rest (Some (Node.Seq part)) = counted_visited c bit a e part rest
 node_visited c bit a e rest (Some (Node.Set part)) = counted_visited c bit a e part rest
 node_visited c bit a e rest (Some (Node.Cyc part)) = counted_visited c bit a e part rest

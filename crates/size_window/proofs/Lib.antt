@@ -17,3 +17,7 @@ pub mod Redrawing
 pub mod Tracing
 pub mod SizedVisits
 pub mod Ordering
+pub mod FewBits
+pub mod TapeEnds
+pub mod TraceEntries
+pub mod ToldTraces

@@ -53,11 +53,11 @@ last-number-more number (d ∷ es) e = last-number-more d.number es e
 
 module _ (s : Sampling) where
   -- The atoms of an attempt and the room left are the greatest size together.
-  record Fits (a : Attempt) : Type 0 where
+  pub record Fits (a : Attempt) : Type 0 where
     pub same : size_of a.tokens + a.room ≡ s.limits.max
 
   -- What is under way fits, and a shape that awaits its labels is large enough.
-  record KeepsSize (st : State) : Type 0 where
+  pub record KeepsSize (st : State) : Type 0 where
     pub pends : st.attempt.pending ≢ [] → Fits st.attempt
     pub waits : st.awaits ≡ true → Fits st.attempt × (s.limits.min ≤ size_of st.attempt.tokens)
 
@@ -219,6 +219,9 @@ module _ (s : Sampling) where
       let t = turn_unless s (faults n) c.state c.state.ending in
       let k = unless-orders c.state.kept (last_end 0 c.entries) c.state (faults n) c.state.ending h.size refl h.placed in
       one-more c.entries c.state.kept (last_end 0 c.entries) t t.entry refl h.entries h.number h.last refl k.size k.order (c.cells ++ t.cells)
+
+  pub course-size : (faults : ℕ → Option ℕ) (n : ℕ) → KeepsSize (after s faults n).state
+  course-size faults n = let h = course-ordered faults n in h.size
 
   pub course-in-order : (faults : ℕ → Option ℕ) (n : ℕ) → IsInOrder s.limits (after s faults n)
   course-in-order faults n = let h = course-ordered faults n in let p = h.placed in record { entries = h.entries; number = h.number; ends = omega arith }

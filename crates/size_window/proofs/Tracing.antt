@@ -43,11 +43,11 @@ extended-at : (faults : ℕ → Option ℕ) (n : ℕ) (fault : Option ℕ) → e
 extended-at faults n fault = ap (λ b. cond b fault (faults n)) (eq-eqb n n refl)
 
 -- earlier turns alone count
-agree : (s : Sampling) (f g : ℕ → Option ℕ) (n : ℕ) → ((k : ℕ) → k < n → f k ≡ g k) → after s f n ≡ after s g n
+pub agree : (s : Sampling) (f g : ℕ → Option ℕ) (n : ℕ) → ((k : ℕ) → k < n → f k ≡ g k) → after s f n ≡ after s g n
 agree s f g zero same = refl
 agree s f g (suc n) same = ap (λ o. one_turn_on s o (after s f n)) (same n (omega arith)) ∙ ap (one_turn_on s (g n)) (agree s f g n (λ k h. same k (omega arith)))
 
-agree-given : (s : Sampling) (f g : ℕ → Option ℕ) (n : ℕ) → ((k : ℕ) → k < n → f k ≡ g k) → most_given s f n ≡ most_given s g n
+pub agree-given : (s : Sampling) (f g : ℕ → Option ℕ) (n : ℕ) → ((k : ℕ) → k < n → f k ≡ g k) → most_given s f n ≡ most_given s g n
 unfolding most_given
 agree-given s f g zero same = refl
 agree-given s f g (suc n) same =

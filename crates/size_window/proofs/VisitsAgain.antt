@@ -25,18 +25,18 @@ went-is v b is = cc
 
 module _ (c : Chooser) (tape : ℕ → Option Bool) (fault : Option ℕ) (a : Attempt) (e : ℕ) (rest : List ℕ) where
   -- by a visit that draws nothing
-  by-none : (node : Option Node) (b : Attempt) → b.cells ≡ a.cells → ((other : ℕ → Option Bool) (place : ℕ) → node_visited c (bit_of other None) (at_used a place) e rest node ≡ Visited.Went (at_used b place)) → node_at c.spec e ≡ node → ComesAgain c (e ∷ rest) a b
-  by-none node b cells same at = record {
+  by-none : (seen : Option Node) (b : Attempt) → b.cells ≡ a.cells → ((other : ℕ → Option Bool) (place : ℕ) → node_visited c (bit_of other None) (at_used a place) e rest seen ≡ Visited.Went (at_used b place)) → node_at c.spec e ≡ seen → ComesAgain c (e ∷ rest) a b
+  by-none seen b cells same at = record {
     more = [];
     cells = cells ∙ sym (append-nil a.cells);
     again = λ other place have. ap (node_visited c (bit_of other None) (at_used a place) e rest) at ∙ same other place ∙ ap (λ n. Visited.Went (at_used b n)) (let z : place ≡ place + 0 = omega arith in z);
   }
 
   -- by one that draws a cell
-  by-cell : (node : Option Node) (decide : Cell → Option Choice) (answered : Attempt → Choice → Cell → Visited) (choice : Choice) (cell : Cell) (b : Attempt)
-      → ((other : ℕ → Option Bool) (place : ℕ) → node_visited c (bit_of other None) (at_used a place) e rest node ≡ after_draw e (answered (at_used a place)) (draw decide (bit_of other None) place))
-      → draw decide (bit_of tape fault) a.used ≡ Draw.Decided choice cell → b.cells ≡ a.cells ++ cell ∷ [] → ((place : ℕ) → answered (at_used a place) choice cell ≡ Visited.Went (at_used b (place + cell.b))) → node_at c.spec e ≡ node → ComesAgain c (e ∷ rest) a b
-  by-cell node decide answered choice cell b draws drew cells means at = record {
+  by-cell : (seen : Option Node) (decide : Cell → Option Choice) (answered : Attempt → Choice → Cell → Visited) (choice : Choice) (cell : Cell) (b : Attempt)
+      → ((other : ℕ → Option Bool) (place : ℕ) → node_visited c (bit_of other None) (at_used a place) e rest seen ≡ after_draw e (answered (at_used a place)) (draw decide (bit_of other None) place))
+      → draw decide (bit_of tape fault) a.used ≡ Draw.Decided choice cell → b.cells ≡ a.cells ++ cell ∷ [] → ((place : ℕ) → answered (at_used a place) choice cell ≡ Visited.Went (at_used b (place + cell.b))) → node_at c.spec e ≡ seen → ComesAgain c (e ∷ rest) a b
+  by-cell seen decide answered choice cell b draws drew cells means at = record {
     more = cell ∷ [];
     cells = cells;
     again = λ other place have.
@@ -55,19 +55,19 @@ module _ (c : Chooser) (tape : ℕ → Option Bool) (fault : Option ℕ) (a : At
   by-union parts b at (Draw.Ended place) drew is = let no : ⊥ = cc in absurd no
   by-union parts b at (Draw.Failed place) drew is = let no : ⊥ = cc in absurd no
 
-  by-count : (node : Option Node) (part : ℕ) (b : Attempt) → ((other : ℕ → Option Bool) (place : ℕ) → node_visited c (bit_of other None) (at_used a place) e rest node ≡ after_draw e (counted_answered (at_used a place) part rest) (draw (c.decide e (room_for c part a.room)) (bit_of other None) place)) → node_at c.spec e ≡ node → (d : Draw Choice) → draw (c.decide e (room_for c part a.room)) (bit_of tape fault) a.used ≡ d → after_draw e (counted_answered a part rest) d ≡ Visited.Went b → ComesAgain c (e ∷ rest) a b
-  by-count node part b draws at (Draw.Decided (Choice.Take i) cell) drew is =
-      subst (ComesAgain c (e ∷ rest) a) (went-is _ b is) (by-cell node (c.decide e (room_for c part a.room)) (λ q. counted_answered q part rest) (Choice.Take i) cell _ draws drew refl (λ place. refl) at)
-  by-count node part b draws at (Draw.Decided Choice.Over cell) drew is = let no : ⊥ = cc in absurd no
-  by-count node part b draws at (Draw.Straddled cell) drew is = let no : ⊥ = cc in absurd no
-  by-count node part b draws at (Draw.Ended place) drew is = let no : ⊥ = cc in absurd no
-  by-count node part b draws at (Draw.Failed place) drew is = let no : ⊥ = cc in absurd no
+  by-count : (seen : Option Node) (part : ℕ) (b : Attempt) → ((other : ℕ → Option Bool) (place : ℕ) → node_visited c (bit_of other None) (at_used a place) e rest seen ≡ after_draw e (counted_answered (at_used a place) part rest) (draw (c.decide e (room_for c part a.room)) (bit_of other None) place)) → node_at c.spec e ≡ seen → (d : Draw Choice) → draw (c.decide e (room_for c part a.room)) (bit_of tape fault) a.used ≡ d → after_draw e (counted_answered a part rest) d ≡ Visited.Went b → ComesAgain c (e ∷ rest) a b
+  by-count seen part b draws at (Draw.Decided (Choice.Take i) cell) drew is =
+      subst (ComesAgain c (e ∷ rest) a) (went-is _ b is) (by-cell seen (c.decide e (room_for c part a.room)) (λ q. counted_answered q part rest) (Choice.Take i) cell _ draws drew refl (λ place. refl) at)
+  by-count seen part b draws at (Draw.Decided Choice.Over cell) drew is = let no : ⊥ = cc in absurd no
+  by-count seen part b draws at (Draw.Straddled cell) drew is = let no : ⊥ = cc in absurd no
+  by-count seen part b draws at (Draw.Ended place) drew is = let no : ⊥ = cc in absurd no
+  by-count seen part b draws at (Draw.Failed place) drew is = let no : ⊥ = cc in absurd no
 
   by-atom : (word : List ℕ) (b : Attempt) → node_at c.spec e ≡ Some (Node.Atom word) → (room : ℕ) → a.room ≡ room → atom_visited a rest room ≡ Visited.Went b → ComesAgain c (e ∷ rest) a b
   by-atom word b at zero left is = let no : ⊥ = cc in absurd no
   by-atom word b at (suc room) left is = subst (ComesAgain c (e ∷ rest) a) (went-is _ b is) (by-none (Some (Node.Atom word)) _ refl (λ other place. ap (atom_visited (at_used a place) rest) left) at)
 
-  by-node : (b : Attempt) (node : Option Node) → node_at c.spec e ≡ node → node_visited c (bit_of tape fault) a e rest node ≡ Visited.Went b → ComesAgain c (e ∷ rest) a b
+  by-node : (b : Attempt) (seen : Option Node) → node_at c.spec e ≡ seen → node_visited c (bit_of tape fault) a e rest seen ≡ Visited.Went b → ComesAgain c (e ∷ rest) a b
   by-node b None at is = subst (ComesAgain c (e ∷ rest) a) (went-is _ b is) (by-none None _ refl (λ other place. refl) at)
   by-node b (Some (Node.Empty word)) at is = subst (ComesAgain c (e ∷ rest) a) (went-is _ b is) (by-none (Some (Node.Empty word)) _ refl (λ other place. refl) at)
   by-node b (Some (Node.Atom word)) at is = by-atom word b at a.room refl is

@@ -24,7 +24,8 @@ pub record MadeShape : Type 0 where
   pub tokens : List Token
   pub cells : List Cell
 
--- A drawing has a session, the made shape that waits for its labels, if one does, its limits, what it counted, and its ending, if it ended.
+-- A drawing has a session, the made shape that waits for its labels, if one does, its limits, what
+-- it counted, and its ending, if it ended.
 pub record DrawingState : Type 0 where
   pub session : SessionState
   pub waiting : Option MadeShape
@@ -60,14 +61,16 @@ ending_of (ending.Undecided straddle) = run.Ending.Undecided (open_of straddle)
 ending_of ending.TurnLimit = run.Ending.TurnLimit
 ending_of ending.ReadFault = run.Ending.ReadFault
 
--- The attempt of a session where these nodes are pending, so many bits being used; none is under way where no node is.
+-- The attempt of a session where these nodes are pending, so many bits being used; none is under
+-- way where no node is.
 abbrev pub running : SessionState → (pending : List ℕ) → (used : ℕ) → Attempt
 running st [] used = no_attempt used
 running st (e ∷ es) used = attempt_of st used
 
 -- The attempt of a made shape: nothing is pending, and the room is that which its making left.
 abbrev pub attempt_made : MadeShape → (room used : ℕ) → Attempt
-attempt_made shape room used = record { pending = []; tokens = shape.tokens; cells = shape.cells; room = room; used = used }
+attempt_made shape room used =
+    record { pending = []; tokens = shape.tokens; cells = shape.cells; room = room; used = used }
 
 -- The attempt of a session, unless a made shape waits for its labels: then it is that of the shape.
 abbrev pub attempt_unless : Option MadeShape → SessionState → (used : ℕ) → Attempt
@@ -94,7 +97,8 @@ pub record AreLimits (l : Limits) : Type 0 where
   pub some_turns : 1 ≤ l.turns
   pub turns : l.turns ≤ 50000000
 
--- A shape waits in labelled mode, while the session is at rest; it is the ideal one for all numbers in its cells, which are cells, and of at least the least size.
+-- A shape waits in labelled mode, while the session is at rest; it is the ideal one for all numbers
+-- in its cells, which are cells, and of at least the least size.
 pub record Waits (s : Spec) (x : Fraction) (d : DrawingState) (shape : MadeShape) : Type 0 where
   pub labelled : s.mode ≡ Mode.Labelled
   pub rests : d.session.pending ≡ []
@@ -102,7 +106,9 @@ pub record Waits (s : Spec) (x : Fraction) (d : DrawingState) (shape : MadeShape
   pub least : d.limits.min ≤ size_of shape.tokens
   pub cells : AreCells shape.cells
 
--- A drawing belongs to a specification and x where its session does, a shape that waits for its labels is one that may, the session's whole room is the greatest size, nothing stopped the session while the drawing goes on, and the counts are within the limits.
+-- A drawing belongs to a specification and x where its session does, a shape that waits for its
+-- labels is one that may, the session's whole room is the greatest size, nothing stopped the
+-- session while the drawing goes on, and the counts are within the limits.
 pub record DrawingBelongs (s : Spec) (x : Fraction) (d : DrawingState) : Type 0 where
   pub session : SessionBelongs s x d.session
   pub waits : IfSome d.waiting (Waits s x d)

@@ -22,14 +22,18 @@ AreEntriesOf [] [] = Unit {0}
 AreEntriesOf (k ∷ ks) (e ∷ es) = IsEntryOf k e × AreEntriesOf ks es
 AreEntriesOf _ _ = ⊥
 
--- From exactly these numbers, none being left, class 0 makes an object within the room, and the numbers after those of the object give it its labels: none in unlabelled mode, the ideal labels in labelled mode.
-pub record MakesOf (s : Spec) (x : Fraction) (room : ℕ) (us : List Fraction) (k : Kept) : Type 0 where
+-- From exactly these numbers, none being left, class 0 makes an object within the room, and the
+-- numbers after those of the object give it its labels: none in unlabelled mode, the ideal labels
+-- in labelled mode.
+pub record MakesOf (s : Spec) (x : Fraction) (room : ℕ) (us : List Fraction)
+    (k : Kept) : Type 0 where
   pub room_left : ℕ
   pub after : List Fraction
   pub makes : ClassMakes s x 0 room us (Just k.object room_left) after
   pub labels : KeepsLabels s.mode (size k.object) after k.labels []
 
--- An entry is made of its own cells where it is of one kept object, which is made of every list of numbers in the entry's cells.
+-- An entry is made of its own cells where it is of one kept object, which is made of every list of
+-- numbers in the entry's cells.
 pub record IsMadeOfItsCells (s : Spec) (x : Fraction) (room : ℕ) (e : Entry) : Type 0 where
   pub kept : Kept
   pub entry : IsEntryOf kept e
@@ -43,7 +47,10 @@ AreMadeOfTheirCells s x room es = AllByRecursion (IsMadeOfItsCells s x room) es
 abbrev pub window_of : Limits → Window
 window_of l = record { min = l.min; max = l.max; count = l.count }
 
--- A course follows the ideal run where its cells are those of finished attempts and others after them, and for all numbers in the cells of the finished attempts, and any further numbers, the ideal run keeps the objects of its entries, throws away as many attempts, and leaves the further numbers. Each entry is made of its own cells.
+-- A course follows the ideal run where its cells are those of finished attempts and others after
+-- them, and for all numbers in the cells of the finished attempts, and any further numbers, the
+-- ideal run keeps the objects of its entries, throws away as many attempts, and leaves the further
+-- numbers. Each entry is made of its own cells.
 pub record Follows (s : Spec) (x : Fraction) (limits : Limits) (c : Course) : Type 0 where
   pub finished : List Cell
   pub others : List Cell
@@ -51,10 +58,12 @@ pub record Follows (s : Spec) (x : Fraction) (limits : Limits) (c : Course) : Ty
   pub kept : List Kept
   pub entries : AreEntriesOf kept c.entries
   pub number : length kept ≡ c.state.kept
-  pub run : (us rest : List Fraction) → AreInCells us finished → IdealRun s x (window_of limits) (us ++ rest) kept c.state.thrown rest
+  pub run : (us rest : List Fraction) → AreInCells us finished → IdealRun s x (window_of limits)
+      (us ++ rest) kept c.state.thrown rest
   pub own : AreMadeOfTheirCells s x limits.max c.entries
 
--- A course goes as ideal runs do where it follows the ideal run and, while it hasn't ended, the other cells are those of the attempt under way.
+-- A course goes as ideal runs do where it follows the ideal run and, while it hasn't ended, the
+-- other cells are those of the attempt under way.
 pub record Goes (s : Spec) (x : Fraction) (limits : Limits) (c : Course) : Type 0 where
   pub follows : Follows s x limits c
   pub under_way : c.state.ending ≡ None → follows.others ≡ c.state.attempt.cells

@@ -18,19 +18,31 @@ abbrev pub with_cells : MadeShape → List Cell → MadeShape
 with_cells shape more = record shape { cells = shape.cells ++ more }
 
 -- A labelling was cut short: the drawing ends, and the shape still waits.
-abbrev pub Stops : Ending → MadeShape → (before : DrawingState) → Turned → (now : DrawingState) → Type 0
-Stops ending shape before answer now = (answer ≡ Finished ending) × (now ≡ ended_by (counted (waiting_with before shape)) ending)
+abbrev pub Stops : Ending → MadeShape → (before : DrawingState) → Turned → (now : DrawingState)
+    → Type 0
+Stops ending shape before answer now =
+    (answer ≡ Finished ending) × (now ≡ ended_by (counted (waiting_with before shape)) ending)
 
--- What a labelling's answer does with the shape that was to be labelled, so many bits being used: with all labels it is kept, its cells followed by those of the labels; else it still waits, and the drawing ends, unless memory ran out.
-abbrev pub SettlesLabels : Labelled → MadeShape → (used : ℕ) → (before : DrawingState) → Turned → (now : DrawingState) → Type 0
-SettlesLabels (labelled.Labels labels cells) shape used before answer now = Keeps (with_cells shape cells.items) (Some labels) used (counted before) answer now
-SettlesLabels (labelled.Straddles m cell) shape used before answer now = Stops (Undecided (straddle.Label m cell)) shape before answer now
+-- What a labelling's answer does with the shape that was to be labelled, so many bits being used:
+-- with all labels it is kept, its cells followed by those of the labels; else it still waits, and
+-- the drawing ends, unless memory ran out.
+abbrev pub SettlesLabels : Labelled → MadeShape → (used : ℕ) → (before : DrawingState) → Turned
+    → (now : DrawingState) → Type 0
+SettlesLabels (labelled.Labels labels cells) shape used before answer now =
+    Keeps (with_cells shape cells.items)
+    (Some labels) used (counted before) answer now
+SettlesLabels (labelled.Straddles m cell) shape used before answer now =
+    Stops (Undecided (straddle.Label m cell)) shape before answer now
 SettlesLabels labelled.Ended shape used before answer now = Stops TapeEnded shape before answer now
-SettlesLabels labelled.ReadFault shape used before answer now = Stops ReadFault shape before answer now
-SettlesLabels labelled.OutOfMemory shape used before answer now = (answer ≡ OutOfMemory) × (now ≡ waiting_with before shape)
+SettlesLabels labelled.ReadFault shape used before answer now =
+    Stops ReadFault shape before answer now
+SettlesLabels labelled.OutOfMemory shape used before answer now =
+    (answer ≡ OutOfMemory) × (now ≡ waiting_with before shape)
 
--- A turn that labels this shape, taken out of the drawing before: the answer is that of a labelling, settled.
-pub record IsLabelTurn (bits : Option (ℕ → Option Bool)) (shape : MadeShape) (before : DrawingState) (start : ℕ) (answer : Turned) (now : DrawingState) (used : ℕ) : Type 0 where
+-- A turn that labels this shape, taken out of the drawing before: the answer is that of a
+-- labelling, settled.
+pub record IsLabelTurn (bits : Option (ℕ → Option Bool)) (shape : MadeShape) (before : DrawingState)
+    (start : ℕ) (answer : Turned) (now : DrawingState) (used : ℕ) : Type 0 where
   pub told : Labelled
   pub labelling : IsLabelling bits (size_of shape.tokens) start told used
   pub ideal : OnLabels told (λ labels cells. AreIdealLabels (size_of shape.tokens) labels cells)

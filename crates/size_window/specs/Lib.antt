@@ -7,3 +7,4 @@ pub mod LabelTurn
 pub mod Trace
 pub mod Redrawn
 pub mod InOrder
+pub mod TapeEnd

@@ -1,4 +1,5 @@
--- A drawing as a function of the tape's bits: its state, one turn, and the state after any number of turns.
+-- A drawing as a function of the tape's bits: its state, one turn, and the state after any number
+-- of turns.
 use Rattle.std.specs.Prelude.{ℕ, zero, suc, ◌+◌, ◌-◌, Bool, true, false, nat_eq, nat_lt, List, [], ◌∷◌, ◌++◌, Option, Some, None, option_map, option_to_list, if◌then◌else◌}
 use Rattle.bz_model.specs.declared.cell.Cell.{Cell}
 use Rattle.bz_model.specs.Spec.{Mode}
@@ -28,13 +29,16 @@ pub record Limits : Type 0 where
   pub count : ℕ
   pub turns : ℕ
 
--- What a drawing is a function of. `tape` has the bit at each place, and None from the tape's end on.
+-- What a drawing is a function of. `tape` has the bit at each place, and None from the tape's end
+-- on.
 pub record Sampling : Type 0 where
   pub chooser : Chooser
   pub limits : Limits
   pub tape : ℕ → Option Bool
 
--- The kept state: the attempt under way, whether it is a made shape that awaits its labels, the counts and the ending. A shape that awaits its labels has nothing pending. Where no attempt is under way, nothing is pending, tokens and cells are empty, and the room is 0.
+-- The kept state: the attempt under way, whether it is a made shape that awaits its labels, the
+-- counts and the ending. A shape that awaits its labels has nothing pending. Where no attempt is
+-- under way, nothing is pending, tokens and cells are empty, and the room is 0.
 pub record State : Type 0 where
   pub attempt : Attempt
   pub awaits : Bool
@@ -43,7 +47,8 @@ pub record State : Type 0 where
   pub turns : ℕ
   pub ending : Option Ending
 
--- A kept object: its number from 1, the place of its first bit, its size, its tokens, its labels in token order, its cells.
+-- A kept object: its number from 1, the place of its first bit, its size, its tokens, its labels in
+-- token order, its cells.
 pub record Entry : Type 0 where
   pub number : ℕ
   pub place : ℕ
@@ -52,7 +57,8 @@ pub record Entry : Type 0 where
   pub labels : List ℕ
   pub cells : List Cell
 
--- What a turn gives: the state after it, the object that it kept, if any, and the cells of the numbers that it finished.
+-- What a turn gives: the state after it, the object that it kept, if any, and the cells of the
+-- numbers that it finished.
 pub record Turned : Type 0 where
   pub state : State
   pub entry : Option Entry
@@ -90,7 +96,8 @@ at_place st place = record st { attempt = record st.attempt { used = place } }
 abbrev pub ended : State → Ending → (place : ℕ) → State
 ended st ending place = record (at_place st place) { ending = Some ending }
 
--- The entry of the state's shape with these labels, whose cells follow those of the shape. Its first bit stands before all that its cells spell.
+-- The entry of the state's shape with these labels, whose cells follow those of the shape. Its
+-- first bit stands before all that its cells spell.
 abbrev pub entry_of : State → (labels : List ℕ) → (label_cells : List Cell) → Entry
 entry_of st labels label_cells = record {
   number = suc st.kept;
@@ -105,10 +112,13 @@ entry_of st labels label_cells = record {
 abbrev pub kept_one : State → State
 kept_one st = record (idle st) { kept = suc st.kept }
 
--- A made shape large enough is kept, or waits for labels. The cells are those that the turn finished.
+-- A made shape large enough is kept, or waits for labels. The cells are those that the turn
+-- finished.
 abbrev pub kept_or_waits : Mode → State → (finished : List Cell) → Turned
-kept_or_waits Mode.Unlabelled st finished = record { state = kept_one st; entry = Some (entry_of st [] []); cells = finished }
-kept_or_waits Mode.Labelled st finished = record { state = record st { awaits = true }; entry = None; cells = finished }
+kept_or_waits Mode.Unlabelled st finished =
+    record { state = kept_one st; entry = Some (entry_of st [] []); cells = finished }
+kept_or_waits Mode.Labelled st finished =
+    record { state = record st { awaits = true }; entry = None; cells = finished }
 
 -- A made shape below the least size is thrown away.
 abbrev pub shape_made : Sampling → State → (finished : List Cell) → Turned
@@ -128,11 +138,15 @@ added [] after = after
 added (c ∷ before) [] = []
 added (c ∷ before) (d ∷ after) = added before after
 
--- What a visit means for the drawing. Over throws the attempt away in the same turn; a stop ends the drawing.
+-- What a visit means for the drawing. Over throws the attempt away in the same turn; a stop ends
+-- the drawing.
 abbrev pub visited : Sampling → State → Visited → Turned
-visited s st (Visited.Went a) = went s (with_attempt st a) a.pending (added st.attempt.cells a.cells)
+visited s st (Visited.Went a) =
+    went s (with_attempt st a) a.pending (added st.attempt.cells a.cells)
 visited s st (Visited.Over a) = record { state = thrown_away (with_attempt st a); entry = None; cells = added st.attempt.cells a.cells }
-visited s st (Visited.Straddled node cell) = quiet (ended st (Ending.Undecided (Open.AtNode node cell)) (st.attempt.used + cell.b))
+visited s st (Visited.Straddled node cell) =
+    quiet (ended st (Ending.Undecided (Open.AtNode node cell))
+    (st.attempt.used + cell.b))
 visited s st (Visited.Ended place) = quiet (ended st Ending.TapeEnded place)
 visited s st (Visited.Failed place) = quiet (ended st Ending.ReadFault place)
 
@@ -141,14 +155,17 @@ abbrev pub shape_turn : Sampling → (bit : ℕ → Bit) → State → (pending 
 shape_turn s bit st [] = quiet (with_attempt st (begun s.chooser.spec s.limits.max st.attempt.used))
 shape_turn s bit st (e ∷ rest) = visited s st (visit s.chooser bit st.attempt)
 
--- The labelling was cut short and ends the drawing. The cells are those of the numbers that it finished.
+-- The labelling was cut short and ends the drawing. The cells are those of the numbers that it
+-- finished.
 abbrev pub cut_short : State → Ending → (finished : List Cell) → (place : ℕ) → Turned
-cut_short st ending finished place = record { state = ended st ending place; entry = None; cells = finished }
+cut_short st ending finished place =
+    record { state = ended st ending place; entry = None; cells = finished }
 
 -- What a labelling means for the drawing: the shape is kept with its labels, or the drawing ends.
 abbrev pub labelled_with : State → Labelling → Turned
 labelled_with st (Labelling.Given labels cells place) = record { state = kept_one (at_place st place); entry = Some (entry_of (at_place st place) labels cells); cells = cells }
-labelled_with st (Labelling.Straddled m cell finished place) = cut_short st (Ending.Undecided (Open.AtLabel m cell)) finished place
+labelled_with st (Labelling.Straddled m cell finished place) =
+    cut_short st (Ending.Undecided (Open.AtLabel m cell)) finished place
 labelled_with st (Labelling.Ended finished place) = cut_short st Ending.TapeEnded finished place
 labelled_with st (Labelling.Failed finished place) = cut_short st Ending.ReadFault finished place
 
@@ -158,7 +175,8 @@ label_turn bit st = labelled_with st (labelling bit (size_of st.attempt.tokens) 
 
 -- A turn that was counted.
 abbrev pub counted_turn : Sampling → (bit : ℕ → Bit) → State → Turned
-counted_turn s bit st = if st.awaits then label_turn bit st else shape_turn s bit st st.attempt.pending
+counted_turn s bit st =
+    if st.awaits then label_turn bit st else shape_turn s bit st st.attempt.pending
 
 -- The place at which the shelf fails, where it gives that many bits in the turn before.
 abbrev pub fault_place : State → Option ℕ → Option ℕ
@@ -175,7 +193,8 @@ abbrev pub turn_unless : Sampling → (fault : Option ℕ) → State → Option 
 turn_unless s fault st None = open_turn s fault st
 turn_unless s fault st (Some ending) = quiet st
 
--- One turn. `fault` is the number of bits that the shelf gives in the turn before it fails, where it fails.
+-- One turn. `fault` is the number of bits that the shelf gives in the turn before it fails, where
+-- it fails.
 abbrev pub turn : Sampling → (fault : Option ℕ) → State → Turned
 turn s fault st = turn_unless s fault st st.ending
 
@@ -196,7 +215,8 @@ one_turn_on s fault c = followed_by c (turn s fault c.state)
 abbrev pub at_start : Course
 at_start = record { state = start; entries = []; cells = [] }
 
--- After n turns from the start, where the shelf fails in the turns that `faults` says, counted from 0.
+-- After n turns from the start, where the shelf fails in the turns that `faults` says, counted from
+-- 0.
 abbrev pub after : Sampling → (faults : ℕ → Option ℕ) → (n : ℕ) → Course
 after s faults zero = at_start
 after s faults (suc n) = one_turn_on s (faults n) (after s faults n)

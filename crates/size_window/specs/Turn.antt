@@ -41,12 +41,14 @@ abbrev pub told_entry : Turned → Option run.Entry
 told_entry (Kept e) = Some (entry_of e)
 told_entry _ = None
 
--- The number of bits that the shelf gave before it failed, where this answer ends with a failed read a drawing that hadn't ended.
+-- The number of bits that the shelf gave before it failed, where this answer ends with a failed
+-- read a drawing that hadn't ended.
 abbrev pub told_fault : Option Ending → Turned → (given : ℕ) → Option ℕ
 told_fault None (Finished ReadFault) given = Some given
 told_fault _ _ given = None
 
--- A drawing goes on to a turn that is counted: it hasn't ended, fewer objects than wanted are kept, and fewer turns than the limit were counted.
+-- A drawing goes on to a turn that is counted: it hasn't ended, fewer objects than wanted are kept,
+-- and fewer turns than the limit were counted.
 pub record GoesOn (d : DrawingState) : Type 0 where
   pub going : d.ending ≡ None
   pub fewer : d.kept ≢ d.limits.count
@@ -58,27 +60,40 @@ is_fault (Finished ReadFault) None = true
 is_fault _ ending = false
 
 -- Where the tape's end ended the drawing in this turn, these bits end at the place used.
-abbrev pub EndsThere : Turned → (ending : Option Ending) → (used : ℕ) → (bits : ℕ → Option Bool) → Type 0
+abbrev pub EndsThere : Turned → (ending : Option Ending) → (used : ℕ) → (bits : ℕ → Option Bool)
+    → Type 0
 EndsThere (Finished TapeEnded) None used bits = bits used ≡ None
 EndsThere _ ending used bits = Unit {0}
 
 -- A drawing that had ended answers its ending again, and nothing changes.
-pub record Rests (ending : Ending) (before : DrawingState) (start : ℕ) (answer : Turned) (now : DrawingState) (used : ℕ) : Type 0 where
+pub record Rests (ending : Ending) (before : DrawingState) (start : ℕ) (answer : Turned)
+    (now : DrawingState) (used : ℕ) : Type 0 where
   pub told : answer ≡ Finished ending
   pub same : now ≡ before
   pub unused : used ≡ start
 
--- A drawing's turn: there are a state, an entry and finished cells such that the state is that of the drawing now, and the entry is the one told. A drawing that had ended rests. A course that goes as ideal runs do still does with this turn more. The turn was given as many bits as were used, the tape's own where they are told; and over every tape that has these bits there, and ends where the answer says that it did, it is the turn that they fix, for each chooser by the table.
-pub record IsTurn (s : Spec) (x : Fraction) (F : ℕ) (table : (level node : ℕ) → Bounds) (bits : Option (ℕ → Option Bool)) (before : DrawingState) (start : ℕ) (answer : Turned) (now : DrawingState) (used : ℕ) : Type 0 where
+-- A drawing's turn: there are a state, an entry and finished cells such that the state is that of
+-- the drawing now, and the entry is the one told. A drawing that had ended rests. A course that
+-- goes as ideal runs do still does with this turn more. The turn was given as many bits as were
+-- used, the tape's own where they are told; and over every tape that has these bits there, and ends
+-- where the answer says that it did, it is the turn that they fix, for each chooser by the table.
+pub record IsTurn (s : Spec) (x : Fraction) (F : ℕ) (table : (level node : ℕ) → Bounds)
+    (bits : Option (ℕ → Option Bool)) (before : DrawingState) (start : ℕ) (answer : Turned)
+    (now : DrawingState) (used : ℕ) : Type 0 where
   pub turned : run.Turned
   pub state : turned.state ≡ state_of now used
   pub entry : turned.entry ≡ told_entry answer
-  pub rests : (ending : Ending) → before.ending ≡ Some ending → Rests ending before start answer now used
-  pub goes : (c : Course) → c.state ≡ state_of before start → Goes s x before.limits c → Goes s x before.limits (followed_by c turned)
+  pub rests : (ending : Ending) → before.ending ≡ Some ending
+      → Rests ending before start answer now used
+  pub goes : (c : Course) → c.state ≡ state_of before start → Goes s x before.limits c
+      → Goes s x before.limits (followed_by c turned)
   pub given : List Bool
   pub gave : Gave bits start used given
   pub ended : IfSome bits (EndsThere answer before.ending used)
-  pub exact : (tape : ℕ → Option Bool) → HasBits tape start given → EndsThere answer before.ending used tape → (c : Chooser) → ChoosesBy s F table c → turned ≡ turn (record { chooser = c; limits = before.limits; tape = tape }) (told_fault before.ending answer (used - start)) (state_of before start)
+  pub exact : (tape : ℕ → Option Bool) → HasBits tape start given
+      → EndsThere answer before.ending used tape → (c : Chooser) → ChoosesBy s F table c
+      → turned ≡ turn (record { chooser = c; limits = before.limits; tape = tape })
+      (told_fault before.ending answer (used - start)) (state_of before start)
 
 -- How many objects an answer keeps, and their atoms.
 abbrev pub kept_by : Turned → ℕ
@@ -116,7 +131,9 @@ pub record IsCounted (before : DrawingState) (answer : Turned) (now : DrawingSta
   pub thrown : (now.thrown ≡ before.thrown) ⊎ ((answer ≡ Going) × (now.thrown ≡ before.thrown + 1))
   pub ending : now.ending ≡ ending_by before.ending answer
 
--- An entry of a drawing that kept so many objects before, so many bits being used now: it has the next number, its first bit stands before all that its cells spell, its size is within the window, and its cells are cells.
+-- An entry of a drawing that kept so many objects before, so many bits being used now: it has the
+-- next number, its first bit stands before all that its cells spell, its size is within the window,
+-- and its cells are cells.
 pub record IsNext (limits : Limits) (kept used : ℕ) (e : Entry) : Type 0 where
   pub number : e.number ≡ kept + 1
   pub place : e.place ≡ used - bits_in e.cells.items
@@ -124,7 +141,8 @@ pub record IsNext (limits : Limits) (kept used : ℕ) (e : Entry) : Type 0 where
   pub greatest : size_of e.shape.items ≤ limits.max
   pub cells : AreCells e.cells.items
 
--- The labels of an entry, in labelled mode: they are there, and are 1 to the number of its atoms in some order.
+-- The labels of an entry, in labelled mode: they are there, and are 1 to the number of its atoms in
+-- some order.
 pub record AreLabels (atoms : ℕ) (told : Option (List ℕ)) : Type 0 where
   pub labels : List ℕ
   pub there : told ≡ Some labels
@@ -141,26 +159,31 @@ IfKept (Kept e) P = P e
 IfKept _ P = Unit {0}
 
 -- The bounds told are those of level 6, and the cell is one of 60 bits.
-pub record AreLevelSix (table : (level node : ℕ) → Bounds) (node : ℕ) (cell : Cell) (lo hi : ℕ) : Type 0 where
+pub record AreLevelSix (table : (level node : ℕ) → Bounds) (node : ℕ) (cell : Cell)
+    (lo hi : ℕ) : Type 0 where
   pub lower : lo ≡ (table 6 node).lo
   pub upper : hi ≡ (table 6 node).hi
   pub is_cell : IsCell cell.k cell.b
   pub bits : cell.b ≡ 60
 
--- The bits that a turn gives to numbers of nodes: none where a shape waits for its labels, else all.
+-- The bits that a turn gives to numbers of nodes: none where a shape waits for its labels, else
+-- all.
 abbrev pub node_bits : Option MadeShape → (bits : ℕ) → ℕ
 node_bits None bits = bits
 node_bits (Some shape) bits = 0
 
--- The most bits that a turn takes: those of one number for each atom of a shape that waits for its labels, else those of one number.
+-- The most bits that a turn takes: those of one number for each atom of a shape that waits for its
+-- labels, else those of one number.
 abbrev pub most_bits : Option MadeShape → ℕ
 most_bits None = 60
 most_bits (Some shape) = 60 * size_of shape.tokens
 
 -- What an answer tells of a number left open.
 abbrev pub TellsOpen : (table : (level node : ℕ) → Bounds) → Turned → Type 0
-TellsOpen table (Finished (Undecided (straddle.Node node cell lo hi))) = AreLevelSix table node.0 cell lo hi
-TellsOpen table (Finished (Undecided (straddle.Label m cell))) = (2 ≤ m) × IsCell cell.k cell.b × (cell.b ≡ 60)
+TellsOpen table (Finished (Undecided (straddle.Node node cell lo hi))) =
+    AreLevelSix table node.0 cell lo hi
+TellsOpen table (Finished (Undecided (straddle.Label m cell))) = (2 ≤ m)
+    × IsCell cell.k cell.b × (cell.b ≡ 60)
 TellsOpen table _ = Unit {0}
 
 -- What a visit's answer leaves to do, by a table of bounds.
@@ -168,7 +191,8 @@ abbrev pub outcome_of : (table : (level node : ℕ) → Bounds) → Stepped → 
 outcome_of table stepped.Moved = outcome.Moved
 outcome_of table stepped.Made = outcome.Made
 outcome_of table stepped.Overshot = outcome.Over
-outcome_of table (stepped.Straddles node cell) = outcome.Stopped (Undecided (straddle.Node node cell (table 6 node.0).lo (table 6 node.0).hi))
+outcome_of table (stepped.Straddles node cell) =
+    outcome.Stopped (Undecided (straddle.Node node cell (table 6 node.0).lo (table 6 node.0).hi))
 outcome_of table stepped.Ended = outcome.Stopped TapeEnded
 outcome_of table stepped.ReadFault = outcome.Stopped ReadFault
 outcome_of table stepped.OutOfMemory = outcome.OutOfMemory
@@ -178,18 +202,32 @@ abbrev pub IfStraddles : Stepped → (ExprId → Type 0) → Type 0
 IfStraddles (stepped.Straddles node cell) P = P node
 IfStraddles _ P = Unit {0}
 
--- A turn that needs no bit: an ended drawing answers its ending again; the wanted count ends a drawing with Done, the limit of turns with TurnLimit; where no shape waits and nothing is pending an attempt begins, or memory runs out. Else there is no answer: a shape is to be labelled, or a node to be visited.
-pub data IsIdleTurn (before : DrawingState) (answer : Option Turned) (now : DrawingState) : Type 0 where
-  again : (ending : Ending) → before.ending ≡ Some ending → answer ≡ Some (Finished ending) → now ≡ before → IsIdleTurn before answer now
-  done : before.ending ≡ None → before.kept ≡ before.limits.count → answer ≡ Some (Finished Done) → now ≡ ended_by before Done → IsIdleTurn before answer now
-  turn_limit : before.ending ≡ None → before.kept ≢ before.limits.count → before.turns ≡ before.limits.turns → answer ≡ Some (Finished TurnLimit) → now ≡ ended_by before TurnLimit → IsIdleTurn before answer now
-  begins : GoesOn before → before.waiting ≡ None → before.session.pending ≡ [] → answer ≡ Some Going → now ≡ begun_one before → IsIdleTurn before answer now
-  no_memory : GoesOn before → before.waiting ≡ None → before.session.pending ≡ [] → answer ≡ Some OutOfMemory → now ≡ before → IsIdleTurn before answer now
-  labels : GoesOn before → before.waiting ≢ None → answer ≡ None → now ≡ before → IsIdleTurn before answer now
-  visits : GoesOn before → before.waiting ≡ None → before.session.pending ≢ [] → answer ≡ None → now ≡ before → IsIdleTurn before answer now
+-- A turn that needs no bit: an ended drawing answers its ending again; the wanted count ends a
+-- drawing with Done, the limit of turns with TurnLimit; where no shape waits and nothing is pending
+-- an attempt begins, or memory runs out. Else there is no answer: a shape is to be labelled, or a
+-- node to be visited.
+pub data IsIdleTurn (before : DrawingState) (answer : Option Turned)
+    (now : DrawingState) : Type 0 where
+  again : (ending : Ending) → before.ending ≡ Some ending → answer ≡ Some (Finished ending)
+      → now ≡ before → IsIdleTurn before answer now
+  done : before.ending ≡ None → before.kept ≡ before.limits.count → answer ≡ Some (Finished Done)
+      → now ≡ ended_by before Done → IsIdleTurn before answer now
+  turn_limit : before.ending ≡ None → before.kept ≢ before.limits.count
+      → before.turns ≡ before.limits.turns → answer ≡ Some (Finished TurnLimit)
+      → now ≡ ended_by before TurnLimit → IsIdleTurn before answer now
+  begins : GoesOn before → before.waiting ≡ None → before.session.pending ≡ [] → answer ≡ Some Going
+      → now ≡ begun_one before → IsIdleTurn before answer now
+  no_memory : GoesOn before → before.waiting ≡ None → before.session.pending ≡ []
+      → answer ≡ Some OutOfMemory → now ≡ before → IsIdleTurn before answer now
+  labels : GoesOn before → before.waiting ≢ None → answer ≡ None → now ≡ before
+      → IsIdleTurn before answer now
+  visits : GoesOn before → before.waiting ≡ None → before.session.pending ≢ [] → answer ≡ None
+      → now ≡ before → IsIdleTurn before answer now
 
--- A made shape is kept with these labels, so many bits being used now: the answer is its entry, with the shape's tokens and cells.
-pub record Keeps (shape : MadeShape) (labels : Option (List ℕ)) (used : ℕ) (before : DrawingState) (answer : Turned) (now : DrawingState) : Type 0 where
+-- A made shape is kept with these labels, so many bits being used now: the answer is its entry,
+-- with the shape's tokens and cells.
+pub record Keeps (shape : MadeShape) (labels : Option (List ℕ)) (used : ℕ) (before : DrawingState)
+    (answer : Turned) (now : DrawingState) : Type 0 where
   pub entry : Entry
   pub told : answer ≡ Kept entry
   pub number : entry.number ≡ before.kept + 1
@@ -200,23 +238,32 @@ pub record Keeps (shape : MadeShape) (labels : Option (List ℕ)) (used : ℕ) (
   pub now_is : now ≡ kept_one_more before (size_of shape.tokens)
 
 -- A made shape is kept in unlabelled mode, and waits for its labels in labelled mode.
-abbrev pub KeepsOrWaits : Mode → MadeShape → (used : ℕ) → (before : DrawingState) → Turned → (now : DrawingState) → Type 0
+abbrev pub KeepsOrWaits : Mode → MadeShape → (used : ℕ) → (before : DrawingState) → Turned
+    → (now : DrawingState) → Type 0
 KeepsOrWaits Mode.Unlabelled shape used before answer now = Keeps shape None used before answer now
-KeepsOrWaits Mode.Labelled shape used before answer now = (answer ≡ Going) × (now ≡ waiting_with before shape)
+KeepsOrWaits Mode.Labelled shape used before answer now =
+    (answer ≡ Going) × (now ≡ waiting_with before shape)
 
 -- An attempt is thrown away.
 abbrev pub Throws : (before : DrawingState) → Turned → (now : DrawingState) → Type 0
 Throws before answer now = (answer ≡ Going) × (now ≡ thrown_one (counted before))
 
--- What is left to do after a visit is done, in a mode, so many bits being used. A made shape below the least size is thrown away.
-abbrev pub Settles : Mode → Outcome → (used : ℕ) → (before : DrawingState) → Turned → (now : DrawingState) → Type 0
+-- What is left to do after a visit is done, in a mode, so many bits being used. A made shape below
+-- the least size is thrown away.
+abbrev pub Settles : Mode → Outcome → (used : ℕ) → (before : DrawingState) → Turned
+    → (now : DrawingState) → Type 0
 Settles mode outcome.Moved used before answer now = (answer ≡ Going) × (now ≡ counted before)
-Settles mode outcome.Made used before answer now = ((size_of before.session.tokens < before.limits.min) × Throws before answer now) ⊎ ((before.limits.min ≤ size_of before.session.tokens) × KeepsOrWaits mode (shape_in before.session) used (counted (taken_out before)) answer now)
+Settles mode outcome.Made used before answer now =
+    ((size_of before.session.tokens < before.limits.min)
+    × Throws before answer now) ⊎ ((before.limits.min ≤ size_of before.session.tokens)
+    × KeepsOrWaits mode (shape_in before.session) used (counted (taken_out before)) answer now)
 Settles mode outcome.Over used before answer now = Throws before answer now
-Settles mode (outcome.Stopped ending) used before answer now = (answer ≡ Finished ending) × (now ≡ ended_by (counted before) ending)
+Settles mode (outcome.Stopped ending) used before answer now =
+    (answer ≡ Finished ending) × (now ≡ ended_by (counted before) ending)
 Settles mode outcome.OutOfMemory used before answer now = (answer ≡ OutOfMemory) × (now ≡ before)
 
--- A drawing is able to settle a visit: where a shape was made nothing is pending, and the counts have room.
+-- A drawing is able to settle a visit: where a shape was made nothing is pending, and the counts
+-- have room.
 pub record MaySettle (o : Outcome) (d : DrawingState) : Type 0 where
   pub none_waits : d.waiting ≡ None
   pub made : o ≡ outcome.Made → d.session.pending ≡ []

@@ -8,10 +8,11 @@ ghost use Rattle.bz_model.specs.Spec.{Spec};
 ghost use Rattle.class_system.specs.Sound.{IsSound};
 ghost use Rattle.well_founded.specs.EmptyObjects.{has_empty};
 ghost use Rattle.shape_sampler.specs.Answer.{ChoosesBy};
-ghost use Rattle.size_window.specs.RunByBits.{Limits, Sampling, at_start, after};
-ghost use Rattle.size_window.specs.Trace.{IsSpelled, TracesStart, TurnsContinue};
-ghost use Rattle.size_window.specs.Redrawn.{AreRedrawn};
+ghost use Rattle.size_window.specs.RunByBits.{Limits, Sampling, Course, at_start, after};
+ghost use Rattle.size_window.specs.Trace.{IsSpelled, IsTrace, TracesStart, TurnsContinue, ToldTracesAreCourses, EndedTracesAreOne};
+ghost use Rattle.size_window.specs.Redrawn.{AreRedrawn, AreEntriesOfTrace};
 ghost use Rattle.size_window.specs.InOrder.{IsInOrder};
+ghost use Rattle.size_window.specs.TapeEnd.{UsesFewBits, FilesEndRightly, SeedsNeverEnd};
 ghost use Rattle.size_window.specs.Ideally.{DecidesIdeally, chooser_of};
 ghost use Rattle.size_window.specs.Follows.{Follows, Goes};
 
@@ -81,4 +82,33 @@ pub fn each_entry_is_redrawn_from_its_cells()
 /// there are as many as the course kept.
 pub fn the_entries_of_a_course_are_in_order()
     ensures { (s : Sampling) (faults : ℕ → Option ℕ) (n : ℕ) → IsInOrder s.limits (after s faults n) }
+{}
+
+/// A course uses few bits: at most 60 for each number that a turn draws, which are one, or those of
+/// the atoms of a shape that is labelled.
+pub fn a_course_uses_few_bits()
+    ensures { (s : Sampling) (faults : ℕ → Option ℕ) (n : ℕ)
+        → UsesFewBits s.limits (after s faults n) }
+{}
+
+/// Over a file a trace ends with the tape's end only where all bits are used, and over a seed it never
+/// does.
+pub fn the_tape_ends_where_its_bits_are_used()
+    ensures files { FilesEndRightly }
+    ensures seeds { SeedsNeverEnd }
+{}
+
+/// The entries of a trace from a sound specification, whether its tape is known or not, are made again
+/// from their own cells, for each chooser by the table, and are in order.
+pub fn the_entries_of_a_trace_are_made_again()
+    ensures { (s : Spec) (x : Fraction) (F : ℕ) (table : (level node : ℕ) → Bounds) (limits : Limits)
+        (told : Option (ℕ → Option Bool)) (turns most : ℕ) (c : Course) → IsSound s
+        → IsTrace s x F table limits told turns most c → AreEntriesOfTrace s F table limits c }
+{}
+
+/// Where the tape's bits are told and no read failed at its end, a trace is the course over them in
+/// which none fails; and two such traces that have both ended are one.
+pub fn a_told_trace_is_the_course_of_its_tape()
+    ensures courses { ToldTracesAreCourses }
+    ensures ended { EndedTracesAreOne }
 {}

@@ -32,7 +32,8 @@ fn token_of(word: &str) -> Result<Token, Fail> {
     }
 }
 
-fn shape_of(alloc: Global, text: &str) -> Result<Shape, Fail> {
+/// The tokens as they are written.
+pub fn shape_of(alloc: Global, text: &str) -> Result<Shape, Fail> {
     let mut shape = Shape::new(alloc);
     for word in text.split_whitespace() {
         shape.push(token_of(word)?)?;

@@ -49,8 +49,16 @@ fn fast_bounds_are_nearer_close_to_the_singularity(rt: HostRuntime) -> Result<()
     let spec = "unlabelled\nB = E + Z*B*B\n";
     let tape = b"\x80\x41\x89\x37\x4b\xc6\xa7\xef".as_slice();
     for (words, first, low) in [
-        ("sample s 249999/1000000 --tape t --fast", "boltzmann fast", 561826300792643),
-        ("sample s 249999/1000000 --tape t", "boltzmann 2", 561825693332121_u64),
+        (
+            "sample s 249999/1000000 --tape t --fast",
+            "boltzmann fast",
+            561826300792643,
+        ),
+        (
+            "sample s 249999/1000000 --tape t",
+            "boltzmann 2",
+            561825693332121_u64,
+        ),
     ] {
         let want = format!(in rt.alloc();
             "{first}\n{BINARY}window 0 1000\nbase B 562309861896779\nundecided node 5 cell 577613673808030334/60 within {low} 561826469650089\nend undecided kept 0 thrown 0 bits 60 turns 2\n"
@@ -64,12 +72,24 @@ fn fast_bounds_are_nearer_close_to_the_singularity(rt: HostRuntime) -> Result<()
 fn no_fast_vector(rt: HostRuntime) -> Result<(), Fail> {
     let spec = "unlabelled\nC = Z + Z*Seq>=64(C)\n";
     for (words, status, want) in [
-        ("sample s 1/2 --fast --tape t", 12, "refused fast candidates 48\n"),
-        ("sample s 1/2 --fast --seed 1 --fraction 40", 12, "refused fast candidates 40\n"),
+        (
+            "sample s 1/2 --fast --tape t",
+            12,
+            "refused fast candidates 48\n",
+        ),
+        (
+            "sample s 1/2 --fast --seed 1 --fraction 40",
+            12,
+            "refused fast candidates 40\n",
+        ),
         ("sample s 1/2 --fast --tape t --fast", 2, "refused words\n"),
         ("sample s 1/2 --tape --fast", 2, "refused words\n"),
         ("oracle s 1/2 --fast", 2, "refused words\n"),
-        ("sample s 1/1 --fast --tape t", 4, "refused upper candidates 126 proposals 0\n"),
+        (
+            "sample s 1/1 --fast --tape t",
+            4,
+            "refused upper candidates 126 proposals 0\n",
+        ),
     ] {
         compare(&rt, words, spec, b"\x80", status, want)?;
     }

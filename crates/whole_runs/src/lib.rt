@@ -12,6 +12,8 @@ mod fast;
 #[cfg(test)]
 mod faults;
 #[cfg(test)]
+mod objects;
+#[cfg(test)]
 mod texts;
 #[cfg(test)]
 mod whole;

@@ -13,7 +13,7 @@ use Rattle.sample_command.proofs.Turns.{costs-from-none}
 use Rattle.bulk_command.specs.BulkCommand.{bulk_limits}
 use Rattle.bulk_command.specs.NoFiles.{empty_files, no_faults}
 use Rattle.bulk_command.specs.Running.{IsRunning}
-use Rattle.bulk_command.proofs.RunEnds.{starts-running, no-run, run-broken, run-ends}
+use Rattle.bulk_command.proofs.RunEnds.{bulk-limits, starts-running, no-run, run-broken, run-ends}
 use Rattle.bulk_command.proofs.running.drawn.Goals as goal
 
 -- there is no memory for the levels
@@ -48,11 +48,12 @@ returns-in-Ok-draw_to_the_end-clause-ends g c =
     let over_base = subst (λ (m : Memory). IsRunning c.args.founded.now (ratio m.num m.den) g.row.F (level_bounds_from (setting m.spec m.num m.den g.row.F) m.start m.base) d.limits tape.source now used raised) c.in-Ok.ensures.made (c.draw_to_the_end.ensures.under_way begun) in
     let over_limits = subst (λ (l : Limits). IsRunning c.args.founded.now (ratio c.args.x.num c.args.x.den) g.row.F (level_bounds t c.args.base) l tape.source now used raised) c.in-Ok-new.ensures.limits over_base in
     let over = subst (λ (z : TapeState). IsRunning c.args.founded.now (ratio c.args.x.num c.args.x.den) g.row.F (level_bounds t c.args.base) (bulk_limits c.args.n) z.source now used raised) c.seeded-tape.ensures.new over_limits in
-    let end_base = subst (λ (m : Memory). IsAtEnd (level_bounds_from (setting m.spec m.num m.den g.row.F) m.start m.base) d.limits now used ending) c.in-Ok.ensures.made c.in-Ok-draw_to_the_end.ensures.ended in
-    let end = subst (λ (l : Limits). IsAtEnd (level_bounds t c.args.base) l now used ending) c.in-Ok-new.ensures.limits end_base in
+    let end_base = subst (λ (m : Memory). IsAtEnd (level_bounds_from (setting m.spec m.num m.den g.row.F) m.start m.base) d.limits now ending) c.in-Ok.ensures.made c.in-Ok-draw_to_the_end.ensures.ended in
+    let end = subst (λ (l : Limits). IsAtEnd (level_bounds t c.args.base) l now ending) c.in-Ok-new.ensures.limits end_base in
     let reads = subst (λ (z : TapeState). CountsFault (has_failed now.ending) z.source no_faults no_faults) c.seeded-tape.ensures.new c.draw_to_the_end.ensures.reads in
     let few = costs-from-none memo.raised raised c.args.steps.now c.draw_to_the_end.new.steps unraised c.draw_to_the_end.ensures.levels c.draw_to_the_end.ensures.oracle.ticks in
-    run-ends c.args.n t c.args.base chosen now used raised c.args.steps.now c.draw_to_the_end.new.steps few over reads ending end c.counts.result.kept c.counts.result.thrown c.counts.result.atoms c.used.result c.counts.result.turns c.counts.ensures.kept c.counts.ensures.thrown c.counts.ensures.atoms c.used.ensures c.counts.ensures.turns _ _ _ _ c.finished.result c.finished.ensures.ends
+    let limits_are = bulk-limits c.args.n c.requires.least c.requires.greatest in
+    run-ends c.args.n t c.args.base chosen now used raised c.args.steps.now c.draw_to_the_end.new.steps few over reads ending end (record { few = c.a_course_uses_few_bits.ensures; files = c.the_tape_ends_where_its_bits_are_used.ensures.files; seeds = c.the_tape_ends_where_its_bits_are_used.ensures.seeds }) sound limits_are c.counts.result.kept c.counts.result.thrown c.counts.result.atoms c.used.result c.counts.result.turns c.counts.ensures.kept c.counts.ensures.thrown c.counts.ensures.atoms c.used.ensures c.counts.ensures.turns _ _ _ _ c.finished.result c.finished.ensures.ends
 
 -- memory ran out in a turn
 pub returns-clause-ends : goal.returns-clause-ends

@@ -18,7 +18,7 @@ pub returns-in-Going-clause-goes_on : goal.returns-in-Going-clause-goes_on
 returns-in-Going-clause-goes_on g c =
     can-turn-on c.args.founded.now (g.O.Oracle.x c.args.oracle.now) g.row.F (g.O.Oracle.table c.args.oracle.now) c.args.drawing.now.limits (bits_of c.args.tape.now.source empty_files) empty_files c.args.drawing.now c.turn.new.self c.args.tape.now c.turn.new.tape answer.Going
     (record { law = c.a_turn_continues_a_trace.ensures; sound = c.requires.can_turn.sound; within = c.requires.can_turn.within; turn = c.in-Going.ensures.turned (λ e. absurd (cc)); counted = c.in-Going.ensures.counted })
-    c.requires.can_turn (record { uses = c.turn.ensures.used.1; unused = λ none. ap (λ (t : TapeState). t.used) (c.in-Going.ensures.uncounted none).0 }) refl refl c.turn.ensures.drawing c.turn.ensures.tape.belongs
+    c.requires.can_turn refl refl c.turn.ensures.drawing c.turn.ensures.tape.belongs
 
 -- an object was kept, and is let go
 pub returns-in-Kept-clause-under_way : goal.returns-in-Kept-clause-under_way
@@ -31,7 +31,7 @@ pub returns-in-Kept-clause-goes_on : goal.returns-in-Kept-clause-goes_on
 returns-in-Kept-clause-goes_on g c =
     can-turn-on c.args.founded.now (g.O.Oracle.x c.args.oracle.now) g.row.F (g.O.Oracle.table c.args.oracle.now) c.args.drawing.now.limits (bits_of c.args.tape.now.source empty_files) empty_files c.args.drawing.now c.turn.new.self c.args.tape.now c.turn.new.tape (answer.Kept c.in-Kept._entry)
     (record { law = c.a_turn_continues_a_trace.ensures; sound = c.requires.can_turn.sound; within = c.requires.can_turn.within; turn = c.in-Kept.ensures.turned (λ e. absurd (cc)); counted = c.in-Kept.ensures.counted })
-    c.requires.can_turn (record { uses = c.turn.ensures.used.1; unused = λ none. ap (λ (t : TapeState). t.used) (c.in-Kept.ensures.uncounted none).0 }) refl refl c.turn.ensures.drawing c.turn.ensures.tape.belongs
+    c.requires.can_turn refl refl c.turn.ensures.drawing c.turn.ensures.tape.belongs
 
 -- the run has come to its end
 pub returns-in-Finished-clause-under_way : goal.returns-in-Finished-clause-under_way
@@ -42,8 +42,7 @@ returns-in-Finished-clause-under_way g c = λ p.
 
 pub returns-in-Finished-clause-goes_on : goal.returns-in-Finished-clause-goes_on
 returns-in-Finished-clause-goes_on g c =
-    at-end c.args.founded.now (g.O.Oracle.x c.args.oracle.now) empty_files (g.O.Oracle.table c.args.oracle.now) c.args.drawing.now.limits c.args.drawing.now c.turn.new.self c.args.tape.now c.turn.new.tape.used c.in-Finished.ending c.requires.can_turn c.in-Finished.ensures.counted
-    (record { uses = c.turn.ensures.used.1; unused = λ none. ap (λ (t : TapeState). t.used) (c.in-Finished.ensures.uncounted none).0 }) c.turn.ensures.drawing
+    at-end c.args.founded.now (g.O.Oracle.x c.args.oracle.now) empty_files (g.O.Oracle.table c.args.oracle.now) c.args.drawing.now.limits c.args.drawing.now c.turn.new.self c.args.tape.now c.in-Finished.ending c.requires.can_turn c.in-Finished.ensures.counted
     (λ e. (c.in-Finished.ensures.done c.requires.can_turn.goes_on).0 e) (λ e. ((c.in-Finished.ensures.turn_limit c.requires.can_turn.goes_on).0 e).1) (c.in-Finished.ensures.undecided c.requires.can_turn.goes_on)
 
 -- a turn had no memory

@@ -54,7 +54,7 @@ returns-in_ok-push-in-Union c =
       done = on-both c.push_all.result c.push_all.ensures.ok c.push_all.ensures.ok (λ put again.
           done-replaced c.args.system.now c.args.classes.now (task.Point c.args.e) (map task.Point ps ++ task.Choice n ∷ []) c.args.tasks.now c.push_all.new.self c.args.layout.now (put ∙ ap (λ z. z ++ c.args.tasks.now) more)
           (then-one (length c.args.system.now.nodes) (map task.Point ps) (task.Choice n) (points-inside (length c.args.system.now.nodes) ps (node-parts-inside c.args.system.now c.known.ensures.sound c.args.e.0 (Node.Union (map number ps)) ps at refl)) tt)
-          (λ fs. point-union c.args.system.now c.args.classes.now c.args.nodes.now c.requires.nodes n ps fs (c.count_marked.ensures ∙ ap (λ z. how_many (map (answer_at c.args.nodes.now) (map number z))) (c.items-in-Union.ensures.items ∙ sym c.items.ensures.items))
+          (λ fs. point-union c.args.system.now c.args.classes.now c.args.nodes.now c.requires.nodes n ps fs (c.count_marked.ensures.count ∙ ap (λ z. how_many (map (answer_at c.args.nodes.now) (map number z))) (c.items-in-Union.ensures.items ∙ sym c.items.ensures.items))
           ∙ sym (point-form c.args.system.now c.args.classes.now c.known.ensures.sound c.args.e (Node.Union (map number ps)) at _ (λ r. refl) fs)));
     }
 
@@ -68,7 +68,7 @@ returns-in_ok-push-in-Product c =
       done = on-both c.push_all-in-Product.result c.push_all-in-Product.ensures.ok c.push_all-in-Product.ensures.ok (λ put again.
           done-replaced c.args.system.now c.args.classes.now (task.Point c.args.e) (alternatives (length ps) c.args.nodes.now [] ps ++ task.Choice n ∷ []) c.args.tasks.now c.push_all-in-Product.new.self c.args.layout.now (put ∙ ap (λ z. z ++ c.args.tasks.now) more)
           (then-one (length c.args.system.now.nodes) (alternatives (length ps) c.args.nodes.now [] ps) (task.Choice n) (alternatives-inside (length c.args.system.now.nodes) (length ps) c.args.nodes.now [] ps tt (node-parts-inside c.args.system.now c.known.ensures.sound c.args.e.0 (Node.Product (map number ps)) ps at refl)) tt)
-          (λ fs. point-product c.args.system.now c.args.classes.now c.args.nodes.now c.requires.nodes n ps fs (c.count_marked-in-Product.ensures ∙ ap (λ z. how_many (map (answer_at c.args.nodes.now) (map number z))) (c.items-in-Product-2.ensures.items ∙ sym c.items-in-Product.ensures.items))
+          (λ fs. point-product c.args.system.now c.args.classes.now c.args.nodes.now c.requires.nodes n ps fs (c.count_marked-in-Product.ensures.count ∙ ap (λ z. how_many (map (answer_at c.args.nodes.now) (map number z))) (c.items-in-Product-2.ensures.items ∙ sym c.items-in-Product.ensures.items))
           ∙ sym (point-form c.args.system.now c.args.classes.now c.known.ensures.sound c.args.e (Node.Product (map number ps)) at _ (λ r. refl) fs)));
     }
 

@@ -1,5 +1,4 @@
-use Rattle.std.proofs.Common.{◌≡◌, ◌≤◌, ℕ, List, false, ap, subst, arith}
-use Rattle.std.specs.Prelude.{Bool}
+use Rattle.std.proofs.Common.{false, ap, subst, arith}
 use Rattle.bit_tape.specs.Tape.{LeavesTape, bits_of}
 use Rattle.bit_tape.proofs.Leaving.{leaves-none, leaves-more}
 use Rattle.choice_draw.proofs.Ticks.{oracle-none, oracle-more}
@@ -46,7 +45,7 @@ pub returns-in-Some-clause-ended : goal.returns-in-Some-clause-ended
 returns-in-Some-clause-ended g c =
     let inv = c.turns.invariant in
     let end = subst (GoesOn c.args.founded.now (g.O.Oracle.x c.turns.oracle) (g.O.Oracle.table c.turns.oracle) (g.S.Shelf.content c.turns.shelf) c.turns.drawing.limits c.turns.drawing c.turn_once.new.drawing c.turn_once.new.tape) c.in-Some.is c.in-Ok.ensures.goes_on in
-    subst (λ t. IsAtEnd t c.args.drawing.now.limits c.turn_once.new.drawing c.turn_once.new.tape.used c.in-Some.ending) inv.oracle.table (subst (λ l. IsAtEnd (g.O.Oracle.table c.turns.oracle) l c.turn_once.new.drawing c.turn_once.new.tape.used c.in-Some.ending) inv.can_turn.within end)
+    subst (λ t. IsAtEnd t c.args.drawing.now.limits c.turn_once.new.drawing c.in-Some.ending) inv.oracle.table (subst (λ l. IsAtEnd (g.O.Oracle.table c.turns.oracle) l c.turn_once.new.drawing c.in-Some.ending) inv.can_turn.within end)
 
 pub returns-in-Some-clause-oracle : goal.returns-in-Some-clause-oracle
 returns-in-Some-clause-oracle g c = oracle-more g.O.Oracle.spec g.O.Oracle.x g.O.Oracle.table g.O.Oracle.cost g.O.Oracle.raised c.args.oracle.now c.turns.oracle c.turn_once.new.oracle c.args.steps.now c.turns.steps c.turn_once.new.steps c.requires.costs (c.turn_once.ensures.levels c.turns.invariant.six) c.turns.invariant.oracle c.turn_once.ensures.oracle

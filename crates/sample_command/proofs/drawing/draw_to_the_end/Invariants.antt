@@ -1,4 +1,4 @@
-use Rattle.std.proofs.Common.{◌≡◌, ◌+◌, ◌-◌, ◌≤◌, ℕ, List}
+use Rattle.std.proofs.Common.{◌+◌, ◌-◌, ◌≤◌, ℕ, List}
 use Rattle.std.specs.Prelude.{Option, false}
 use Rattle.bit_tape.specs.Tape.{LeavesTape, bits_of}
 use Rattle.bz_model.specs.Oracle.{LeavesOracle}

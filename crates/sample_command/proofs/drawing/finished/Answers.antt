@@ -1,4 +1,4 @@
-use Rattle.std.proofs.Common.{◌≡◌, ◌++◌, List, ℕ, ap, subst, ◌∙◌, arith}
+use Rattle.std.proofs.Common.{◌++◌, ap, subst, ◌∙◌, arith}
 use Rattle.size_window.specs.Drawing.{ending_of}
 use Rattle.sample_command.specs.Drawn.{ending_word, ending_status}
 use Rattle.call_stages.specs.Ends.{EndsBy, output}

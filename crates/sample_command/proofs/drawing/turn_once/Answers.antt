@@ -1,10 +1,9 @@
-use Rattle.std.proofs.Common.{◌≡◌, refl, sym, subst, ap, append-nil, []}
-use Rattle.std.specs.Prelude.{Bool}
-use Rattle.bit_tape.specs.Tape.{TapeState, Belongs, LeavesTape, bits_of}
+use Rattle.std.proofs.Common.{refl, sym, subst, ap, append-nil, []}
+use Rattle.bit_tape.specs.Tape.{TapeState, Belongs, bits_of}
 use Rattle.size_window.specs.Turn.{entry_of}
 use Rattle.size_window.specs.declared.turned.Turned.TheVariants as answer
 use Rattle.sample_command.specs.UnderWay.{IsUnderWay}
-use Rattle.sample_command.proofs.OneTurn.{TellsTurn, UsesFew, entry-is-of, can-turn-on, at-end, same-fault}
+use Rattle.sample_command.proofs.OneTurn.{entry-is-of, can-turn-on, at-end}
 use Rattle.sample_command.proofs.Turns.{under-way-on, broken-on, broken-still}
 use Rattle.sample_command.proofs.drawing.turn_once.Goals as goal
 
@@ -32,7 +31,7 @@ pub returns-in-Going-clause-goes_on : goal.returns-in-Going-clause-goes_on
 returns-in-Going-clause-goes_on g c =
     can-turn-on c.args.founded.now (g.O.Oracle.x c.args.oracle.now) g.row.F (g.O.Oracle.table c.args.oracle.now) c.args.drawing.now.limits (bits_of c.args.tape.now.source (g.S.Shelf.content c.args.shelf.now)) (g.S.Shelf.content c.args.shelf.now) c.args.drawing.now c.turn.new.self c.args.tape.now c.turn.new.tape answer.Going
     (record { law = c.a_turn_continues_a_trace.ensures; sound = c.requires.can_turn.sound; within = c.requires.can_turn.within; turn = c.in-Going.ensures.turned (λ e. absurd (cc)); counted = c.in-Going.ensures.counted })
-    c.requires.can_turn (record { uses = c.turn.ensures.used.1; unused = λ none. ap (λ (t : TapeState). t.used) (c.in-Going.ensures.uncounted none).0 }) refl refl c.turn.ensures.drawing
+    c.requires.can_turn refl refl c.turn.ensures.drawing
     (subst (λ k. Belongs k c.turn.new.tape) c.turn.ensures.tape.content c.turn.ensures.tape.belongs)
 
 -- an object was kept, and its lines are appended
@@ -50,7 +49,7 @@ pub returns-in-Ok-clause-goes_on : goal.returns-in-Ok-clause-goes_on
 returns-in-Ok-clause-goes_on g c =
     can-turn-on c.args.founded.now (g.O.Oracle.x c.args.oracle.now) g.row.F (g.O.Oracle.table c.args.oracle.now) c.args.drawing.now.limits (bits_of c.args.tape.now.source (g.S.Shelf.content c.args.shelf.now)) (g.S.Shelf.content c.args.shelf.now) c.args.drawing.now c.turn.new.self c.args.tape.now c.turn.new.tape (answer.Kept c.in-Kept.entry)
     (record { law = c.a_turn_continues_a_trace.ensures; sound = c.requires.can_turn.sound; within = c.requires.can_turn.within; turn = c.in-Kept.ensures.turned (λ e. absurd (cc)); counted = c.in-Kept.ensures.counted })
-    c.requires.can_turn (record { uses = c.turn.ensures.used.1; unused = λ none. ap (λ (t : TapeState). t.used) (c.in-Kept.ensures.uncounted none).0 }) refl refl c.turn.ensures.drawing
+    c.requires.can_turn refl refl c.turn.ensures.drawing
     (subst (λ k. Belongs k c.turn.new.tape) c.turn.ensures.tape.content c.turn.ensures.tape.belongs)
 
 -- an object was kept, and there is no memory for its lines
@@ -71,8 +70,7 @@ returns-in-Finished-clause-under_way g c = λ header start now p.
 
 pub returns-in-Finished-clause-goes_on : goal.returns-in-Finished-clause-goes_on
 returns-in-Finished-clause-goes_on g c =
-    at-end c.args.founded.now (g.O.Oracle.x c.args.oracle.now) (g.S.Shelf.content c.args.shelf.now) (g.O.Oracle.table c.args.oracle.now) c.args.drawing.now.limits c.args.drawing.now c.turn.new.self c.args.tape.now c.turn.new.tape.used c.in-Finished.ending c.requires.can_turn c.in-Finished.ensures.counted
-    (record { uses = c.turn.ensures.used.1; unused = λ none. ap (λ (t : TapeState). t.used) (c.in-Finished.ensures.uncounted none).0 }) c.turn.ensures.drawing
+    at-end c.args.founded.now (g.O.Oracle.x c.args.oracle.now) (g.S.Shelf.content c.args.shelf.now) (g.O.Oracle.table c.args.oracle.now) c.args.drawing.now.limits c.args.drawing.now c.turn.new.self c.args.tape.now c.in-Finished.ending c.requires.can_turn c.in-Finished.ensures.counted
     (λ e. (c.in-Finished.ensures.done c.requires.can_turn.goes_on).0 e) (λ e. ((c.in-Finished.ensures.turn_limit c.requires.can_turn.goes_on).0 e).1) (c.in-Finished.ensures.undecided c.requires.can_turn.goes_on)
 
 -- a turn had no memory

@@ -1,0 +1,4 @@
+pub mod FewTokens
+pub mod RootBounds
+pub mod Weighing
+pub mod Encloses

@@ -1,0 +1,2 @@
+pub mod ChanceCommand
+pub mod Completeness

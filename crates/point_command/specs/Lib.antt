@@ -1,0 +1,2 @@
+pub mod PointCommand
+pub mod Completeness

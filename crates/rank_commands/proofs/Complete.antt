@@ -1,0 +1,128 @@
+-- What is certain to be counted, made or ranked: the outcome is shown, and a command has one alone.
+use Rattle.std.proofs.Common.{◌≡◌, ◌≢◌, ℕ, ◌<◌, ◌≤◌, arith, List, [], length, refl, sym, ap, subst, ◌∙◌}
+use Rattle.std.specs.Prelude.{take, Option, Some, None, IfSome}
+use Rattle.std.proofs.lemmas.List.{take_all}
+use Rattle.bz_model.specs.Spec.{Spec, Mode, body_of}
+use Rattle.bz_model.specs.Object.{Object, Belongs}
+use Rattle.bz_model.specs.Measures.{size}
+use Rattle.bz_model.specs.ObjectText.{object_text}
+use Rattle.object_store.specs.Tokens.{tokens_of, size_of, IsOf}
+use Rattle.object_store.specs.declared.token.Token.{Token}
+use Rattle.object_store.proofs.Sizes.{size_of-tokens}
+use Rattle.object_text.specs.Reading.{IsRead}
+use Rattle.rank_tables.specs.RankOrder.{IsCount, IsRank, IsRanked}
+use Rattle.rank_tables.specs.Refusals.{IsFirstRanged, HasPlainRanges, IsTooMany, HasSmallCounts}
+use Rattle.rank_tables.specs.Shapes.{IsRankOf}
+use Rattle.call_stages.specs.Outcomes.{Outcome, Says}
+use Rattle.call_stages.specs.Stages.{Files, IsCalm, AreRead, FileRead, Judged, Specified}
+use Rattle.call_stages.specs.Stages as reading
+use Rattle.call_stages.specs.declared.status.Status.{Status}
+use Rattle.call_stages.proofs.OneReading.{read-only, judged-only}
+use Rattle.object_stage.specs.ObjectStage.{without_feed, ObjectRead}
+use Rattle.object_stage.specs.ObjectStage as objects
+use Rattle.rank_commands.specs.RankStages.{labelled_line, range_line, too_many_line, too_large_line, Rankable, Counted, SizeJudged}
+use Rattle.rank_commands.specs.RankStages as stages
+use Rattle.rank_commands.specs.CountCommand.{counts_text, AreCountsTo, CountsPrinted, CountedTo, CarriesCount}
+use Rattle.rank_commands.specs.CountCommand as counts
+use Rattle.rank_commands.specs.UnrankCommand.{number_line, object_page, ObjectOfRank, Unranked, CarriesUnrank}
+use Rattle.rank_commands.specs.UnrankCommand as unranking
+use Rattle.rank_commands.specs.RankCommand.{rank_text, RankPrinted, ObjectRanked, RankedIn, CarriesRank}
+use Rattle.rank_commands.specs.RankCommand as ranking
+use Rattle.rank_commands.specs.Fit.{IsFit, CanBeCounted, IsTextIn, ComesOf}
+use Rattle.rank_commands.specs.Fit as fits
+use Rattle.rank_commands.proofs.OneStage.{labelled-only, ranged-only, plain-only, many-only, fits-only}
+use Rattle.rank_commands.proofs.OneOutcome.{one-count, one-unrank, one-rank}
+
+-- a file that is known and short is read whole
+whole-read : (f : Files) (file bytes : List ℕ) (most : ℕ) → f.content file ≡ Some bytes → length bytes ≤ most → AreRead f.content file most bytes
+whole-read f file bytes most known few = record { are = subst (λ o. IfSome o (λ all. bytes ≡ take most all)) (sym known) (sym (take_all most bytes few)); few = few }
+
+-- such a file is calm
+abbrev calm-fit : (f : Files) (file : List ℕ) (s : Spec) → IsFit f file s → IsCalm f file
+calm-fit f file s fit = record { bytes = fit.bytes; known = fit.is_known; unfailed = fit.no_fault }
+
+abbrev calm-text : (f : Files) (file : List ℕ) (s : Spec) (body : ℕ) (o : Object) (belongs : Belongs s body o) → IsTextIn f file s body o belongs → IsCalm f file
+calm-text f file s body o belongs text_in = record { bytes = text_in.bytes; known = text_in.is_known; unfailed = text_in.no_fault }
+
+-- a fit specification goes on
+pub fit-only : (f : Files) (file : List ℕ) (s : Spec) (next : Spec → Outcome) (status : Status) (text : List ℕ) (ticks : ℕ) → IsFit f file s → status ≢ Status.OutOfMemory → Specified f file next status text ticks → next s status text ticks
+fit-only f file s next status text ticks fit memory p =
+    let read = read-only f file 65537 (Judged next) (calm-fit f file s fit) status text ticks memory p in
+    let all : take 65537 fit.bytes ≡ fit.bytes = take_all 65537 fit.bytes (let few = fit.accepted.few in omega (arith, few)) in
+    judged-only next fit.bytes s fit.accepted fit.founded status text ticks memory (subst (λ b. Judged next b status text ticks) all read)
+
+-- what comes of it comes of the command
+fit-goes-on : (f : Files) (file : List ℕ) (s : Spec) (next : Spec → Outcome) (status : Status) (text : List ℕ) → IsFit f file s → next s status text 0 → Specified f file next status text 0
+fit-goes-on f file s next status text fit p = reading.read fit.bytes (whole-read f file fit.bytes 65537 fit.is_known (let few = fit.accepted.few in omega (arith, few))) (reading.founded s fit.accepted fit.founded p)
+
+-- a line is said
+said : (status : Status) (line : List ℕ) → Says status line 0 status line 0
+said status line = record { status_is = refl; text_is = refl; ticks_are = refl }
+
+pub counted : (f : Files) (file : List ℕ) (s : Spec) (most : ℕ) (count : ℕ → ℕ) (status : Status) (text : List ℕ) (ticks : ℕ) → IsFit f file s → CanBeCounted s most → AreCountsTo s most count → status ≢ Status.OutOfMemory → CarriesCount f file most status text ticks → (status ≡ Status.Done) × (text ≡ counts_text count most)
+counted f file s most count status text ticks fit can are memory h =
+    let shown : CarriesCount f file most Status.Done (counts_text count most) 0 = fit-goes-on f file s (CountedTo most) Status.Done (counts_text count most) fit (stages.plain can.unlabelled can.plain (stages.counted can.small (counts.printed count are (said Status.Done (counts_text count most))))) in
+    (one-count f file most (calm-fit f file s fit)).one status Status.Done text (counts_text count most) ticks 0 memory (λ e. absurd (cc)) h shown
+
+module _ (f : Files) (file : List ℕ) (s : Spec) (n r : ℕ) (status : Status) (text : List ℕ) (ticks : ℕ) (fit : IsFit f file s) (can : CanBeCounted s n) (memory : status ≢ Status.OutOfMemory) (h : CarriesUnrank f file n r status text ticks) where
+  -- an outcome that was shown is the one
+  unranked-as : (shown : Status) (line : List ℕ) → shown ≢ Status.OutOfMemory → ObjectOfRank s n r shown line 0 → (status ≡ shown) × (text ≡ line)
+  unranked-as shown line told p = (one-unrank f file n r (calm-fit f file s fit)).one status shown text line ticks 0 memory told h (fit-goes-on f file s (Unranked n r) shown line fit (stages.plain can.unlabelled can.plain (stages.counted can.small p)))
+
+  pub printed : (body : ℕ) (o : Object) (belongs : Belongs s body o) → body_of s 0 ≡ Some body → IsRanked s body n r o → (status ≡ Status.Done) × (text ≡ object_page s body o belongs)
+  printed body o belongs is ranked = unranked-as Status.Done (object_page s body o belongs) (λ e. absurd (cc)) (unranking.printed body o belongs is ranked (said Status.Done (object_page s body o belongs)))
+
+  pub beyond : (body count : ℕ) → body_of s 0 ≡ Some body → IsCount s body n count → count ≤ r → (status ≡ Status.RankRefused) × (text ≡ number_line)
+  beyond body count is counted le = unranked-as Status.RankRefused number_line (λ e. absurd (cc)) (unranking.beyond body count is counted le (said Status.RankRefused number_line))
+
+-- The text of an object without labels is read as its tokens.
+abbrev pub ReadsPrinted : Spec → Type 0
+ReadsPrinted s = (c : ℕ) (tokens : List Token) (of : IsOf s c tokens) → s.mode ≡ Mode.Unlabelled → (text : List ℕ) → text ≡ object_text s of.body of.object of.belongs [] → IsRead s c text tokens None
+
+module _ (f : Files) (file object : List ℕ) (s : Spec) (body : ℕ) (o : Object) (belongs : Belongs s body o) (status : Status) (text : List ℕ) (ticks : ℕ) (fit : IsFit f file s) (mode : s.mode ≡ Mode.Unlabelled) (plain : HasPlainRanges s) (is : body_of s 0 ≡ Some body) (text_in : IsTextIn f object s body o belongs) (reads : ReadsPrinted s) (memory : status ≢ Status.OutOfMemory) (h : CarriesRank f file object status text ticks) where
+  -- the object is read
+  read-in : IsRead s 0 (without_feed text_in.bytes) (tokens_of o) None
+  read-in = reads 0 (tokens_of o) (record { body = body; is_body = is; object = o; belongs = belongs; spelled = refl }) mode (without_feed text_in.bytes) text_in.is_text
+
+  -- an outcome that was shown is the one
+  ranked-as : (shown : Status) (line : List ℕ) → shown ≢ Status.OutOfMemory → ObjectRanked s (tokens_of o) None shown line 0 → (status ≡ shown) × (text ≡ line)
+  ranked-as shown line told p =
+      let few : length text_in.bytes ≤ 16777217 = let most = text_in.few in omega (arith, most) in
+      let object_read : ObjectRead f s object (ObjectRanked s) shown line 0 = reading.read text_in.bytes (whole-read f object text_in.bytes 16777217 text_in.is_known few) (objects.read (tokens_of o) None text_in.few read-in p) in
+      (one-rank f file object (calm-fit f file s fit) (calm-text f object s body o belongs text_in)).one status shown text line ticks 0 memory told h (fit-goes-on f file s (RankedIn f object) shown line fit (stages.plain mode plain object_read))
+
+  pub ranked : HasSmallCounts s (size o) → size o ≤ 500 → (count r : ℕ) → IsCount s body (size o) count → IsRank s body o r → (status ≡ Status.Done) × (text ≡ rank_text r count)
+  ranked small few count r counted is_rank =
+      let same : size_of (tokens_of o) ≡ size o = size_of-tokens o in
+      let line = rank_text r count in
+      let of_rank : IsRankOf s 0 (tokens_of o) r = record { body = body; is_body = is; object = o; spelled = refl; ranked = record { sized = (belongs, sym same); rank = is_rank } } in
+      ranked-as Status.Done line (λ e. absurd (cc)) (stages.fits (omega (arith, same, few)) (stages.counted (subst (HasSmallCounts s) (sym same) small) (ranking.printed body count r is (subst (λ z. IsCount s body z count) (sym same) counted) of_rank (said Status.Done line))))
+
+  pub too_large : 500 < size o → (status ≡ Status.ObjectRefused) × (text ≡ too_large_line (size o))
+  too_large large =
+      let same : size_of (tokens_of o) ≡ size o = size_of-tokens o in
+      let r = ranked-as Status.ObjectRefused (too_large_line (size_of (tokens_of o))) (λ e. absurd (cc)) (stages.too_large (omega (arith, same, large)) (said Status.ObjectRefused (too_large_line (size_of (tokens_of o))))) in
+      (r.0, r.1 ∙ ap too_large_line same)
+
+-- labels are refused
+pub labelled_refused : (f : Files) (s : Spec) (status : Status) (text : List ℕ) (ticks : ℕ) → s.mode ≡ Mode.Labelled → status ≢ Status.OutOfMemory → ComesOf f s status text ticks → (status ≡ Status.RankRefused) × (text ≡ labelled_line)
+labelled_refused f s status text ticks mode memory (fits.of_count most h) = labelled-only s (Counted s most (CountsPrinted s most)) status text ticks memory mode h
+labelled_refused f s status text ticks mode memory (fits.of_unrank n r h) = labelled-only s (Counted s n (ObjectOfRank s n r)) status text ticks memory mode h
+labelled_refused f s status text ticks mode memory (fits.of_rank object h) = labelled-only s (ObjectRead f s object (ObjectRanked s)) status text ticks memory mode h
+
+-- so is a range that isn't plain
+pub range_refused : (f : Files) (s : Spec) (e : ℕ) (status : Status) (text : List ℕ) (ticks : ℕ) → s.mode ≡ Mode.Unlabelled → IsFirstRanged s e → status ≢ Status.OutOfMemory → ComesOf f s status text ticks → (status ≡ Status.RankRefused) × (text ≡ range_line e)
+range_refused f s e status text ticks mode first memory (fits.of_count most h) = ranged-only s (Counted s most (CountsPrinted s most)) status text ticks memory e mode first h
+range_refused f s e status text ticks mode first memory (fits.of_unrank n r h) = ranged-only s (Counted s n (ObjectOfRank s n r)) status text ticks memory e mode first h
+range_refused f s e status text ticks mode first memory (fits.of_rank object h) = ranged-only s (ObjectRead f s object (ObjectRanked s)) status text ticks memory e mode first h
+
+module _ (s : Spec) (status : Status) (text : List ℕ) (ticks : ℕ) (memory : status ≢ Status.OutOfMemory) where
+  -- and a count that is too great
+  pub count_refused : (most e n : ℕ) → s.mode ≡ Mode.Unlabelled → HasPlainRanges s → IsTooMany s most e n → CountedTo most s status text ticks → (status ≡ Status.RankRefused) × (text ≡ too_many_line e n)
+  count_refused most e n mode plain many h = many-only s (CountsPrinted s most) status text ticks memory most e n many (plain-only s (Counted s most (CountsPrinted s most)) status text ticks memory mode plain h)
+
+  pub unrank_refused : (n r e m : ℕ) → s.mode ≡ Mode.Unlabelled → HasPlainRanges s → IsTooMany s n e m → Unranked n r s status text ticks → (status ≡ Status.RankRefused) × (text ≡ too_many_line e m)
+  unrank_refused n r e m mode plain many h = many-only s (ObjectOfRank s n r) status text ticks memory n e m many (plain-only s (Counted s n (ObjectOfRank s n r)) status text ticks memory mode plain h)
+
+  pub rank_refused : (tokens : List Token) (labels : Option (List ℕ)) (e n : ℕ) → size_of tokens ≤ 500 → IsTooMany s (size_of tokens) e n → ObjectRanked s tokens labels status text ticks → (status ≡ Status.RankRefused) × (text ≡ too_many_line e n)
+  rank_refused tokens labels e n few many h = many-only s (RankPrinted s tokens) status text ticks memory (size_of tokens) e n many (fits-only s (Counted s (size_of tokens) (RankPrinted s tokens)) status text ticks memory tokens few h)

@@ -1,0 +1,6 @@
+pub mod Staging
+pub mod Pages
+pub mod OneStage
+pub mod OneOutcome
+pub mod Complete
+pub mod NoWords
