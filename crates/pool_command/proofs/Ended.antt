@@ -9,13 +9,14 @@ use Rattle.bz_model.specs.Fraction.{Fraction, ratio}
 use Rattle.bz_model.specs.Spec.{Spec}
 use Rattle.bz_outside.specs.Outside.{Rose, next_count, ReadFailed}
 use Rattle.bit_tape.specs.Tape.{TapeSource, CountsFault, HasFault, bits_of}
+use Rattle.class_system.specs.Sound.{IsSound}
 use Rattle.oracle_memo.specs.Levels.{level_bounds, cost_at}
 use Rattle.size_window.specs.declared.ending.Ending.{Ending as Told}
 use Rattle.size_window.specs.declared.ending.Ending.TheVariants as told
 use Rattle.size_window.specs.declared.ending.Straddle.TheVariants as straddle
 use Rattle.size_window.specs.declared.turned.Turned.TheVariants as answer
 use Rattle.size_window.specs.RunByBits.{Limits, Ending, State, at_start}
-use Rattle.size_window.specs.Drawing.{ending_of}
+use Rattle.size_window.specs.Drawing.{AreLimits, ending_of}
 use Rattle.size_window.specs.Turn.{TellsOpen, entry_of, turns_of}
 use Rattle.session_pool.specs.Member.{MemberState}
 use Rattle.session_pool.specs.Pool.{ending_at, ending_of_member, sources_of}
@@ -24,7 +25,8 @@ use Rattle.call_stages.specs.Lines.{open_line}
 use Rattle.call_stages.specs.Stages.{Files, files}
 use Rattle.sample_command.specs.Drawn.{IsCourse, IsDrawn, Lists, closing_lines, open_lines}
 use Rattle.sample_command.specs.UnderWay.{met, has_failed, IsCourseSoFar, IsAtEnd, told_open}
-use Rattle.sample_command.proofs.AtTheEnd.{Chosen, course-of, drawn-at-end, closing-is}
+use Rattle.sample_command.proofs.AtTheEnd.{course-of, drawn-at-end, closing-is}
+use Rattle.sample_command.proofs.TapeEnds.{Chosen, EndLaws}
 use Rattle.pool_command.specs.PoolCommand.{PoolSetting, PoolCourse, PoolDrawing, AreInCall, IsCourseIn, IsDrawnIn, table_of}
 use Rattle.pool_command.specs.UnderWay.{AreMoments, IsMemberUnderWay, asked_until}
 use Rattle.pool_command.specs.Schedule.{asks_to_end}
@@ -84,22 +86,21 @@ module _ (p : PoolSetting) (contents : List ℕ → Option (List ℕ)) (begun co
   }
 
   module _ (e : Told) (is : m.drawing.ending ≡ Some e) (rightly : EndedRightly (shared_of p contents) p.limits m.tape.source begun counts m.drawing e) where
-    pub at-end-of : IsAtEnd (table_of p) p.limits m.drawing m.tape.used e
+    pub at-end-of : IsAtEnd (table_of p) p.limits m.drawing e
     at-end-of = record {
       ended = is;
       kept = rightly.kept;
       out_of_turns = λ limit. (rightly.out_of_turns limit).1;
-      few = h.used;
       open_is = open-told (table_of p) e rightly.left_open;
     }
 
     -- at its end
-    pub drawn-in : (lines : List ℕ) → Lists p.setting.spec (map entry_of m.entries) lines → IsDrawnIn p (files contents before counts) name (record { so_far = course_of_member; ending = ending_of e; lines = lines })
-    drawn-in lines lists = record {
+    pub drawn-in : EndLaws → IsSound p.setting.spec → AreLimits p.limits → (lines : List ℕ) → Lists p.setting.spec (map entry_of m.entries) lines → IsDrawnIn p (files contents before counts) name (record { so_far = course_of_member; ending = ending_of e; lines = lines })
+    drawn-in laws sound are lines lists = record {
       before = met-between.before;
       now = met-between.now;
       moments = in-call;
-      drawn = drawn-at-end p.setting.spec (ratio p.setting.num p.setting.den) p.setting.bits (table_of p) p.limits (met (TapeSource.Named name) contents met-between.before met-between.now) chosen m.drawing m.tape.used most over-name.0 met-between.reads e at-end-of;
+      drawn = drawn-at-end p.setting.spec (ratio p.setting.num p.setting.den) p.setting.bits (table_of p) p.limits (met (TapeSource.Named name) contents met-between.before met-between.now) chosen m.drawing m.tape.used most over-name.0 laws sound are met-between.reads e at-end-of;
       lists = subst (λ es. Lists p.setting.spec es lines) (sym over-name.1) lists;
     }
 

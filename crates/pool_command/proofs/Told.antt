@@ -5,10 +5,11 @@ use Rattle.std.proofs.lemmas.Option.{slice_get-map, slice_get-get_or, slice_get_
 use Rattle.bz_model.specs.Fraction.{ratio}
 use Rattle.bit_tape.specs.Tape.{TapeSource}
 use Rattle.choice_draw.specs.Decision.{level_for}
+use Rattle.class_system.specs.Sound.{IsSound}
 use Rattle.oracle_memo.specs.Levels.{cost_at}
 use Rattle.size_window.specs.declared.ending.Ending.{Ending as Told}
 use Rattle.size_window.specs.RunByBits.{Ending, at_start}
-use Rattle.size_window.specs.Drawing.{ending_of}
+use Rattle.size_window.specs.Drawing.{AreLimits, ending_of}
 use Rattle.session_pool.specs.Member.{MemberState}
 use Rattle.session_pool.specs.Pool.{ending_at, ending_of_member, sources_of}
 use Rattle.session_pool.specs.Interleaving.{EndedRightly, RoseBy}
@@ -17,7 +18,7 @@ use Rattle.call_stages.specs.Outcomes.{IsWithin}
 use Rattle.call_stages.specs.Stages.{Files, files}
 use Rattle.call_stages.specs.declared.status.Status.{Status}
 use Rattle.sample_command.specs.Drawn.{closing_lines, drawn_header, ending_status}
-use Rattle.sample_command.proofs.AtTheEnd.{Chosen}
+use Rattle.sample_command.proofs.TapeEnds.{Chosen, EndLaws}
 use Rattle.pool_command.specs.PoolCommand.{PoolSetting, PoolCourse, PoolDrawing, AreCoursesIn, IsCourseIn, IsDrawnIn, PoolDrawn, table_of, greatest_below, raising_ticks, session_line, session_lines, failures_from, first_status, asks_of, drawings_text, order_line, pool_end_line}
 use Rattle.pool_command.specs.PoolCommand as pooled
 use Rattle.pool_command.specs.UnderWay.{beginning, Moment, IsSoFar, asked_by, asked_of_member}
@@ -25,6 +26,7 @@ use Rattle.pool_command.specs.Schedule.{named, all_asked, ends_in, asks_to_end}
 use Rattle.pool_command.specs.Pages.{told_session, closing_of_member, status_by, AreLinesOfMember}
 use Rattle.pool_command.proofs.Ended.{shared_of, course_of_member, course-in, drawn-in, closing-same, asks-same}
 use Rattle.pool_command.proofs.Appending.{below-alike}
+use Rattle.pool_command.proofs.Faults.{AreTold, fails-alike}
 use Rattle.pool_command.proofs.OnePool.{statuses-alike, order-alike}
 use Rattle.pool_command.proofs.Orders.{is-there}
 
@@ -50,6 +52,10 @@ source-at pool names i m same at =
 -- a name that stands at a number is the one there
 name-at : (names : List (List ℕ)) (i : ℕ) (name : List ℕ) → slice_get names i ≡ Some name → get_or names i [] ≡ name
 name-at names i name at = same_Some (get_or names i []) name (sym (slice_get-get_or names i [] (slice_get_within names i name at)) ∙ at)
+
+-- a count that rose since a later time
+rose-from : (number begun before now : ℕ) → before ≤ begun → RoseBy number begun now → RoseBy number before now
+rose-from number begun before now less rose = omega (arith, less, rose)
 
 module _ (p : PoolSetting) (contents : List ℕ → Option (List ℕ)) (begun before : List ℕ → ℕ) (names : List (List ℕ)) (first : ℕ) (chosen : Chosen p.setting.spec p.setting.bits (table_of p)) (earlier : (other : List ℕ) → before other ≤ begun other) (asked : List ℕ) (n : Moment) (h : IsSoFar (beginning (shared_of p contents) p.limits (map TapeSource.Named names) begun first) asked n) (number : length n.pool ≡ length names) where
   -- the course of a drawing; one that isn't there has none
@@ -94,7 +100,7 @@ module _ (p : PoolSetting) (contents : List ℕ → Option (List ℕ)) (begun be
   ended-as None some = absurd (cc)
   ended-as (Some e) some = (e, refl)
 
-  module _ (lines : ℕ → List ℕ) (lists : (i : ℕ) → i < length names → AreLinesOfMember p.setting.spec (slice_get n.pool i) (lines i)) (ended : (i : ℕ) → i < length names → IsSome (ending_at n.pool i)) where
+  module _ (lines : ℕ → List ℕ) (lists : (i : ℕ) → i < length names → AreLinesOfMember p.setting.spec (slice_get n.pool i) (lines i)) (ended : (i : ℕ) → i < length names → IsSome (ending_at n.pool i)) (laws : EndLaws) (sound : IsSound p.setting.spec) (are : AreLimits p.limits) where
     -- a drawing
     abbrev pub drawing-from : (i : ℕ) (o : Option MemberState) → slice_get n.pool i ≡ o → PoolDrawing
     drawing-from i o at = record { so_far = course-from i o at; ending = end-of (ending_of_member o); lines = lines i }
@@ -114,7 +120,7 @@ module _ (p : PoolSetting) (contents : List ℕ → Option (List ℕ)) (begun be
         let its = subst (λ o. AreLinesOfMember p.setting.spec o (lines i)) at (lists i few) in
         subst (λ z. IsDrawnIn p (files contents before n.counts) z (drawing-from i (Some m) at)) (name-at names i name is)
         (subst (λ f. IsDrawnIn p (files contents before n.counts) (get_or names i []) (record { so_far = course-from i (Some m) at; ending = f; lines = lines i })) (sym (ap end-of e.1))
-        (drawn-in p contents begun n.counts before chosen earlier m (h.mosts i) (h.each i m at) (get_or names i []) (source-at n.pool names i m h.after.same_sources at) e.0 e.1 right (lines i) its))
+        (drawn-in p contents begun n.counts before chosen earlier m (h.mosts i) (h.each i m at) (get_or names i []) (source-at n.pool names i m h.after.same_sources at) e.0 e.1 right laws sound are (lines i) its))
 
     session-at : (i : ℕ) → i < length names → (o : Option MemberState) (at : slice_get n.pool i ≡ o) → session_line i ++ (lines i ++ closing_of_member o) ≡ session_line i ++ (lines i ++ closing_lines (table_of p) (drawing-from i o at).so_far.course (drawing-from i o at).ending)
     session-at i few None at = absurd (within-pool i few at)
@@ -137,11 +143,24 @@ module _ (p : PoolSetting) (contents : List ℕ → Option (List ℕ)) (begun be
     status-at None some = absurd (cc)
     status-at (Some e) some = refl
 
+    -- the endings that are told are those of the drawings
+    all-told : AreTold (λ i. (drawing-at i).ending) 0 n.pool
+    all-told i m at =
+        let inside = slice_get_within n.pool i m at in
+        let few : i < length names = omega (arith, inside, number) in
+        let e = ended-as m.drawing.ending (subst (λ o. IsSome (ending_of_member o)) at (ended i few)) in
+        (e.0, e.1, ap (λ k. (drawing-at k).ending) (let z : 0 + i ≡ i = omega arith in z) ∙ (ap (λ o. end-of (ending_of_member o)) at ∙ ap end-of e.1))
+
+    all-failed : (name : List ℕ) → RoseBy (failures_from name (λ i. (drawing-at i).ending) 0 names) (before name) (n.counts name)
+    all-failed name =
+        let same = fails-alike name (λ i. (drawing-at i).ending) 0 names n.pool h.after.same_sources all-told in
+        rose-from (failures_from name (λ i. (drawing-at i).ending) 0 names) (begun name) (before name) (n.counts name) (earlier name) (subst (λ k. RoseBy k (begun name) (n.counts name)) (sym same) (h.after.failed name))
+
     -- all have ended
-    pub ended-told : (schedule order header sessions text : List ℕ) (status : Status) → 1 ≤ length names → order ≡ ends_in (asked_by n.pool) [] (all_asked (asked_by n.pool) (named (length names) schedule) (length names)) → header ≡ drawn_header certified_format p.setting p.base p.limits → sessions ≡ header ++ lines_below (λ i. told_session n.pool i (lines i)) (length names) → text ≡ sessions ++ (order_line order ++ pool_end_line) → status ≡ first_status (λ i. status_by (ending_at n.pool i)) (length names) → ((name : List ℕ) → RoseBy (failures_from name (λ i. (drawing-at i).ending) 0 names) (before name) (n.counts name)) → IsWithin (PoolDrawn p (files contents before n.counts) names schedule) status text first n.ticks
-    ended-told schedule order header sessions text status some order_is header_is sessions_are text_is status_is failed = record {
+    pub ended-told : (schedule order header sessions text : List ℕ) (status : Status) → 1 ≤ length names → order ≡ ends_in (asked_by n.pool) [] (all_asked (asked_by n.pool) (named (length names) schedule) (length names)) → header ≡ drawn_header certified_format p.setting p.base p.limits → sessions ≡ header ++ lines_below (λ i. told_session n.pool i (lines i)) (length names) → text ≡ sessions ++ (order_line order ++ pool_end_line) → status ≡ first_status (λ i. status_by (ending_at n.pool i)) (length names) → IsWithin (PoolDrawn p (files contents before n.counts) names schedule) status text first n.ticks
+    ended-told schedule order header sessions text status some order_is header_is sessions_are text_is status_is = record {
       ticks = raising_ticks (length names) course-at;
-      is = pooled.ended drawing-at (record { each = λ i name is. drawn-in-at i name is (slice_get n.pool i) refl; failed = failed }) (record {
+      is = pooled.ended drawing-at (record { each = λ i name is. drawn-in-at i name is (slice_get n.pool i) refl; failed = all-failed }) (record {
         status_is = status_is ∙ statuses-alike (λ i. status_by (ending_at n.pool i)) (λ i. ending_status (drawing-at i).ending) (length names) (λ i few. status-at (ending_at n.pool i) (ended i few));
         text_is =
             text_is

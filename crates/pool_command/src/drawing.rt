@@ -24,7 +24,10 @@ use newton_upper::Base;
 use oracle_memo::Memo;
 use sample_command::entries::header;
 use session_pool::pool::Pool;
-use size_window::laws::{a_table_has_its_chooser, a_trace_starts_with_its_drawing};
+use size_window::laws::{
+    a_course_uses_few_bits, a_table_has_its_chooser, a_trace_starts_with_its_drawing,
+    the_tape_ends_where_its_bits_are_used,
+};
 use size_window::limits::Limits;
 use std::alloc::{AllocError, Global};
 use std::sync::ledger::Ledger;
@@ -98,6 +101,8 @@ fn reported<const F: u32, S: Shelf, L: Ledger>(
     system.known();
     a_table_has_its_chooser();
     a_trace_starts_with_its_drawing();
+    a_course_uses_few_bits();
+    the_tape_ends_where_its_bits_are_used();
     let header = header::<F>(alloc, "boltzmann 2", system, x, limits, base.values())?;
     let mut memo = Memo::make(alloc, founded, x, base)?;
     let tapes = tapes_over(alloc, names)?;
