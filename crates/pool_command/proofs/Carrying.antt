@@ -1,17 +1,15 @@
 -- The stages of the command: what ends a call, and what follows.
-use Rattle.std.proofs.Common.{◌≡◌, ◌≢◌, ℕ, ◌+◌, ◌≤◌, ◌⊎◌, List, [], ◌∷◌, arith, refl, sym, ap, subst, ◌∙◌}
-use Rattle.std.specs.Prelude.{Option, Some}
+use Rattle.std.proofs.Common.{◌≡◌, ℕ, ◌≤◌, List, [], arith, refl, subst}
+use Rattle.std.specs.Prelude.{Option}
 use Rattle.bz_model.specs.Spec.{Spec}
 use Rattle.bz_model.specs.declared.fraction.Fraction.{Fraction}
 use Rattle.bz_outside.specs.Outside.{Rose}
-use Rattle.rounded_map.specs.RoundedMap.{Setting, setting}
-use Rattle.size_window.specs.RunByBits.{Limits as Window}
+use Rattle.rounded_map.specs.RoundedMap.{setting}
 use Rattle.size_window.specs.Drawing.{limits_of}
 use Rattle.size_window.specs.declared.limits.Limits.{Limits}
 use Rattle.call_stages.specs.Ends.{output, EndsBy}
 use Rattle.call_stages.specs.Ends as ends
 use Rattle.call_stages.specs.Outcomes.{Outcome, Never, Says, IsWithin}
-use Rattle.call_stages.specs.Outcomes as outcomes
 use Rattle.call_stages.specs.Stages.{Files, files, AreRead, FileRead, HasFailedRead, Specified, IsSpecified, Based}
 use Rattle.call_stages.specs.Stages as stages
 use Rattle.call_stages.specs.declared.status.Status.{Status}

@@ -1,33 +1,26 @@
 -- A pool whose drawings have ended, and one so far, as the command tells of them.
-use Rattle.std.proofs.Common.{◌≡◌, ◌≢◌, ℕ, zero, suc, ◌+◌, ◌-◌, ◌^◌, ◌<◌, ◌≤◌, ◌⊎◌, inl, inr, min, arith, Bool, true, false, cond, List, [], ◌∷◌, ◌++◌, length, map, refl, sym, ap, subst, ◌∙◌}
-use Rattle.std.specs.Prelude.{Option, Some, None, IfSome, IsSome, option_map, slice_get, if◌then◌else◌, ◌&&◌}
-use Rattle.std.specs.Str.{bytes_eq}
-use Rattle.std.proofs.lemmas.Slice.Eq.{bytes_eq-Decides}
-use Rattle.std.proofs.lemmas.Option.{slice_get-map, same_Some}
+use Rattle.std.proofs.Common.{◌≡◌, ℕ, ◌+◌, ◌-◌, ◌≤◌, arith, List, map, refl, sym, ap, subst, ◌∙◌}
+use Rattle.std.specs.Prelude.{Option, Some}
 use Rattle.bz_model.specs.declared.cell.Bounds.{Bounds}
-use Rattle.bz_model.specs.Fraction.{Fraction, ratio}
-use Rattle.bz_model.specs.Spec.{Spec}
-use Rattle.bz_outside.specs.Outside.{Rose, next_count, ReadFailed}
-use Rattle.bit_tape.specs.Tape.{TapeSource, CountsFault, HasFault, bits_of}
+use Rattle.bz_model.specs.Fraction.{ratio}
+use Rattle.bit_tape.specs.Tape.{TapeSource, bits_of}
 use Rattle.class_system.specs.Sound.{IsSound}
-use Rattle.oracle_memo.specs.Levels.{level_bounds, cost_at}
 use Rattle.size_window.specs.declared.ending.Ending.{Ending as Told}
 use Rattle.size_window.specs.declared.ending.Ending.TheVariants as told
 use Rattle.size_window.specs.declared.ending.Straddle.TheVariants as straddle
 use Rattle.size_window.specs.declared.turned.Turned.TheVariants as answer
-use Rattle.size_window.specs.RunByBits.{Limits, Ending, State, at_start}
+use Rattle.size_window.specs.RunByBits.{State}
 use Rattle.size_window.specs.Drawing.{AreLimits, ending_of}
 use Rattle.size_window.specs.Turn.{TellsOpen, entry_of, turns_of}
 use Rattle.session_pool.specs.Member.{MemberState}
-use Rattle.session_pool.specs.Pool.{ending_at, ending_of_member, sources_of}
 use Rattle.session_pool.specs.Interleaving.{Setting, setting, EndedRightly}
 use Rattle.call_stages.specs.Lines.{open_line}
-use Rattle.call_stages.specs.Stages.{Files, files}
-use Rattle.sample_command.specs.Drawn.{IsCourse, IsDrawn, Lists, closing_lines, open_lines}
+use Rattle.call_stages.specs.Stages.{files}
+use Rattle.sample_command.specs.Drawn.{Lists, closing_lines, open_lines}
 use Rattle.sample_command.specs.UnderWay.{met, has_failed, IsCourseSoFar, IsAtEnd, told_open}
 use Rattle.sample_command.proofs.AtTheEnd.{course-of, drawn-at-end, closing-is}
 use Rattle.sample_command.proofs.TapeEnds.{Chosen, EndLaws}
-use Rattle.pool_command.specs.PoolCommand.{PoolSetting, PoolCourse, PoolDrawing, AreInCall, IsCourseIn, IsDrawnIn, table_of}
+use Rattle.pool_command.specs.PoolCommand.{PoolSetting, PoolCourse, AreInCall, IsCourseIn, IsDrawnIn, table_of}
 use Rattle.pool_command.specs.UnderWay.{AreMoments, IsMemberUnderWay, asked_until}
 use Rattle.pool_command.specs.Schedule.{asks_to_end}
 use Rattle.pool_command.specs.Pages.{closing_by}

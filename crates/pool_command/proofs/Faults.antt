@@ -1,6 +1,6 @@
 -- How many drawings ended with a failed read of a tape.
-use Rattle.std.proofs.Common.{◌≡◌, ℕ, zero, suc, ◌+◌, ◌≤◌, arith, Bool, true, false, cond, List, [], ◌∷◌, map, refl, sym, ap, subst, ◌∙◌}
-use Rattle.std.specs.Prelude.{Option, Some, None, slice_get, ◌&&◌, if◌then◌else◌}
+use Rattle.std.proofs.Common.{◌≡◌, ℕ, suc, ◌+◌, arith, cond, List, [], ◌∷◌, map, refl, sym, ap, ◌∙◌}
+use Rattle.std.specs.Prelude.{Some, slice_get, ◌&&◌, if◌then◌else◌}
 use Rattle.std.specs.Str.{bytes_eq}
 use Rattle.std.proofs.lemmas.List.Sums.{sum_by-append}
 use Rattle.bit_tape.specs.Tape.{TapeSource}
@@ -10,7 +10,7 @@ use Rattle.size_window.specs.RunByBits.{Ending}
 use Rattle.size_window.specs.Drawing.{ending_of}
 use Rattle.session_pool.specs.Member.{MemberState}
 use Rattle.session_pool.specs.Pool.{sources_of}
-use Rattle.session_pool.specs.Interleaving.{has_failed, failures, RoseBy}
+use Rattle.session_pool.specs.Interleaving.{has_failed, failures}
 use Rattle.pool_command.specs.PoolCommand.{is_read_fault, failures_from}
 
 -- 1 where a drawing ended with a failed read of the tape of this name

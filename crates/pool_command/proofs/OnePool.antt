@@ -1,15 +1,15 @@
 -- A pool over tapes that are known, of which no read failed, has one outcome; two schedules differ in the order alone.
-use Rattle.std.proofs.Common.{◌≡◌, ◌≢◌, ℕ, zero, suc, ◌+◌, ◌-◌, ◌%◌, ◌<◌, ◌≤◌, ◌⊎◌, arith, List, [], ◌∷◌, ◌++◌, length, map, refl, sym, ap, subst, ◌∙◌}
-use Rattle.std.specs.Prelude.{Bool, true, false, Option, Some, None, option_map, slice_get, get_or, nat_eq, replicate, if◌then◌else◌}
-use Rattle.std.proofs.lemmas.Option.{slice_get-get_or, slice_get_within}
+use Rattle.std.proofs.Common.{◌≡◌, ◌≢◌, ℕ, zero, suc, ◌+◌, ◌%◌, ◌<◌, ◌≤◌, ◌⊎◌, arith, List, [], ◌∷◌, ◌++◌, length, refl, sym, ap, subst, ◌∙◌}
+use Rattle.std.specs.Prelude.{Bool, true, false, Option, Some, option_map, slice_get, get_or, nat_eq, replicate, if◌then◌else◌}
+use Rattle.std.proofs.lemmas.Option.{slice_get-get_or}
 use Rattle.bz_model.specs.Fraction.{ratio}
 use Rattle.bz_model.specs.declared.fraction.Fraction.{Fraction}
 use Rattle.bz_outside.specs.Outside.{Rose, Appends}
 use Rattle.bit_tape.specs.Bits.{file_bit}
-use Rattle.bit_tape.specs.Tape.{TapeSource, CountsFault, HasFault}
+use Rattle.bit_tape.specs.Tape.{TapeSource, CountsFault}
 use Rattle.bit_tape.proofs.Leaving.{fault-rose}
 use Rattle.rounded_map.specs.RoundedMap.{setting}
-use Rattle.size_window.specs.RunByBits.{Course, Ending}
+use Rattle.size_window.specs.RunByBits.{Course}
 use Rattle.size_window.specs.Drawing.{limits_of}
 use Rattle.size_window.specs.declared.limits.Limits.{Limits}
 use Rattle.call_stages.specs.Ends.{output, EndsBy}

@@ -1,5 +1,5 @@
 -- The order of the drawings that ended, with one drawing asked once more, and with all asked until they end.
-use Rattle.std.proofs.Common.{◌≡◌, ◌≢◌, ℕ, zero, suc, ◌+◌, ◌-◌, ◌<◌, ◌≤◌, ◌⊎◌, inl, inr, arith, Bool, true, false, cond, not, List, [], ◌∷◌, ◌++◌, length, append-nil, append_assoc, add-one, take, ◌*◌, ◌%◌, refl, sym, ◌∙◌, ap, subst}
+use Rattle.std.proofs.Common.{◌≡◌, ◌≢◌, ℕ, zero, suc, ◌+◌, ◌-◌, ◌<◌, ◌≤◌, ◌⊎◌, inl, inr, arith, Bool, true, false, cond, not, List, [], ◌∷◌, ◌++◌, length, append-nil, append_assoc, add-one, take, ◌%◌, refl, sym, ◌∙◌, ap, subst}
 use Rattle.std.specs.Option.{is_none, is_some}
 use Rattle.std.specs.Prelude.{Option, Some, None, IfSome, IsSome, slice_get, get_or, nat_eq, replicate}
 use Rattle.std.proofs.lemmas.Bool.Decides.{eqb_tells}
@@ -15,7 +15,7 @@ use Rattle.session_pool.specs.Pool.{PoolBelongs, ending_at, ending_of_member}
 use Rattle.session_pool.specs.Interleaving.{times, WasAsked}
 use Rattle.pool_command.specs.Schedule.{named, all_asked, ends_in}
 use Rattle.pool_command.specs.UnderWay.{Moment, Beginning, IsSoFar, IsUnderWay, IsBroken, IsAsked, IsFinished, IsCounted, asked_by, asked_of_member, asked_until, turns_at, turns_of_member, ended_now}
-use Rattle.pool_command.proofs.Ends.{differs-is, times-both, times-once-more, times-replicated, order-stays, order-grows}
+use Rattle.pool_command.proofs.Ends.{differs-is, times-both, times-replicated, order-stays, order-grows}
 use Rattle.pool_command.proofs.SoFar.{none-asked}
 use Rattle.pool_command.proofs.TurnsLeft.{turns_left, left_of_member, left_until}
 

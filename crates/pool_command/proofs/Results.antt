@@ -1,5 +1,4 @@
 -- What holds of any result holds of an error.
-use Rattle.std.proofs.Common.{ℕ}
 use Rattle.std.specs.Prelude.{Result, Ok, Err, OnOk, OnErr}
 
 pub on-err : {T E P : Type 0} (r : Result T E) → P → OnErr r P

@@ -1,6 +1,6 @@
 -- A pool before its first turn.
-use Rattle.std.proofs.Common.{◌≡◌, ℕ, zero, suc, ◌+◌, ◌≤◌, max, arith, List, [], ◌∷◌, length, map, refl, sym, ap, subst, ◌∙◌}
-use Rattle.std.specs.Prelude.{Option, Some, None, option_map, slice_get}
+use Rattle.std.proofs.Common.{◌≡◌, ℕ, zero, suc, ◌≤◌, max, arith, List, [], ◌∷◌, length, map, refl, sym, ap, subst, ◌∙◌}
+use Rattle.std.specs.Prelude.{Option, Some, None, option_map}
 use Rattle.std.specs.List.{All}
 use Rattle.std.proofs.lemmas.Option.{slice_get_within, get_or_from_slice_get}
 use Rattle.bit_tape.specs.Tape.{TapeSource, TapeState, Belongs, bits_of}
@@ -20,9 +20,9 @@ use Rattle.size_window.specs.Trace.{HasTrace, TracesStart}
 use Rattle.session_pool.specs.Member.{MemberState, IsNewMember}
 use Rattle.session_pool.specs.Interleaving.{Setting, setting, IsPoolAfter}
 use Rattle.session_pool.specs.Pool.{IsNewPool, tapes_of}
-use Rattle.sample_command.specs.UnderWay.{IsCourseSoFar, has_failed}
+use Rattle.sample_command.specs.UnderWay.{has_failed}
 use Rattle.pool_command.specs.PoolCommand.{greatest_below, pool_of}
-use Rattle.pool_command.specs.UnderWay.{AreMoments, IsMemberUnderWay, Beginning, Moment, IsSoFar, beginning, moment, tape_over}
+use Rattle.pool_command.specs.UnderWay.{AreMoments, IsMemberUnderWay, Beginning, IsSoFar, beginning, moment, tape_over}
 use Rattle.pool_command.proofs.Ended.{shared_of}
 
 -- a drawing that starts hasn't ended

@@ -1,8 +1,7 @@
 -- What the command tells of a pool whose drawings have ended, or that was broken off.
-use Rattle.std.proofs.Common.{◌≡◌, ◌≢◌, ℕ, zero, suc, ◌+◌, ◌-◌, ◌<◌, ◌≤◌, max, arith, Bool, true, false, cond, List, [], ◌∷◌, ◌++◌, length, map, get_or, refl, sym, ap, subst, ◌∙◌}
+use Rattle.std.proofs.Common.{◌≡◌, ℕ, zero, suc, ◌+◌, ◌<◌, ◌≤◌, max, arith, List, [], ◌∷◌, ◌++◌, length, map, get_or, refl, sym, ap, subst, ◌∙◌}
 use Rattle.std.specs.Prelude.{Option, Some, None, IfSome, IsSome, option_map, slice_get}
 use Rattle.std.proofs.lemmas.Option.{slice_get-map, slice_get-get_or, slice_get_within, same_Some}
-use Rattle.bz_model.specs.Fraction.{ratio}
 use Rattle.bit_tape.specs.Tape.{TapeSource}
 use Rattle.choice_draw.specs.Decision.{level_for}
 use Rattle.class_system.specs.Sound.{IsSound}
@@ -15,7 +14,7 @@ use Rattle.session_pool.specs.Pool.{ending_at, ending_of_member, sources_of}
 use Rattle.session_pool.specs.Interleaving.{EndedRightly, RoseBy}
 use Rattle.call_stages.specs.Lines.{lines_below, certified_format}
 use Rattle.call_stages.specs.Outcomes.{IsWithin}
-use Rattle.call_stages.specs.Stages.{Files, files}
+use Rattle.call_stages.specs.Stages.{files}
 use Rattle.call_stages.specs.declared.status.Status.{Status}
 use Rattle.sample_command.specs.Drawn.{closing_lines, drawn_header, ending_status}
 use Rattle.sample_command.proofs.TapeEnds.{Chosen, EndLaws}

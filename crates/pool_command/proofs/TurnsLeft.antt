@@ -1,5 +1,5 @@
 -- How many turns a drawing of a pool may still make.
-use Rattle.std.proofs.Common.{ℕ, ◌-◌, ◌+◌, List}
+use Rattle.std.proofs.Common.{ℕ, ◌-◌, List}
 use Rattle.std.specs.Prelude.{Option, Some, None, slice_get}
 use Rattle.session_pool.specs.Member.{MemberState}
 use Rattle.size_window.specs.declared.ending.Ending.{Ending}

@@ -1,5 +1,5 @@
 -- The lines of a pool's drawings, as the code has them.
-use Rattle.std.specs.Prelude.{◌≡◌, ℕ, ◌<◌, List, [], ◌++◌, map, slice_get, Option, Some, None, IfSome, IsSome}
+use Rattle.std.specs.Prelude.{◌≡◌, ℕ, ◌<◌, List, [], ◌++◌, map, slice_get, Option, Some, None}
 use Rattle.std.specs.List.{All}
 use Rattle.bz_model.specs.Spec.{Spec}
 use Rattle.object_store.specs.Tokens.{IsOf}

@@ -1,4 +1,4 @@
-use Rattle.std.proofs.Common.{◌≡◌, ◌++◌, [], List, ℕ, map, append-nil, refl, sym, ap, subst, arith}
+use Rattle.std.proofs.Common.{[], map, append-nil, refl, sym, subst, arith}
 use Rattle.std.proofs.lemmas.List.{take_all}
 use Rattle.size_window.specs.Turn.{entry_of}
 use Rattle.sample_command.specs.Drawn.{Lists}

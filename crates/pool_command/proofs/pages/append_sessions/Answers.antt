@@ -1,4 +1,4 @@
-use Rattle.std.proofs.Common.{ℕ, ◌≡◌, arith, subst}
+use Rattle.std.proofs.Common.{◌≡◌, arith, subst}
 use Rattle.pool_command.specs.Pages.{AreAppended}
 use Rattle.pool_command.proofs.Appending.{none-appended, one-appended}
 use Rattle.pool_command.proofs.pages.append_sessions.Goals as goal

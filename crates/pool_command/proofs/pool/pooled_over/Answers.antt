@@ -1,8 +1,6 @@
-use Rattle.std.proofs.Common.{◌∙◌, sym, subst, arith, ap, ℕ, List}
-use Rattle.std.specs.Prelude.{Option}
+use Rattle.std.proofs.Common.{arith}
 use Rattle.rounded_map.specs.RoundedMap.{setting}
 use Rattle.size_window.specs.Drawing.{limits_of}
-use Rattle.call_stages.specs.Ends.{EndsBy, output}
 use Rattle.call_stages.specs.Stages.{files}
 use Rattle.pool_command.specs.PoolCommand.{pool_of, PoolDrawn}
 use Rattle.pool_command.proofs.Carrying.{read-on, read-ended, drawn-earlier}

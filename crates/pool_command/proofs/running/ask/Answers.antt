@@ -1,7 +1,6 @@
-use Rattle.std.proofs.Common.{◌≡◌, ◌<◌, ℕ, [], ◌∷◌, ◌++◌, length, sym, ◌∙◌, subst, ap}
+use Rattle.std.proofs.Common.{◌<◌, [], ◌∷◌, ◌++◌, sym, ◌∙◌, subst}
 use Rattle.session_pool.specs.Interleaving.{setting}
-use Rattle.session_pool.specs.Pool.{ending_at}
-use Rattle.pool_command.specs.UnderWay.{moment, ended_now, IsUnderWay}
+use Rattle.pool_command.specs.UnderWay.{moment, IsUnderWay}
 use Rattle.pool_command.proofs.Orders.{order-same, order-more, broken-by}
 use Rattle.pool_command.proofs.Results.{on-err}
 use Rattle.pool_command.proofs.running.ask.Goals as goal

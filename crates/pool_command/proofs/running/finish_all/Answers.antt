@@ -1,4 +1,4 @@
-use Rattle.std.proofs.Common.{◌≡◌, ◌<◌, ℕ, refl, sym, ◌∙◌, subst, arith}
+use Rattle.std.proofs.Common.{◌≡◌, refl, sym, ◌∙◌, subst, arith}
 use Rattle.session_pool.specs.Interleaving.{setting}
 use Rattle.pool_command.specs.Schedule.{all_asked}
 use Rattle.pool_command.specs.UnderWay.{moment, asked_by, IsUnderWay}

@@ -1,4 +1,4 @@
-use Rattle.std.proofs.Common.{[], ◌++◌}
+use Rattle.std.proofs.Common.{[]}
 use Rattle.session_pool.specs.Interleaving.{setting}
 use Rattle.pool_command.specs.Schedule.{named}
 use Rattle.pool_command.specs.UnderWay.{moment}

@@ -1,13 +1,11 @@
-use Rattle.std.proofs.Common.{◌≡◌, ◌+◌, ◌<◌, ◌≤◌, List, ℕ, length, refl, sym, ◌∙◌, ap, subst}
-use Rattle.std.specs.Prelude.{Option}
+use Rattle.std.proofs.Common.{◌+◌, ◌<◌, ◌≤◌, refl, sym, ◌∙◌, ap, subst}
 use Rattle.bz_model.specs.Oracle.{cost_between}
 use Rattle.bit_tape.proofs.Leaving.{counts-kept}
 use Rattle.session_pool.specs.declared.pooled.Pooled.TheVariants as pooled
-use Rattle.session_pool.specs.Member.{MemberState}
-use Rattle.session_pool.specs.Pool.{PoolBelongs, ending_at}
-use Rattle.session_pool.specs.Interleaving.{Setting, setting}
+use Rattle.session_pool.specs.Pool.{PoolBelongs}
+use Rattle.session_pool.specs.Interleaving.{setting}
 use Rattle.pool_command.specs.UnderWay.{moment, IsSoFar}
-use Rattle.pool_command.proofs.SoFar.{same-shared, so-far-by, so-far-still, six-levels, contents-kept, later-at, asked-on, going-made, finished-made, goes-on, ends-by}
+use Rattle.pool_command.proofs.SoFar.{same-shared, so-far-by, so-far-still, six-levels, contents-kept, later-at, asked-on, going-made, finished-made}
 use Rattle.pool_command.proofs.running.turn_once.Goals as goal
 
 -- the turn was made
