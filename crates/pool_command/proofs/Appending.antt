@@ -76,10 +76,10 @@ one-appended s pool n start text next line p of is = record {
         ∙ ap (λ t. t ++ told_session pool n line) p.text_is
         ∙ append_assoc start (lines_below (λ number. told_session pool number (p.lines number)) n) (told_session pool n line)
         ∙ ap (λ t. start ++ t) (
-          ap (λ t. t ++ told_session pool n line) (below-alike (λ number. told_session pool number (p.lines number)) (λ number. told_session pool number (replaced p.lines n line number)) n (λ i few. same i few (eqb_tells i n)))
-          ∙ ap (λ l. lines_below (λ number. told_session pool number (replaced p.lines n line number)) n ++ told_session pool n l) (here (eqb_tells n n))
-          ∙ sym (below-next (λ number. told_session pool number (replaced p.lines n line number)) n)
-          ∙ ap (lines_below (λ number. told_session pool number (replaced p.lines n line number))) (sym (add-one n)))
+        ap (λ t. t ++ told_session pool n line) (below-alike (λ number. told_session pool number (p.lines number)) (λ number. told_session pool number (replaced p.lines n line number)) n (λ i few. same i few (eqb_tells i n)))
+        ∙ ap (λ l. lines_below (λ number. told_session pool number (replaced p.lines n line number)) n ++ told_session pool n l) (here (eqb_tells n n))
+        ∙ sym (below-next (λ number. told_session pool number (replaced p.lines n line number)) n)
+        ∙ ap (lines_below (λ number. told_session pool number (replaced p.lines n line number))) (sym (add-one n)))
 
 -- the lines of one more entry are appended
 pub entry-appended : (s : Spec) (entries : List Entry) (k : ℕ) (e : Entry) (start text next : List ℕ) → k < length entries → e ≡ get_or entries k e → (lines : List ℕ) × Lists s (map entry_of (take k entries)) lines × (text ≡ start ++ lines) → (more : List ℕ) × AreLinesOf s (entry_of e) more × (next ≡ text ++ more) → (lines : List ℕ) × Lists s (map entry_of (take (k + 1) entries)) lines × (next ≡ start ++ lines)
@@ -126,7 +126,7 @@ session-appended s pool number entries old first with_entries next line told is 
   p.0,
   lines-of-member s (slice_get pool number) entries p.0 told p.1,
   next_is
-  ∙ ap (λ t. t ++ closing_of_member (slice_get pool number)) (p.2 ∙ ap (λ t. t ++ p.0) (first_is ∙ ap (λ l. old ++ l) is))
-  ∙ append_assoc (old ++ session_line number) p.0 (closing_of_member (slice_get pool number))
-  ∙ append_assoc old (session_line number) (p.0 ++ closing_of_member (slice_get pool number)),
+      ∙ ap (λ t. t ++ closing_of_member (slice_get pool number)) (p.2 ∙ ap (λ t. t ++ p.0) (first_is ∙ ap (λ l. old ++ l) is))
+      ∙ append_assoc (old ++ session_line number) p.0 (closing_of_member (slice_get pool number))
+      ∙ append_assoc old (session_line number) (p.0 ++ closing_of_member (slice_get pool number)),
 )

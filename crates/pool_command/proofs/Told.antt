@@ -164,9 +164,9 @@ module _ (p : PoolSetting) (contents : List ℕ → Option (List ℕ)) (begun be
         text_is =
             text_is
             ∙ ap (λ t. t ++ (order_line order ++ pool_end_line)) (
-              sessions_are
-              ∙ ap (λ t. t ++ lines_below (λ i. told_session n.pool i (lines i)) (length names)) header_is
-              ∙ ap (λ t. drawn_header certified_format p.setting p.base p.limits ++ t) (below-alike (λ i. told_session n.pool i (lines i)) (session_lines (table_of p) drawing-at) (length names) (λ i few. session-at i few (slice_get n.pool i) refl)))
+            sessions_are
+            ∙ ap (λ t. t ++ lines_below (λ i. told_session n.pool i (lines i)) (length names)) header_is
+            ∙ ap (λ t. drawn_header certified_format p.setting p.base p.limits ++ t) (below-alike (λ i. told_session n.pool i (lines i)) (session_lines (table_of p) drawing-at) (length names) (λ i few. session-at i few (slice_get n.pool i) refl)))
             ∙ ap (λ o. drawings_text p (length names) drawing-at ++ (order_line o ++ pool_end_line)) (order_is ∙ order-alike (asks_of drawing-at) (asked_by n.pool) (length names) schedule some (λ i few. sym (asks-at i few (slice_get n.pool i) refl)));
         ticks_are = refl;
       });

@@ -62,7 +62,9 @@ pub(crate) fn drawn<const F: u32, S: Shelf, K: Sink, L: Ledger>(
     ensures counts { (other : List ℕ) → S.faults shelf.old other ≤ S.faults shelf.new other }
     ensures writes { K.faults out.old ≤ K.faults out.new }
 {
-    match reported::<F, S, L>(alloc, founded, x, base, limits, names, schedule, shelf, steps) {
+    match reported::<F, S, L>(
+        alloc, founded, x, base, limits, names, schedule, shelf, steps,
+    ) {
         Ok(report) => written(out, report.status, report.text.as_slice()),
         Err(_) => Status::OutOfMemory,
     }

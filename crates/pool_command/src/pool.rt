@@ -166,7 +166,9 @@ fn pooled_over<const F: u32, S: Shelf, K: Sink, L: Ledger>(
     match read_file(alloc, schedule, MOST_TURNS, shelf) {
         Ok(bytes) => {
             let bytes = bytes.as_slice();
-            drawn::<F, S, K, L>(alloc, founded, x, base, limits, tapes, bytes, shelf, out, steps)
+            drawn::<F, S, K, L>(
+                alloc, founded, x, base, limits, tapes, bytes, shelf, out, steps,
+            )
         }
         Err(refusal) => refused(out, &refusal),
     }

@@ -48,7 +48,9 @@ pub(crate) fn take_turns<const F: u32, O: Oracle<F>, S: Shelf, L: Ledger>(
     ensures counts { (name : List ℕ) → S.faults shelf.old name ≤ S.faults shelf.new name }
 {
     let mut order = Vec::new(alloc);
-    follow(founded, oracle, pool, count, schedule, &mut order, shelf, steps)?;
+    follow(
+        founded, oracle, pool, count, schedule, &mut order, shelf, steps,
+    )?;
     finish_all(founded, oracle, pool, count, &mut order, shelf, steps)?;
     Ok(order)
 }
