@@ -1,0 +1,14 @@
+pub mod TurnsLeft
+pub mod Ends
+pub mod Members
+pub mod SoFar
+pub mod Orders
+pub mod Results
+pub mod Appending
+pub mod Carrying
+pub mod OnePool
+pub mod Ended
+pub mod Told
+pub mod Starts
+pub mod Printable
+pub mod Faults

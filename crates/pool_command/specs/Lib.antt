@@ -1,0 +1,5 @@
+pub mod Schedule
+pub mod PoolCommand
+pub mod UnderWay
+pub mod Pages
+pub mod Schedules
