@@ -1,5 +1,5 @@
 -- Pools under way, as the code has them.
-use Rattle.std.specs.Prelude.{◌≡◌, ◌≢◌, ℕ, ◌+◌, ◌-◌, ◌*◌, ◌^◌, ◌<◌, ◌≤◌, Bool, true, false, List, [], length, map, slice_get, Option, Some, None, IsSome}
+use Rattle.std.specs.Prelude.{◌≡◌, ◌≢◌, ℕ, ◌+◌, ◌-◌, ◌<◌, ◌≤◌, Bool, true, false, List, [], length, map, slice_get, Option, Some, None, IsSome}
 use Rattle.std.specs.List.{All}
 use Rattle.bz_model.specs.Fraction.{Fraction}
 use Rattle.bz_model.specs.Spec.{Spec}
@@ -51,13 +51,11 @@ pub record AreMoments (source : TapeSource) (failed : Bool) (begun counts : List
   pub until : (name : List ℕ) → now name ≤ counts name
   pub reads : CountsFault failed source before now
 
--- A drawing is under way or has ended: it has a course so far, whose entries are those that were kept, each with labels as the mode wants them. Each turn that was counted took at most 60 bits for each of at most 1000000 atoms.
+-- A drawing is under way or has ended: it has a course so far, whose entries are those that were kept, each with labels as the mode wants them.
 pub record IsMemberUnderWay (w : Setting) (limits : Limits) (begun counts : List ℕ → ℕ) (m : MemberState) (most : ℕ) : Type 0 where
   pub so_far : IsCourseSoFar w.spec w.x w.F w.table limits (bits_of m.tape.source w.contents) m.drawing m.tape.used most
   pub entries : so_far.course.entries ≡ map entry_of m.entries
   pub labels : All (HasLabels w.spec.mode) m.entries
-  pub few : m.drawing.ending ≡ None → m.tape.used ≤ 60000000 * m.drawing.turns
-  pub used : m.tape.used < 2 ^ 63
   pub moments : AreMoments m.tape.source (has_failed m.drawing.ending) begun counts
 
 -- A moment of a pool: what its drawings share, the counts of failed reads, what raising a level costs, how far the levels are raised, the steps taken, and its drawings.
