@@ -1,11 +1,10 @@
 -- A drawing of a pool with one turn more.
-use Rattle.std.proofs.Common.{◌≡◌, ◌≢◌, ℕ, ◌+◌, ◌*◌, ◌^◌, ◌<◌, ◌≤◌, max, arith, List, ◌++◌, append-nil, refl, sym, ◌∙◌, ap, subst}
+use Rattle.std.proofs.Common.{◌≡◌, ◌≢◌, ℕ, ◌+◌, ◌≤◌, max, arith, List, ◌++◌, append-nil, refl, sym, ◌∙◌, ap, subst}
 use Rattle.std.specs.Prelude.{Bool, Option, Some, None, IfSome, map, option_to_list}
 use Rattle.std.specs.List.{All}
 use Rattle.std.proofs.lemmas.List.{map-append}
 use Rattle.std.proofs.lemmas.List.Elements.{All-push}
-use Rattle.bz_model.specs.Fraction.{Fraction}
-use Rattle.bz_model.specs.Spec.{Spec, Mode}
+use Rattle.bz_model.specs.Spec.{Mode}
 use Rattle.bit_tape.specs.Tape.{TapeSource, CountsFault, bits_of}
 use Rattle.class_system.specs.Sound.{IsSound}
 use Rattle.size_window.specs.declared.ending.Ending.{Ending as Told}
@@ -14,10 +13,8 @@ use Rattle.size_window.specs.declared.turned.Entry.{Entry}
 use Rattle.size_window.specs.declared.turned.Turned.{Turned as Answer}
 use Rattle.size_window.specs.declared.turned.Turned.TheVariants as answer
 use Rattle.size_window.specs.RunByBits.{Limits}
-use Rattle.size_window.specs.Drawing.{MadeShape, DrawingState, DrawingBelongs, Waits}
 use Rattle.size_window.specs.Trace.{TurnsContinue}
-use Rattle.size_window.specs.Turn.{HasLabels, IfKept, entry_of, told_entry, turns_by, turns_of, ending_by, most_bits}
-use Rattle.size_window.proofs.Going.{ideal-fits}
+use Rattle.size_window.specs.Turn.{HasLabels, IfKept, entry_of, told_entry, turns_by, turns_of, ending_by}
 use Rattle.session_pool.specs.declared.pooled.Pooled.{Pooled}
 use Rattle.session_pool.specs.Member.{MemberState, bits_to_nodes}
 use Rattle.session_pool.specs.Turn.{IsMemberTurn, kept_in}
@@ -38,14 +35,6 @@ labels-on mode es answer.Going all one = subst (All (HasLabels mode)) (sym (appe
 labels-on mode es (answer.Kept e) all one = All-push (HasLabels mode) es e all one
 labels-on mode es (answer.Finished e) all one = subst (All (HasLabels mode)) (sym (append-nil es)) all
 labels-on mode es answer.OutOfMemory all one = subst (All (HasLabels mode)) (sym (append-nil es)) all
-
--- a turn takes at most 60 bits for each of at most 1000000 atoms
-turn-bits : (s : Spec) (x : Fraction) (d : DrawingState) → DrawingBelongs s x d → most_bits d.waiting ≤ 60000000
-turn-bits s x d b = go d.waiting b.waits
-  where
-    go : (w : Option MadeShape) → IfSome w (Waits s x d) → most_bits w ≤ 60000000
-    go None h = omega arith
-    go (Some shape) h = let fits = ideal-fits s x d.limits.max shape.tokens shape.cells h.ideal in let most = b.limits.max in omega (arith, fits, most)
 
 -- a turn after which the drawing goes on is counted
 going-counts : (a : Answer) → a ≢ answer.OutOfMemory → ending_by None a ≡ None → turns_by None a ≡ 1
@@ -73,7 +62,7 @@ pub moments-longer : (source : TapeSource) (failed : Bool) (begun counts later :
 moments-longer source failed begun counts later grew p = record { before = p.before; now = p.now; since = p.since; until = λ name. let up = p.until name in let more = grew name in omega (arith, up, more); reads = p.reads }
 
 pub member-longer : (w : Setting) (limits : Limits) (begun counts later : List ℕ → ℕ) (m : MemberState) (most : ℕ) → ((name : List ℕ) → counts name ≤ later name) → IsMemberUnderWay w limits begun counts m most → IsMemberUnderWay w limits begun later m most
-member-longer w limits begun counts later m most grew p = record { so_far = p.so_far; entries = p.entries; labels = p.labels; few = p.few; used = p.used; moments = moments-longer m.tape.source (has_failed m.drawing.ending) begun counts later grew p.moments }
+member-longer w limits begun counts later m most grew p = record { so_far = p.so_far; entries = p.entries; labels = p.labels; moments = moments-longer m.tape.source (has_failed m.drawing.ending) begun counts later grew p.moments }
 
 module _ (w : Setting) (before now : List ℕ → ℕ) (m later : MemberState) (pooled : Pooled) (h : IsMemberTurn w.spec w.x w.F w.table w.contents before now m pooled later) where
   -- how a turn of a drawing that goes on is counted
@@ -90,7 +79,7 @@ module _ (w : Setting) (before now : List ℕ → ℕ) (m later : MemberState) (
       go None is = turns-are ∙ ap (λ n. m.drawing.turns + n) (going-counts h.told h.made (ends-by ∙ is))
       go (Some e) is = let same = turns-are in let by = end-counts h.told e (ends-by ∙ is) in let one = few-turns e in omega (arith, same, by, one)
 
-  module _ (limits : Limits) (most : ℕ) (law : TurnsContinue) (sound : IsSound w.spec) (belongs : DrawingBelongs w.spec w.x m.drawing) (later_belongs : DrawingBelongs w.spec w.x later.drawing) (begun : List ℕ → ℕ) (rose : (name : List ℕ) → begun name ≤ before name) (grew : (name : List ℕ) → before name ≤ now name) (p : IsMemberUnderWay w limits begun before m most) where
+  module _ (limits : Limits) (most : ℕ) (law : TurnsContinue) (sound : IsSound w.spec) (begun : List ℕ → ℕ) (rose : (name : List ℕ) → begun name ≤ before name) (grew : (name : List ℕ) → before name ≤ now name) (p : IsMemberUnderWay w limits begun before m most) where
     tells : TellsTurn w.spec w.x w.F w.table limits (bits_of m.tape.source w.contents) m.drawing later.drawing m.tape.used later.tape.used h.told
     tells = record { law = law; sound = sound; within = p.so_far.drawing.within; turn = h.turn; counted = h.counted }
 
@@ -110,25 +99,6 @@ module _ (w : Setting) (before now : List ℕ → ℕ) (m later : MemberState) (
 
     labels-are : All (HasLabels w.spec.mode) later.entries
     labels-are = subst (All (HasLabels w.spec.mode)) (sym h.entries) (labels-on w.spec.mode m.entries h.told p.labels h.labels)
-
-    -- the bits used
-    few-are : (later.drawing.ending ≡ None → later.tape.used ≤ 60000000 * later.drawing.turns) × (later.tape.used < 2 ^ 63)
-    few-are = go m.drawing.ending refl h.again
-      where
-        go : (o : Option Told) → m.drawing.ending ≡ o → IfSome o (λ ending. (h.told ≡ answer.Finished ending) × (later ≡ m)) → (later.drawing.ending ≡ None → later.tape.used ≤ 60000000 * later.drawing.turns) × (later.tape.used < 2 ^ 63)
-        go (Some e) is again = (
-          λ on. subst (λ (k : MemberState). k.tape.used ≤ 60000000 * k.drawing.turns) (sym again.1) (p.few (ap (λ (k : MemberState). k.drawing.ending) (sym again.1) ∙ on)),
-          subst (λ (k : MemberState). k.tape.used < 2 ^ 63) (sym again.1) p.used,
-        )
-        go None is again =
-            let so_few = p.few is in
-            let uses = h.used.1 in
-            let each = turn-bits w.spec w.x m.drawing belongs in
-            let at_most = belongs.turns in
-            let limit = belongs.limits.turns in (
-              λ on. let one = going-counts h.told h.made (sym (h.counted.ending ∙ ap (λ o. ending_by o h.told) is) ∙ on) in let turns = h.counted.turns ∙ ap (λ o. m.drawing.turns + turns_by o h.told) is in omega (arith, so_few, uses, each, one, turns),
-              omega (arith, so_few, uses, each, at_most, limit),
-            )
 
     -- the moments between which it met its tape
     moments-are : AreMoments later.tape.source (has_failed later.drawing.ending) begun now
@@ -151,7 +121,5 @@ module _ (w : Setting) (before now : List ℕ → ℕ) (m later : MemberState) (
           so_far = moved.0;
           entries = moved.1;
           labels = labels-are;
-          few = few-are.0;
-          used = few-are.1;
           moments = moments-are;
         }

@@ -3,7 +3,7 @@ use Rattle.std.proofs.Common.{◌≡◌, ◌≢◌, ℕ, zero, suc, ◌+◌, ◌
 use Rattle.std.specs.Option.{is_some}
 use Rattle.std.specs.Prelude.{Option, Some, None, IsSome, slice_get, slice_index, nat_eq, if◌then◌else◌}
 use Rattle.std.proofs.lemmas.Bool.Decides.{eqb_tells}
-use Rattle.std.proofs.lemmas.Option.{same_Some, slice_get_within, get_or_from_slice_get}
+use Rattle.std.proofs.lemmas.Option.{same_Some}
 use Rattle.bz_model.specs.declared.cell.Bounds.{Bounds}
 use Rattle.bz_model.specs.Fraction.{Fraction}
 use Rattle.bz_model.specs.Oracle.{cost_between}
@@ -15,12 +15,11 @@ use Rattle.oracle_memo.specs.Levels.{cost_at, costs}
 use Rattle.oracle_memo.proofs.Raising.{costs-at, are_costs}
 use Rattle.size_window.specs.declared.ending.Ending.{Ending as Told}
 use Rattle.size_window.specs.RunByBits.{Limits}
-use Rattle.size_window.specs.Drawing.{DrawingBelongs}
 use Rattle.size_window.specs.Trace.{TurnsContinue}
 use Rattle.session_pool.specs.declared.pooled.Pooled.{Pooled}
 use Rattle.session_pool.specs.declared.pooled.Pooled.TheVariants as pooled
 use Rattle.session_pool.specs.Member.{MemberState, bits_to_nodes}
-use Rattle.session_pool.specs.Pool.{PoolBelongs, LeavesTapeOf, bits_between, bits_to_nodes_at, ending_at, ending_of_member}
+use Rattle.session_pool.specs.Pool.{LeavesTapeOf, bits_between, bits_to_nodes_at, ending_at, ending_of_member}
 use Rattle.session_pool.specs.Turn.{IsPoolTurn, answer_of}
 use Rattle.session_pool.specs.Interleaving.{Setting, setting, IsPoolAfter}
 use Rattle.session_pool.proofs.Replaced.{replaced-here, replaced-elsewhere}
@@ -101,10 +100,7 @@ module _ (w : Setting) (before now : List ℕ → ℕ) (pool later : List Member
         (subst (λ o. IsCounted h.old_member.drawing.turns (turns_of_member o) (asked_of_member o) (ending_of_member o)) (sym later-here) counted);
   }
 
-  module _ (limits : Limits) (law : TurnsContinue) (sound : IsSound w.spec) (belongs : PoolBelongs w.spec w.x pool) (later_belongs : PoolBelongs w.spec w.x later) where
-    belongs-at : (ms : List MemberState) (i : ℕ) (m : MemberState) → PoolBelongs w.spec w.x ms → slice_get ms i ≡ Some m → DrawingBelongs w.spec w.x m.drawing
-    belongs-at ms i m all at = subst (λ (k : MemberState). DrawingBelongs w.spec w.x k.drawing) (get_or_from_slice_get ms i m m at) (all.each i m (slice_get_within ms i m at))
-
+  module _ (limits : Limits) (law : TurnsContinue) (sound : IsSound w.spec) where
     module _ (begun : List ℕ → ℕ) (rose : (name : List ℕ) → begun name ≤ before name) (grew : (name : List ℕ) → before name ≤ now name) (mosts : ℕ → ℕ) (each : (i : ℕ) (m : MemberState) → slice_get pool i ≡ Some m → IsMemberUnderWay w limits begun before m (mosts i)) where
       bits-are : bits_to_nodes h.old_member h.new_member ≡ bits_to_nodes_at number pool later
       bits-are = ap (λ o. bits_between o (Some h.new_member)) (sym h.at) ∙ ap (bits_between (slice_get pool number)) (sym later-here)
@@ -120,7 +116,7 @@ module _ (w : Setting) (before now : List ℕ → ℕ) (pool later : List Member
           go (inl k) =
               let here : slice_get later i ≡ Some h.new_member = ap (slice_get later) k.1 ∙ later-here in
               let is_new : h.new_member ≡ m = same_Some h.new_member m (sym here ∙ at) in
-              let on = member-on w before now h.old_member h.new_member pooled h.turn limits (mosts number) law sound (belongs-at pool number h.old_member belongs h.at) (belongs-at later number h.new_member later_belongs later-here) begun rose grew (each number h.old_member h.at) in
+              let on = member-on w before now h.old_member h.new_member pooled h.turn limits (mosts number) law sound begun rose grew (each number h.old_member h.at) in
               let by = subst (λ n. IsMemberUnderWay w limits begun now h.new_member (max (mosts number) n)) bits-are on in
               subst (IsMemberUnderWay w limits begun now m) (sym (updated-here mosts number (max (mosts number) (bits_to_nodes_at number pool later)) i k.0)) (subst (λ (z : MemberState). IsMemberUnderWay w limits begun now z (max (mosts number) (bits_to_nodes_at number pool later))) is_new by)
           go (inr k) =
@@ -129,12 +125,12 @@ module _ (w : Setting) (before now : List ℕ → ℕ) (pool later : List Member
 
 -- a pool so far, after a turn
 module _ (b : Beginning) (asked : List ℕ) (old new : Moment) (number : ℕ) (pooled : Pooled) (p : IsSoFar b asked old) where
-  module _ (h : IsPoolTurn b.shared.spec b.shared.x b.shared.F b.shared.table b.shared.contents old.counts new.counts old.pool number pooled new.pool) (law : TurnsContinue) (sound : IsSound b.shared.spec) (belongs : PoolBelongs b.shared.spec b.shared.x old.pool) (later_belongs : PoolBelongs b.shared.spec b.shared.x new.pool) (same : new.shared ≡ old.shared) (after : IsPoolAfter b.shared b.limits b.sources b.counts new.counts (asked ++ number ∷ []) new.pool) (cost : new.cost ≡ old.cost) (levels : new.raised ≤ 6) (rises : old.raised ≤ new.raised) (raised : new.raised ≡ max old.raised (level_for (bits_to_nodes_at number old.pool new.pool))) (ticks : new.ticks ≤ old.ticks + cost_between old.cost old.raised new.raised) (within : number < length old.pool) (number_is : length new.pool ≡ length old.pool) (grew : (name : List ℕ) → old.counts name ≤ new.counts name) where
+  module _ (h : IsPoolTurn b.shared.spec b.shared.x b.shared.F b.shared.table b.shared.contents old.counts new.counts old.pool number pooled new.pool) (law : TurnsContinue) (sound : IsSound b.shared.spec) (same : new.shared ≡ old.shared) (after : IsPoolAfter b.shared b.limits b.sources b.counts new.counts (asked ++ number ∷ []) new.pool) (cost : new.cost ≡ old.cost) (levels : new.raised ≤ 6) (rises : old.raised ≤ new.raised) (raised : new.raised ≡ max old.raised (level_for (bits_to_nodes_at number old.pool new.pool))) (ticks : new.ticks ≤ old.ticks + cost_between old.cost old.raised new.raised) (within : number < length old.pool) (number_is : length new.pool ≡ length old.pool) (grew : (name : List ℕ) → old.counts name ≤ new.counts name) where
     pub so-far-on : IsSoFar b (asked ++ number ∷ []) new
     so-far-on = record {
       same = same ∙ p.same;
-      mosts = mosts_on b.shared old.counts new.counts old.pool new.pool number pooled h b.limits law sound belongs later_belongs b.counts p.after.rose grew p.mosts p.each;
-      each = each-on b.shared old.counts new.counts old.pool new.pool number pooled h b.limits law sound belongs later_belongs b.counts p.after.rose grew p.mosts p.each;
+      mosts = mosts_on b.shared old.counts new.counts old.pool new.pool number pooled h b.limits law sound b.counts p.after.rose grew p.mosts p.each;
+      each = each-on b.shared old.counts new.counts old.pool new.pool number pooled h b.limits law sound b.counts p.after.rose grew p.mosts p.each;
       after = after;
       cost_is = cost ∙ p.cost_is;
       levels = levels;
@@ -147,14 +143,12 @@ pub same-shared : (s t : Spec) (x y : Fraction) (F : ℕ) (table other : (level 
 same-shared s t x y F table other contents others es ex et ec = ap (λ z. setting z x F table contents) es ∙ ap (λ z. setting t z F table contents) ex ∙ ap (λ z. setting t y F z contents) et ∙ ap (λ z. setting t y F other z) ec
 
 -- the same, of what the drawings share as the code has it
-pub so-far-by : (b : Beginning) (asked : List ℕ) (old new : Moment) (number : ℕ) (pooled : Pooled) (w : Setting) → w ≡ b.shared → IsSoFar b asked old → IsPoolTurn w.spec w.x w.F w.table w.contents old.counts new.counts old.pool number pooled new.pool → TurnsContinue → IsSound w.spec → PoolBelongs w.spec w.x old.pool → PoolBelongs w.spec w.x new.pool → new.shared ≡ old.shared → ((limits : Limits) (sources : List TapeSource) (begun : List ℕ → ℕ) (turns : List ℕ) → IsPoolAfter w limits sources begun old.counts turns old.pool → IsPoolAfter w limits sources begun new.counts (turns ++ number ∷ []) new.pool) → new.cost ≡ old.cost → new.raised ≤ 6 → old.raised ≤ new.raised → new.raised ≡ max old.raised (level_for (bits_to_nodes_at number old.pool new.pool)) → new.ticks ≤ old.ticks + cost_between old.cost old.raised new.raised → number < length old.pool → length new.pool ≡ length old.pool → ((name : List ℕ) → old.counts name ≤ new.counts name) → IsSoFar b (asked ++ number ∷ []) new
-so-far-by b asked old new number pooled w is p h law sound belongs later_belongs same alone cost levels rises raised ticks within number_is grew =
+pub so-far-by : (b : Beginning) (asked : List ℕ) (old new : Moment) (number : ℕ) (pooled : Pooled) (w : Setting) → w ≡ b.shared → IsSoFar b asked old → IsPoolTurn w.spec w.x w.F w.table w.contents old.counts new.counts old.pool number pooled new.pool → TurnsContinue → IsSound w.spec → new.shared ≡ old.shared → ((limits : Limits) (sources : List TapeSource) (begun : List ℕ → ℕ) (turns : List ℕ) → IsPoolAfter w limits sources begun old.counts turns old.pool → IsPoolAfter w limits sources begun new.counts (turns ++ number ∷ []) new.pool) → new.cost ≡ old.cost → new.raised ≤ 6 → old.raised ≤ new.raised → new.raised ≡ max old.raised (level_for (bits_to_nodes_at number old.pool new.pool)) → new.ticks ≤ old.ticks + cost_between old.cost old.raised new.raised → number < length old.pool → length new.pool ≡ length old.pool → ((name : List ℕ) → old.counts name ≤ new.counts name) → IsSoFar b (asked ++ number ∷ []) new
+so-far-by b asked old new number pooled w is p h law sound same alone cost levels rises raised ticks within number_is grew =
     so-far-on b asked old new number pooled p
     (subst (λ (z : Setting). IsPoolTurn z.spec z.x z.F z.table z.contents old.counts new.counts old.pool number pooled new.pool) is h)
     law
     (subst (λ (z : Setting). IsSound z.spec) is sound)
-    (subst (λ (z : Setting). PoolBelongs z.spec z.x old.pool) is belongs)
-    (subst (λ (z : Setting). PoolBelongs z.spec z.x new.pool) is later_belongs)
     same
     (subst (λ z. IsPoolAfter z b.limits b.sources b.counts new.counts (asked ++ number ∷ []) new.pool) is (alone b.limits b.sources b.counts asked (subst (λ z. IsPoolAfter z b.limits b.sources b.counts old.counts asked old.pool) (sym is) p.after)))
     cost levels rises raised ticks within number_is grew

@@ -38,8 +38,6 @@ new-under-way starts w limits counts m new unused =
       so_far = record { turns = 0; course = at_start; drawing = started };
       entries = sym (ap (map entry_of) new.entries);
       labels = subst (All (HasLabels w.spec.mode)) (sym new.entries) (λ k d lt. absurd (omega (arith, lt)));
-      few = λ on. omega (arith, unused);
-      used = omega (arith, unused);
       moments = subst (λ o. AreMoments m.tape.source (has_failed o) counts counts) (sym going) (record { before = counts; now = counts; since = λ name. omega arith; until = λ name. omega arith; reads = refl });
     }
   where

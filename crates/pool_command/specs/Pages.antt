@@ -16,7 +16,9 @@ use Rattle.pool_command.specs.PoolCommand.{session_line}
 -- The closing of a drawing that ended; none while it goes on.
 abbrev pub closing_by : MemberState → Option Ending → List ℕ
 closing_by m None = []
-closing_by m (Some ending) = told_open ending ++ end_line (ending_word (ending_of ending)) m.drawing.kept m.drawing.thrown m.tape.used m.drawing.turns
+closing_by m (Some ending) =
+    told_open ending ++ end_line (ending_word (ending_of ending)) m.drawing.kept m.drawing.thrown
+    m.tape.used m.drawing.turns
 
 abbrev pub closing_of_member : Option MemberState → List ℕ
 closing_of_member None = []
@@ -24,7 +26,8 @@ closing_of_member (Some m) = closing_by m m.drawing.ending
 
 -- The lines of the drawing of this number, those of its entries being given.
 abbrev pub told_session : (pool : List MemberState) (number : ℕ) (lines : List ℕ) → List ℕ
-told_session pool number lines = session_line number ++ (lines ++ closing_of_member (slice_get pool number))
+told_session pool number lines =
+    session_line number ++ (lines ++ closing_of_member (slice_get pool number))
 
 -- These lines are those of the entries of a drawing, where there is one.
 abbrev pub AreLinesOfMember : Spec → Option MemberState → List ℕ → Type 0
@@ -32,12 +35,14 @@ AreLinesOfMember s None lines = Unit {0}
 AreLinesOfMember s (Some m) lines = Lists s (map entry_of m.entries) lines
 
 -- The lines of the first n drawings were appended to a text.
-pub record AreAppended (s : Spec) (pool : List MemberState) (n : ℕ) (before now : List ℕ) : Type 0 where
+pub record AreAppended (s : Spec) (pool : List MemberState) (n : ℕ)
+    (before now : List ℕ) : Type 0 where
   pub lines : ℕ → List ℕ
   pub lists : (number : ℕ) → number < n → AreLinesOfMember s (slice_get pool number) (lines number)
   pub text_is : now ≡ before ++ lines_below (λ number. told_session pool number (lines number)) n
 
--- The entries of a drawing can be printed: each is of an object of class 0, with labels as the mode wants them.
+-- The entries of a drawing can be printed: each is of an object of class 0, with labels as the mode
+-- wants them.
 pub record CanPrint (s : Spec) (m : MemberState) : Type 0 where
   pub are_of : All (λ e. IsOf s 0 e.shape.items) m.entries
   pub labels : All (HasLabels s.mode) m.entries

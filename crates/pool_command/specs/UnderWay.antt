@@ -1,5 +1,5 @@
 -- Pools under way, as the code has them.
-use Rattle.std.specs.Prelude.{◌≡◌, ◌≢◌, ℕ, ◌+◌, ◌-◌, ◌*◌, ◌^◌, ◌<◌, ◌≤◌, Bool, true, false, List, [], length, map, slice_get, Option, Some, None, IsSome}
+use Rattle.std.specs.Prelude.{◌≡◌, ◌≢◌, ℕ, ◌+◌, ◌-◌, ◌<◌, ◌≤◌, Bool, true, false, List, [], length, map, slice_get, Option, Some, None, IsSome}
 use Rattle.std.specs.List.{All}
 use Rattle.bz_model.specs.Fraction.{Fraction}
 use Rattle.bz_model.specs.Spec.{Spec}
@@ -43,24 +43,29 @@ turns_of_member (Some m) = m.drawing.turns
 abbrev pub turns_at : List MemberState → (number : ℕ) → ℕ
 turns_at pool number = turns_of_member (slice_get pool number)
 
--- Two moments between which a drawing met its tape, told by the counts of failed reads: the first isn't before the pool began, nor the second after now. In between the count of the tape's name rose once where the drawing ended with a failed read; else no count changed.
-pub record AreMoments (source : TapeSource) (failed : Bool) (begun counts : List ℕ → ℕ) : Type 0 where
+-- Two moments between which a drawing met its tape, told by the counts of failed reads: the first
+-- isn't before the pool began, nor the second after now. In between the count of the tape's name
+-- rose once where the drawing ended with a failed read; else no count changed.
+pub record AreMoments (source : TapeSource) (failed : Bool)
+    (begun counts : List ℕ → ℕ) : Type 0 where
   pub before : List ℕ → ℕ
   pub now : List ℕ → ℕ
   pub since : (name : List ℕ) → begun name ≤ before name
   pub until : (name : List ℕ) → now name ≤ counts name
   pub reads : CountsFault failed source before now
 
--- A drawing is under way or has ended: it has a course so far, whose entries are those that were kept, each with labels as the mode wants them. Each turn that was counted took at most 60 bits for each of at most 1000000 atoms.
-pub record IsMemberUnderWay (w : Setting) (limits : Limits) (begun counts : List ℕ → ℕ) (m : MemberState) (most : ℕ) : Type 0 where
-  pub so_far : IsCourseSoFar w.spec w.x w.F w.table limits (bits_of m.tape.source w.contents) m.drawing m.tape.used most
+-- A drawing is under way or has ended: it has a course so far, whose entries are those that were
+-- kept, each with labels as the mode wants them.
+pub record IsMemberUnderWay (w : Setting) (limits : Limits) (begun counts : List ℕ → ℕ)
+    (m : MemberState) (most : ℕ) : Type 0 where
+  pub so_far : IsCourseSoFar w.spec w.x w.F w.table limits (bits_of m.tape.source w.contents)
+      m.drawing m.tape.used most
   pub entries : so_far.course.entries ≡ map entry_of m.entries
   pub labels : All (HasLabels w.spec.mode) m.entries
-  pub few : m.drawing.ending ≡ None → m.tape.used ≤ 60000000 * m.drawing.turns
-  pub used : m.tape.used < 2 ^ 63
   pub moments : AreMoments m.tape.source (has_failed m.drawing.ending) begun counts
 
--- A moment of a pool: what its drawings share, the counts of failed reads, what raising a level costs, how far the levels are raised, the steps taken, and its drawings.
+-- A moment of a pool: what its drawings share, the counts of failed reads, what raising a level
+-- costs, how far the levels are raised, the steps taken, and its drawings.
 pub record Moment : Type 0 where
   pub shared : Setting
   pub counts : List ℕ → ℕ
@@ -69,10 +74,19 @@ pub record Moment : Type 0 where
   pub ticks : ℕ
   pub pool : List MemberState
 
-abbrev pub moment : (shared : Setting) (counts : List ℕ → ℕ) (cost : List ℕ) (raised ticks : ℕ) (pool : List MemberState) → Moment
-moment shared counts cost raised ticks pool = record { shared = shared; counts = counts; cost = cost; raised = raised; ticks = ticks; pool = pool }
+abbrev pub moment : (shared : Setting) (counts : List ℕ → ℕ) (cost : List ℕ) (raised ticks : ℕ)
+    (pool : List MemberState) → Moment
+moment shared counts cost raised ticks pool = record {
+  shared = shared;
+  counts = counts;
+  cost = cost;
+  raised = raised;
+  ticks = ticks;
+  pool = pool;
+}
 
--- How a pool began: what its drawings share, their limits, where the bits of their tapes come from, the counts of failed reads and the steps taken.
+-- How a pool began: what its drawings share, their limits, where the bits of their tapes come from,
+-- the counts of failed reads and the steps taken.
 pub record Beginning : Type 0 where
   pub shared : Setting
   pub limits : Limits
@@ -80,14 +94,23 @@ pub record Beginning : Type 0 where
   pub counts : List ℕ → ℕ
   pub ticks : ℕ
 
-abbrev pub beginning : (shared : Setting) (limits : Limits) (sources : List TapeSource) (counts : List ℕ → ℕ) (ticks : ℕ) → Beginning
-beginning shared limits sources counts ticks = record { shared = shared; limits = limits; sources = sources; counts = counts; ticks = ticks }
+abbrev pub beginning : (shared : Setting) (limits : Limits) (sources : List TapeSource)
+    (counts : List ℕ → ℕ) (ticks : ℕ) → Beginning
+beginning shared limits sources counts ticks = record {
+  shared = shared;
+  limits = limits;
+  sources = sources;
+  counts = counts;
+  ticks = ticks;
+}
 
--- A pool so far, after these drawings were asked for turns: each stands where it would stand alone, and the levels are raised for the bits that numbers were given in any drawing.
+-- A pool so far, after these drawings were asked for turns: each stands where it would stand alone,
+-- and the levels are raised for the bits that numbers were given in any drawing.
 pub record IsSoFar (b : Beginning) (asked : List ℕ) (n : Moment) : Type 0 where
   pub same : n.shared ≡ b.shared
   pub mosts : ℕ → ℕ
-  pub each : (number : ℕ) (m : MemberState) → slice_get n.pool number ≡ Some m → IsMemberUnderWay b.shared b.limits b.counts n.counts m (mosts number)
+  pub each : (number : ℕ) (m : MemberState) → slice_get n.pool number ≡ Some m
+      → IsMemberUnderWay b.shared b.limits b.counts n.counts m (mosts number)
   pub after : IsPoolAfter b.shared b.limits b.sources b.counts n.counts asked n.pool
   pub cost_is : n.cost ≡ costs
   pub levels : n.raised ≤ 6
@@ -105,14 +128,16 @@ pub record IsBroken (b : Beginning) (n : Moment) : Type 0 where
   pub so_far : IsSoFar b asked n
 
 -- A pool of so many drawings from a sound specification over tapes can be asked for turns.
-pub record CanAsk (s : Spec) (oracle_spec : Spec) (x : Fraction) (contents : List ℕ → Option (List ℕ)) (count : ℕ) (pool : List MemberState) : Type 0 where
+pub record CanAsk (s : Spec) (oracle_spec : Spec) (x : Fraction)
+    (contents : List ℕ → Option (List ℕ)) (count : ℕ) (pool : List MemberState) : Type 0 where
   pub sound : IsSound s
   pub spec : oracle_spec ≡ s
   pub drawings : PoolBelongs s x pool
   pub tapes : TapesBelong contents (tapes_of pool)
   pub number : length pool ≡ count
 
--- Where a drawing goes on after it was asked it made one turn more; where it ended it was asked once more than it had made turns.
+-- Where a drawing goes on after it was asked it made one turn more; where it ended it was asked
+-- once more than it had made turns.
 abbrev pub IsCounted : (turns_before turns : ℕ) → (asked : ℕ) → Option Ending → Type 0
 IsCounted turns_before turns asked None = turns ≡ turns_before + 1
 IsCounted turns_before turns asked (Some ending) = asked ≡ turns_before + 1
@@ -121,7 +146,9 @@ IsCounted turns_before turns asked (Some ending) = asked ≡ turns_before + 1
 pub record IsAsked (pool : List MemberState) (number : ℕ) (later : List MemberState) : Type 0 where
   pub others : (other : ℕ) → other ≢ number → slice_get later other ≡ slice_get pool other
   pub rests : IsSome (ending_at pool number) → later ≡ pool
-  pub counted : ending_at pool number ≡ None → IsCounted (turns_at pool number) (turns_at later number) (asked_by later number) (ending_at later number)
+  pub counted : ending_at pool number ≡ None
+      → IsCounted (turns_at pool number) (turns_at later number) (asked_by later number)
+      (ending_at later number)
 
 -- A drawing that hadn't ended has ended.
 abbrev pub ended_now : (before now : Option Ending) → Bool
@@ -129,11 +156,14 @@ ended_now None (Some ending) = true
 ended_now before now = false
 
 -- A drawing was asked until it ended: it has, and every other one is as it was.
-pub record IsFinished (pool : List MemberState) (number : ℕ) (later : List MemberState) : Type 0 where
+pub record IsFinished (pool : List MemberState) (number : ℕ)
+    (later : List MemberState) : Type 0 where
   pub ended : IsSome (ending_at later number)
   pub others : (other : ℕ) → other ≢ number → slice_get later other ≡ slice_get pool other
 
--- All of so many drawings have ended, asked by the bytes of a schedule and then, least number first, until each had ended.
-pub record IsEnded (b : Beginning) (schedule : List ℕ) (count : ℕ) (n : Moment) (order : List ℕ) : Type 0 where
+-- All of so many drawings have ended, asked by the bytes of a schedule and then, least number
+-- first, until each had ended.
+pub record IsEnded (b : Beginning) (schedule : List ℕ) (count : ℕ) (n : Moment)
+    (order : List ℕ) : Type 0 where
   pub under_way : IsUnderWay b (all_asked (asked_by n.pool) (named count schedule) count) n order
   pub ended : (number : ℕ) → number < count → IsSome (ending_at n.pool number)

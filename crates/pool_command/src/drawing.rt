@@ -33,7 +33,8 @@ use std::alloc::{AllocError, Global};
 use std::sync::ledger::Ledger;
 use well_founded::examination::Founded;
 
-/// Draws over the levels of the base, a drawing over each tape, by the schedule, and writes the text.
+/// Draws over the levels of the base, a drawing over each tape, by the schedule, and writes the
+/// text.
 ///
 /// In `ends` the counts of failed reads before the call may be those of an earlier time.
 pub(crate) fn drawn<const F: u32, S: Shelf, K: Sink, L: Ledger>(
@@ -54,7 +55,8 @@ pub(crate) fn drawn<const F: u32, S: Shelf, K: Sink, L: Ledger>(
     requires number { (1 ≤ length names.now) × (length names.now ≤ 64) }
     ensures ends { (before : List ℕ → ℕ)
         → ((other : List ℕ) → before other ≤ S.faults shelf.old other)
-        → EndsBy (PoolDrawn (pool_of (setting founded.now x.num x.den F) base.entry (limits_of limits))
+        → EndsBy (PoolDrawn (pool_of (setting founded.now x.num x.den F) base.entry
+        (limits_of limits))
         (files (S.content shelf.old) before (S.faults shelf.new)) names.now schedule.now)
         (output (K.written out.old) (K.written out.new) (K.faults out.old) (K.faults out.new)
         steps.old steps.new) result }
@@ -88,12 +90,14 @@ fn reported<const F: u32, S: Shelf, L: Ledger>(
     requires number { (1 ≤ length names.now) × (length names.now ≤ 64) }
     ensures ok { IfOk result (λ r. (before : List ℕ → ℕ)
         → ((other : List ℕ) → before other ≤ S.faults shelf.old other)
-        → IsWithin (PoolDrawn (pool_of (setting founded.now x.num x.den F) base.entry (limits_of limits))
+        → IsWithin (PoolDrawn (pool_of (setting founded.now x.num x.den F) base.entry
+        (limits_of limits))
         (files (S.content shelf.old) before (S.faults shelf.new)) names.now schedule.now)
         r.status r.text.items steps.old steps.new) }
     ensures err { OnErr result ((before : List ℕ → ℕ)
         → ((other : List ℕ) → before other ≤ S.faults shelf.old other)
-        → IsWithin (PoolDrawn (pool_of (setting founded.now x.num x.den F) base.entry (limits_of limits))
+        → IsWithin (PoolDrawn (pool_of (setting founded.now x.num x.den F) base.entry
+        (limits_of limits))
         (files (S.content shelf.old) before (S.faults shelf.new)) names.now schedule.now)
         said.Status.OutOfMemory [] steps.old steps.new) }
     ensures content { S.content shelf.new ≡ S.content shelf.old }

@@ -29,8 +29,8 @@ use well_founded::examination::Founded;
 /// The most bytes of a schedule that count.
 const MOST_TURNS: u64 = 1_048_576;
 
-/// Reads a specification, judges it, searches a base at `x`, and draws objects of its first class over
-/// each of 1 to 64 tapes, by turns that the bytes of a schedule name.
+/// Reads a specification, judges it, searches a base at `x`, and draws objects of its first class
+/// over each of 1 to 64 tapes, by turns that the bytes of a schedule name.
 ///
 /// Everything is written after all drawings have ended. Where memory runs out nothing is written.
 pub fn pool<S: Shelf, K: Sink, L: Ledger>(
@@ -92,14 +92,16 @@ fn pooled_at<S: Shelf, K: Sink, L: Ledger>(
         → ((other : List ℕ) → before other ≤ S.faults shelf.old other)
         → EndsBy (Based (setting founded.now x.num x.den (fraction_bits fraction))
         (PooledOver (files (S.content shelf.old) before (S.faults shelf.new))
-        (setting founded.now x.num x.den (fraction_bits fraction)) (limits_of limits) schedule.now tapes.now))
+        (setting founded.now x.num x.den (fraction_bits fraction)) (limits_of limits) schedule.now
+        tapes.now))
         (output (K.written out.old) (K.written out.new) (K.faults out.old) (K.faults out.new)
         steps.old steps.new) result }
     ensures content { S.content shelf.new ≡ S.content shelf.old }
     ensures counts { (other : List ℕ) → S.faults shelf.old other ≤ S.faults shelf.new other }
     ensures writes { K.faults out.old ≤ K.faults out.new }
 {
-    at_fraction!(fraction, pooled [S, K, L] (alloc, founded, x, schedule, tapes, limits, shelf, out, steps))
+    at_fraction!(fraction, pooled [S, K, L]
+        (alloc, founded, x, schedule, tapes, limits, shelf, out, steps))
 }
 
 /// Searches a base of the specification, and draws over its levels, in units of `2^-F`.

@@ -1,4 +1,5 @@
-//! The turns of a pool: those that its schedule names, and then those of each drawing until it ends.
+//! The turns of a pool: those that its schedule names, and then those of each drawing until it
+//! ends.
 ghost use Rattle.std.specs.Prelude.{◌≡◌, ◌≢◌, ℕ, ◌+◌, ◌-◌, ◌<◌, ◌≤◌, [], ◌∷◌, ◌++◌, List, length, replicate, IfOk, OnOk, OnErr, IsSome};
 ghost use Rattle.session_pool.specs.Interleaving.{setting, times};
 ghost use Rattle.session_pool.specs.Pool.{ending_at};
@@ -16,10 +17,11 @@ use std::alloc::{AllocError, Global};
 use std::sync::ledger::Ledger;
 use well_founded::examination::Founded;
 
-/// Makes the turns of a pool until all its drawings have ended, and answers in which order they ended.
+/// Makes the turns of a pool until all its drawings have ended, and answers in which order they
+/// ended.
 ///
-/// The bytes of the schedule, modulo the number of drawings, name those that are asked for a turn. Then
-/// each drawing, least number first, is asked until it has ended.
+/// The bytes of the schedule, modulo the number of drawings, name those that are asked for a turn.
+/// Then each drawing, least number first, is asked until it has ended.
 pub(crate) fn take_turns<const F: u32, O: Oracle<F>, S: Shelf, L: Ledger>(
     alloc: Global,
     founded: &Founded,
@@ -32,18 +34,26 @@ pub(crate) fn take_turns<const F: u32, O: Oracle<F>, S: Shelf, L: Ledger>(
 ) -> Result<Vec<usize>, AllocError>
     requires fraction { (24 ≤ F) × (F ≤ 56) }
     requires some { 1 ≤ count }
-    requires can { CanAsk founded.now (O.spec oracle.old) (O.x oracle.old) (S.content shelf.old) count pool.old }
+    requires can { CanAsk founded.now (O.spec oracle.old) (O.x oracle.old) (S.content shelf.old)
+        count pool.old }
     ensures ended { IfOk result (λ order. (b : Beginning)
-        → IsSoFar b [] (moment (setting (O.spec oracle.old) (O.x oracle.old) F (O.table oracle.old) (S.content shelf.old))
+        → IsSoFar b [] (moment (setting (O.spec oracle.old) (O.x oracle.old) F (O.table oracle.old)
+        (S.content shelf.old))
         (S.faults shelf.old) (O.cost oracle.old) (O.raised oracle.old) steps.old pool.old)
-        → IsEnded b schedule.now count (moment (setting (O.spec oracle.new) (O.x oracle.new) F (O.table oracle.new) (S.content shelf.new))
-        (S.faults shelf.new) (O.cost oracle.new) (O.raised oracle.new) steps.new pool.new) order.items) }
+        → IsEnded b schedule.now count
+        (moment (setting (O.spec oracle.new) (O.x oracle.new) F (O.table oracle.new)
+        (S.content shelf.new))
+        (S.faults shelf.new) (O.cost oracle.new) (O.raised oracle.new) steps.new pool.new)
+        order.items) }
     ensures broken { OnErr result ((b : Beginning)
-        → IsSoFar b [] (moment (setting (O.spec oracle.old) (O.x oracle.old) F (O.table oracle.old) (S.content shelf.old))
+        → IsSoFar b [] (moment (setting (O.spec oracle.old) (O.x oracle.old) F (O.table oracle.old)
+        (S.content shelf.old))
         (S.faults shelf.old) (O.cost oracle.old) (O.raised oracle.old) steps.old pool.old)
-        → IsBroken b (moment (setting (O.spec oracle.new) (O.x oracle.new) F (O.table oracle.new) (S.content shelf.new))
+        → IsBroken b (moment (setting (O.spec oracle.new) (O.x oracle.new) F (O.table oracle.new)
+        (S.content shelf.new))
         (S.faults shelf.new) (O.cost oracle.new) (O.raised oracle.new) steps.new pool.new)) }
-    ensures can { CanAsk founded.now (O.spec oracle.new) (O.x oracle.new) (S.content shelf.new) count pool.new }
+    ensures can { CanAsk founded.now (O.spec oracle.new) (O.x oracle.new) (S.content shelf.new)
+        count pool.new }
     ensures content { S.content shelf.new ≡ S.content shelf.old }
     ensures counts { (name : List ℕ) → S.faults shelf.old name ≤ S.faults shelf.new name }
 {
@@ -68,18 +78,28 @@ fn follow<const F: u32, O: Oracle<F>, S: Shelf, L: Ledger>(
 ) -> Result<(), AllocError>
     requires fraction { (24 ≤ F) × (F ≤ 56) }
     requires some { 1 ≤ count }
-    requires can { CanAsk founded.now (O.spec oracle.old) (O.x oracle.old) (S.content shelf.old) count pool.old }
+    requires can { CanAsk founded.now (O.spec oracle.old) (O.x oracle.old) (S.content shelf.old)
+        count pool.old }
     ensures under_way { OnOk result ((b : Beginning) (asked : List ℕ)
-        → IsUnderWay b asked (moment (setting (O.spec oracle.old) (O.x oracle.old) F (O.table oracle.old) (S.content shelf.old))
-        (S.faults shelf.old) (O.cost oracle.old) (O.raised oracle.old) steps.old pool.old) order.old.items
-        → IsUnderWay b (asked ++ named count schedule.now) (moment (setting (O.spec oracle.new) (O.x oracle.new) F (O.table oracle.new) (S.content shelf.new))
-        (S.faults shelf.new) (O.cost oracle.new) (O.raised oracle.new) steps.new pool.new) order.new.items) }
+        → IsUnderWay b asked (moment
+        (setting (O.spec oracle.old) (O.x oracle.old) F (O.table oracle.old) (S.content shelf.old))
+        (S.faults shelf.old) (O.cost oracle.old) (O.raised oracle.old) steps.old pool.old)
+        order.old.items
+        → IsUnderWay b (asked ++ named count schedule.now)
+        (moment (setting (O.spec oracle.new) (O.x oracle.new) F (O.table oracle.new)
+        (S.content shelf.new))
+        (S.faults shelf.new) (O.cost oracle.new) (O.raised oracle.new) steps.new pool.new)
+        order.new.items) }
     ensures broken { OnErr result ((b : Beginning) (asked : List ℕ)
-        → IsUnderWay b asked (moment (setting (O.spec oracle.old) (O.x oracle.old) F (O.table oracle.old) (S.content shelf.old))
-        (S.faults shelf.old) (O.cost oracle.old) (O.raised oracle.old) steps.old pool.old) order.old.items
-        → IsBroken b (moment (setting (O.spec oracle.new) (O.x oracle.new) F (O.table oracle.new) (S.content shelf.new))
+        → IsUnderWay b asked (moment
+        (setting (O.spec oracle.old) (O.x oracle.old) F (O.table oracle.old) (S.content shelf.old))
+        (S.faults shelf.old) (O.cost oracle.old) (O.raised oracle.old) steps.old pool.old)
+        order.old.items
+        → IsBroken b (moment (setting (O.spec oracle.new) (O.x oracle.new) F (O.table oracle.new)
+        (S.content shelf.new))
         (S.faults shelf.new) (O.cost oracle.new) (O.raised oracle.new) steps.new pool.new)) }
-    ensures can { CanAsk founded.now (O.spec oracle.new) (O.x oracle.new) (S.content shelf.new) count pool.new }
+    ensures can { CanAsk founded.now (O.spec oracle.new) (O.x oracle.new) (S.content shelf.new)
+        count pool.new }
     ensures content { S.content shelf.new ≡ S.content shelf.old }
     ensures counts { (name : List ℕ) → S.faults shelf.old name ≤ S.faults shelf.new name }
 {
@@ -101,19 +121,29 @@ fn finish_all<const F: u32, O: Oracle<F>, S: Shelf, L: Ledger>(
     steps: &mut Steps<L>,
 ) -> Result<(), AllocError>
     requires fraction { (24 ≤ F) × (F ≤ 56) }
-    requires can { CanAsk founded.now (O.spec oracle.old) (O.x oracle.old) (S.content shelf.old) count pool.old }
+    requires can { CanAsk founded.now (O.spec oracle.old) (O.x oracle.old) (S.content shelf.old)
+        count pool.old }
     ensures under_way { OnOk result ((b : Beginning) (asked : List ℕ)
-        → IsUnderWay b asked (moment (setting (O.spec oracle.old) (O.x oracle.old) F (O.table oracle.old) (S.content shelf.old))
-        (S.faults shelf.old) (O.cost oracle.old) (O.raised oracle.old) steps.old pool.old) order.old.items
-        → IsUnderWay b (all_asked (asked_by pool.new) asked count) (moment (setting (O.spec oracle.new) (O.x oracle.new) F (O.table oracle.new) (S.content shelf.new))
-        (S.faults shelf.new) (O.cost oracle.new) (O.raised oracle.new) steps.new pool.new) order.new.items) }
+        → IsUnderWay b asked (moment
+        (setting (O.spec oracle.old) (O.x oracle.old) F (O.table oracle.old) (S.content shelf.old))
+        (S.faults shelf.old) (O.cost oracle.old) (O.raised oracle.old) steps.old pool.old)
+        order.old.items
+        → IsUnderWay b (all_asked (asked_by pool.new) asked count)
+        (moment (setting (O.spec oracle.new) (O.x oracle.new) F (O.table oracle.new)
+        (S.content shelf.new))
+        (S.faults shelf.new) (O.cost oracle.new) (O.raised oracle.new) steps.new pool.new)
+        order.new.items) }
     ensures ended { OnOk result ((number : ℕ) → number < count → IsSome (ending_at pool.new number)) }
     ensures broken { OnErr result ((b : Beginning) (asked : List ℕ)
-        → IsUnderWay b asked (moment (setting (O.spec oracle.old) (O.x oracle.old) F (O.table oracle.old) (S.content shelf.old))
-        (S.faults shelf.old) (O.cost oracle.old) (O.raised oracle.old) steps.old pool.old) order.old.items
-        → IsBroken b (moment (setting (O.spec oracle.new) (O.x oracle.new) F (O.table oracle.new) (S.content shelf.new))
+        → IsUnderWay b asked (moment
+        (setting (O.spec oracle.old) (O.x oracle.old) F (O.table oracle.old) (S.content shelf.old))
+        (S.faults shelf.old) (O.cost oracle.old) (O.raised oracle.old) steps.old pool.old)
+        order.old.items
+        → IsBroken b (moment (setting (O.spec oracle.new) (O.x oracle.new) F (O.table oracle.new)
+        (S.content shelf.new))
         (S.faults shelf.new) (O.cost oracle.new) (O.raised oracle.new) steps.new pool.new)) }
-    ensures can { CanAsk founded.now (O.spec oracle.new) (O.x oracle.new) (S.content shelf.new) count pool.new }
+    ensures can { CanAsk founded.now (O.spec oracle.new) (O.x oracle.new) (S.content shelf.new)
+        count pool.new }
     ensures content { S.content shelf.new ≡ S.content shelf.old }
     ensures counts { (name : List ℕ) → S.faults shelf.old name ≤ S.faults shelf.new name }
 {
@@ -136,19 +166,29 @@ fn finish<const F: u32, O: Oracle<F>, S: Shelf, L: Ledger>(
 ) -> Result<(), AllocError>
     requires fraction { (24 ≤ F) × (F ≤ 56) }
     requires number { number < count }
-    requires can { CanAsk founded.now (O.spec oracle.old) (O.x oracle.old) (S.content shelf.old) count pool.old }
+    requires can { CanAsk founded.now (O.spec oracle.old) (O.x oracle.old) (S.content shelf.old)
+        count pool.old }
     ensures under_way { OnOk result ((b : Beginning) (asked : List ℕ)
-        → IsUnderWay b asked (moment (setting (O.spec oracle.old) (O.x oracle.old) F (O.table oracle.old) (S.content shelf.old))
-        (S.faults shelf.old) (O.cost oracle.old) (O.raised oracle.old) steps.old pool.old) order.old.items
-        → IsUnderWay b (asked ++ replicate (asked_by pool.new number - times number asked) number) (moment (setting (O.spec oracle.new) (O.x oracle.new) F (O.table oracle.new) (S.content shelf.new))
-        (S.faults shelf.new) (O.cost oracle.new) (O.raised oracle.new) steps.new pool.new) order.new.items) }
+        → IsUnderWay b asked (moment
+        (setting (O.spec oracle.old) (O.x oracle.old) F (O.table oracle.old) (S.content shelf.old))
+        (S.faults shelf.old) (O.cost oracle.old) (O.raised oracle.old) steps.old pool.old)
+        order.old.items
+        → IsUnderWay b (asked ++ replicate (asked_by pool.new number - times number asked) number)
+        (moment (setting (O.spec oracle.new) (O.x oracle.new) F (O.table oracle.new)
+        (S.content shelf.new))
+        (S.faults shelf.new) (O.cost oracle.new) (O.raised oracle.new) steps.new pool.new)
+        order.new.items) }
     ensures finished { OnOk result (IsFinished pool.old number pool.new) }
     ensures broken { OnErr result ((b : Beginning) (asked : List ℕ)
-        → IsUnderWay b asked (moment (setting (O.spec oracle.old) (O.x oracle.old) F (O.table oracle.old) (S.content shelf.old))
-        (S.faults shelf.old) (O.cost oracle.old) (O.raised oracle.old) steps.old pool.old) order.old.items
-        → IsBroken b (moment (setting (O.spec oracle.new) (O.x oracle.new) F (O.table oracle.new) (S.content shelf.new))
+        → IsUnderWay b asked (moment
+        (setting (O.spec oracle.old) (O.x oracle.old) F (O.table oracle.old) (S.content shelf.old))
+        (S.faults shelf.old) (O.cost oracle.old) (O.raised oracle.old) steps.old pool.old)
+        order.old.items
+        → IsBroken b (moment (setting (O.spec oracle.new) (O.x oracle.new) F (O.table oracle.new)
+        (S.content shelf.new))
         (S.faults shelf.new) (O.cost oracle.new) (O.raised oracle.new) steps.new pool.new)) }
-    ensures can { CanAsk founded.now (O.spec oracle.new) (O.x oracle.new) (S.content shelf.new) count pool.new }
+    ensures can { CanAsk founded.now (O.spec oracle.new) (O.x oracle.new) (S.content shelf.new)
+        count pool.new }
     ensures content { S.content shelf.new ≡ S.content shelf.old }
     ensures counts { (name : List ℕ) → S.faults shelf.old name ≤ S.faults shelf.new name }
 {
@@ -171,19 +211,29 @@ fn ask<const F: u32, O: Oracle<F>, S: Shelf, L: Ledger>(
 ) -> Result<(), AllocError>
     requires fraction { (24 ≤ F) × (F ≤ 56) }
     requires number { number < count }
-    requires can { CanAsk founded.now (O.spec oracle.old) (O.x oracle.old) (S.content shelf.old) count pool.old }
+    requires can { CanAsk founded.now (O.spec oracle.old) (O.x oracle.old) (S.content shelf.old)
+        count pool.old }
     ensures under_way { OnOk result ((b : Beginning) (asked : List ℕ)
-        → IsUnderWay b asked (moment (setting (O.spec oracle.old) (O.x oracle.old) F (O.table oracle.old) (S.content shelf.old))
-        (S.faults shelf.old) (O.cost oracle.old) (O.raised oracle.old) steps.old pool.old) order.old.items
-        → IsUnderWay b (asked ++ number ∷ []) (moment (setting (O.spec oracle.new) (O.x oracle.new) F (O.table oracle.new) (S.content shelf.new))
-        (S.faults shelf.new) (O.cost oracle.new) (O.raised oracle.new) steps.new pool.new) order.new.items) }
+        → IsUnderWay b asked (moment
+        (setting (O.spec oracle.old) (O.x oracle.old) F (O.table oracle.old) (S.content shelf.old))
+        (S.faults shelf.old) (O.cost oracle.old) (O.raised oracle.old) steps.old pool.old)
+        order.old.items
+        → IsUnderWay b (asked ++ number ∷ [])
+        (moment (setting (O.spec oracle.new) (O.x oracle.new) F (O.table oracle.new)
+        (S.content shelf.new))
+        (S.faults shelf.new) (O.cost oracle.new) (O.raised oracle.new) steps.new pool.new)
+        order.new.items) }
     ensures asked { OnOk result (IsAsked pool.old number pool.new) }
     ensures broken { OnErr result ((b : Beginning) (asked : List ℕ)
-        → IsUnderWay b asked (moment (setting (O.spec oracle.old) (O.x oracle.old) F (O.table oracle.old) (S.content shelf.old))
-        (S.faults shelf.old) (O.cost oracle.old) (O.raised oracle.old) steps.old pool.old) order.old.items
-        → IsBroken b (moment (setting (O.spec oracle.new) (O.x oracle.new) F (O.table oracle.new) (S.content shelf.new))
+        → IsUnderWay b asked (moment
+        (setting (O.spec oracle.old) (O.x oracle.old) F (O.table oracle.old) (S.content shelf.old))
+        (S.faults shelf.old) (O.cost oracle.old) (O.raised oracle.old) steps.old pool.old)
+        order.old.items
+        → IsBroken b (moment (setting (O.spec oracle.new) (O.x oracle.new) F (O.table oracle.new)
+        (S.content shelf.new))
         (S.faults shelf.new) (O.cost oracle.new) (O.raised oracle.new) steps.new pool.new)) }
-    ensures can { CanAsk founded.now (O.spec oracle.new) (O.x oracle.new) (S.content shelf.new) count pool.new }
+    ensures can { CanAsk founded.now (O.spec oracle.new) (O.x oracle.new) (S.content shelf.new)
+        count pool.new }
     ensures content { S.content shelf.new ≡ S.content shelf.old }
     ensures counts { (name : List ℕ) → S.faults shelf.old name ≤ S.faults shelf.new name }
 {
@@ -193,7 +243,8 @@ fn ask<const F: u32, O: Oracle<F>, S: Shelf, L: Ledger>(
     Ok(())
 }
 
-/// Makes a turn of a drawing, and answers whether it ended by it. One that had ended stays as it was.
+/// Makes a turn of a drawing, and answers whether it ended by it. One that had ended stays as it
+/// was.
 fn turn_once<const F: u32, O: Oracle<F>, S: Shelf, L: Ledger>(
     founded: &Founded,
     oracle: &mut O,
@@ -205,21 +256,28 @@ fn turn_once<const F: u32, O: Oracle<F>, S: Shelf, L: Ledger>(
 ) -> Result<bool, AllocError>
     requires fraction { (24 ≤ F) × (F ≤ 56) }
     requires number { number < count }
-    requires can { CanAsk founded.now (O.spec oracle.old) (O.x oracle.old) (S.content shelf.old) count pool.old }
+    requires can { CanAsk founded.now (O.spec oracle.old) (O.x oracle.old) (S.content shelf.old)
+        count pool.old }
     ensures so_far { OnOk result ((b : Beginning) (asked : List ℕ)
-        → IsSoFar b asked (moment (setting (O.spec oracle.old) (O.x oracle.old) F (O.table oracle.old) (S.content shelf.old))
+        → IsSoFar b asked (moment (setting (O.spec oracle.old) (O.x oracle.old) F
+        (O.table oracle.old) (S.content shelf.old))
         (S.faults shelf.old) (O.cost oracle.old) (O.raised oracle.old) steps.old pool.old)
-        → IsSoFar b (asked ++ number ∷ []) (moment (setting (O.spec oracle.new) (O.x oracle.new) F (O.table oracle.new) (S.content shelf.new))
+        → IsSoFar b (asked ++ number ∷ [])
+        (moment (setting (O.spec oracle.new) (O.x oracle.new) F (O.table oracle.new)
+        (S.content shelf.new))
         (S.faults shelf.new) (O.cost oracle.new) (O.raised oracle.new) steps.new pool.new)) }
     ensures asked { OnOk result (IsAsked pool.old number pool.new) }
     ensures ends { IfOk result (λ ends. ends
         ≡ ended_now (ending_at pool.old number) (ending_at pool.new number)) }
     ensures no_memory { OnErr result ((b : Beginning) (asked : List ℕ)
-        → IsSoFar b asked (moment (setting (O.spec oracle.old) (O.x oracle.old) F (O.table oracle.old) (S.content shelf.old))
+        → IsSoFar b asked (moment (setting (O.spec oracle.old) (O.x oracle.old) F
+        (O.table oracle.old) (S.content shelf.old))
         (S.faults shelf.old) (O.cost oracle.old) (O.raised oracle.old) steps.old pool.old)
-        → IsSoFar b asked (moment (setting (O.spec oracle.new) (O.x oracle.new) F (O.table oracle.new) (S.content shelf.new))
+        → IsSoFar b asked (moment (setting (O.spec oracle.new) (O.x oracle.new) F
+        (O.table oracle.new) (S.content shelf.new))
         (S.faults shelf.new) (O.cost oracle.new) (O.raised oracle.new) steps.new pool.new)) }
-    ensures can { CanAsk founded.now (O.spec oracle.new) (O.x oracle.new) (S.content shelf.new) count pool.new }
+    ensures can { CanAsk founded.now (O.spec oracle.new) (O.x oracle.new) (S.content shelf.new)
+        count pool.new }
     ensures content { S.content shelf.new ≡ S.content shelf.old }
     ensures counts { (name : List ℕ) → S.faults shelf.old name ≤ S.faults shelf.new name }
 {

@@ -16,7 +16,7 @@ returns-in-Going-clause-so_far g c = λ b asked p.
     let content = contents-kept g.S.Shelf.content g.S.Shelf.faults c.args.shelf.now c.turn.new.shelf _ _ h.old_member h.new_member h.at (later-at (setting c.args.founded.now (g.O.Oracle.x c.args.oracle.now) g.row.F (g.O.Oracle.table c.args.oracle.now) (g.S.Shelf.content c.args.shelf.now)) (g.S.Shelf.faults c.args.shelf.now) (g.S.Shelf.faults c.turn.new.shelf) c.args.pool.now c.turn.new.self c.args.number pooled.Going h) c.turn.ensures.tape in
     so-far-by b asked (moment (setting (g.O.Oracle.spec c.args.oracle.now) (g.O.Oracle.x c.args.oracle.now) g.row.F (g.O.Oracle.table c.args.oracle.now) (g.S.Shelf.content c.args.shelf.now)) (g.S.Shelf.faults c.args.shelf.now) (g.O.Oracle.cost c.args.oracle.now) (g.O.Oracle.raised c.args.oracle.now) c.args.steps.now c.args.pool.now) (moment (setting (g.O.Oracle.spec c.turn.new.oracle) (g.O.Oracle.x c.turn.new.oracle) g.row.F (g.O.Oracle.table c.turn.new.oracle) (g.S.Shelf.content c.turn.new.shelf)) (g.S.Shelf.faults c.turn.new.shelf) (g.O.Oracle.cost c.turn.new.oracle) (g.O.Oracle.raised c.turn.new.oracle) c.turn.new.steps c.turn.new.self) c.args.number pooled.Going (setting c.args.founded.now (g.O.Oracle.x c.args.oracle.now) g.row.F (g.O.Oracle.table c.args.oracle.now) (g.S.Shelf.content c.args.shelf.now))
     (ap (λ s. setting s (g.O.Oracle.x c.args.oracle.now) g.row.F (g.O.Oracle.table c.args.oracle.now) (g.S.Shelf.content c.args.shelf.now)) (sym c.requires.can.spec) ∙ p.same)
-    p h c.a_turn_continues_a_trace.ensures c.requires.can.sound c.requires.can.drawings c.turn.ensures.drawings
+    p h c.a_turn_continues_a_trace.ensures c.requires.can.sound
     (same-shared _ _ _ _ g.row.F _ _ _ _ left.spec left.x left.table content)
     (c.in-Going.ensures.alone going-made)
     left.cost
@@ -58,7 +58,7 @@ returns-in-Finished-clause-so_far g c = λ b asked p.
     let content = contents-kept g.S.Shelf.content g.S.Shelf.faults c.args.shelf.now c.turn.new.shelf _ _ h.old_member h.new_member h.at (later-at (setting c.args.founded.now (g.O.Oracle.x c.args.oracle.now) g.row.F (g.O.Oracle.table c.args.oracle.now) (g.S.Shelf.content c.args.shelf.now)) (g.S.Shelf.faults c.args.shelf.now) (g.S.Shelf.faults c.turn.new.shelf) c.args.pool.now c.turn.new.self c.args.number pooled.Finished h) c.turn.ensures.tape in
     so-far-by b asked (moment (setting (g.O.Oracle.spec c.args.oracle.now) (g.O.Oracle.x c.args.oracle.now) g.row.F (g.O.Oracle.table c.args.oracle.now) (g.S.Shelf.content c.args.shelf.now)) (g.S.Shelf.faults c.args.shelf.now) (g.O.Oracle.cost c.args.oracle.now) (g.O.Oracle.raised c.args.oracle.now) c.args.steps.now c.args.pool.now) (moment (setting (g.O.Oracle.spec c.turn.new.oracle) (g.O.Oracle.x c.turn.new.oracle) g.row.F (g.O.Oracle.table c.turn.new.oracle) (g.S.Shelf.content c.turn.new.shelf)) (g.S.Shelf.faults c.turn.new.shelf) (g.O.Oracle.cost c.turn.new.oracle) (g.O.Oracle.raised c.turn.new.oracle) c.turn.new.steps c.turn.new.self) c.args.number pooled.Finished (setting c.args.founded.now (g.O.Oracle.x c.args.oracle.now) g.row.F (g.O.Oracle.table c.args.oracle.now) (g.S.Shelf.content c.args.shelf.now))
     (ap (λ s. setting s (g.O.Oracle.x c.args.oracle.now) g.row.F (g.O.Oracle.table c.args.oracle.now) (g.S.Shelf.content c.args.shelf.now)) (sym c.requires.can.spec) ∙ p.same)
-    p h c.a_turn_continues_a_trace.ensures c.requires.can.sound c.requires.can.drawings c.turn.ensures.drawings
+    p h c.a_turn_continues_a_trace.ensures c.requires.can.sound
     (same-shared _ _ _ _ g.row.F _ _ _ _ left.spec left.x left.table content)
     (c.in-Finished.ensures.alone finished-made)
     left.cost
