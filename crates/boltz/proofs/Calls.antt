@@ -19,7 +19,7 @@ use Rattle.size_window.specs.Drawing.{limits_of}
 use Rattle.size_window.specs.RunByBits.{Limits as Window}
 use Rattle.boltz.specs.Answers.{World, world, Carries, NotYet, Unworded, Answers, files_of, tape_files, IsUndisturbed}
 use Rattle.boltz.specs.Answers as answers
-use Rattle.boltz.specs.Commands.{IsBuilt, AreRefused}
+use Rattle.boltz.specs.Commands.{IsBuilt, IsStoodFor, AreRefused}
 use Rattle.boltz.specs.Commands as commands
 use Rattle.sample_command.specs.Drawn.{HasFailed}
 use Rattle.call_stages.specs.Ends.{output, EndsBy}
@@ -32,12 +32,13 @@ use Rattle.sample_command.specs.SampleCommand.{source_of, tape_in, DrawnOver}
 use Rattle.boltz.specs.SpecCommand.{Printed, spec_text}
 use Rattle.call_stages.specs.Stages.{AreCalm, Files, files, Based}
 use Rattle.call_stages.specs.declared.status.Status.{Status}
-use Rattle.boltz.proofs.Commands.{not-refused, one-fault}
+use Rattle.boltz.proofs.Commands.{not-refused, one-fault, pool_limits}
 use Rattle.call_stages.proofs.Endings as endings
 use Rattle.call_stages.proofs.Endings.{ends_as, written_on}
 use Rattle.sample_command.proofs.Starting.{one-drawn-over}
 use Rattle.bulk_command.proofs.OneBulk.{one-bulk}
 use Rattle.point_command.proofs.Printing.{one-carried as one-point}
+use Rattle.pool_command.proofs.OnePool.{one-carried as one-pool}
 use Rattle.chance_command.proofs.Weighing.{one-carried as one-chance}
 use Rattle.rank_commands.proofs.OneOutcome.{one-count, one-unrank, one-rank}
 use Rattle.call_stages.proofs.OneReading.{one-said, one-specified, one-based}
@@ -52,21 +53,22 @@ calm-tape f (tape.File name) calm rose = calm.0.unfailed rose
 calm-tape f (tape.Seed seed) calm never = never
 
 -- each command has one outcome where its files are calm: a command adds its line
-one-carried : (f : Files) (asked : Command) → AreCalm f (files_of asked) → IsOne (Carries f asked)
-one-carried f (command.Spec file) calm = one-specified f file Printed calm.0 (λ s. one-said Status.Done (spec_text s) 0)
-one-carried f (command.Oracle file x F) calm = one-specified f file (λ s. Based (setting s x.num x.den (fraction_bits F)) (Bounded (setting s x.num x.den (fraction_bits F)))) calm.0 (λ s. one-based (setting s x.num x.den (fraction_bits F)) (Bounded (setting s x.num x.den (fraction_bits F))) (λ base. one-said Status.Done (bounded_text (setting s x.num x.den (fraction_bits F)) base) (cost_at 6)))
-one-carried f (command.Sample file x word limits F fast) calm =
+one-carried : (f : Files) (asked : Command) → IsStoodFor asked → AreCalm f (files_of asked) → IsOne (Carries f asked)
+one-carried f (command.Spec file) named calm = one-specified f file Printed calm.0 (λ s. one-said Status.Done (spec_text s) 0)
+one-carried f (command.Oracle file x F) named calm = one-specified f file (λ s. Based (setting s x.num x.den (fraction_bits F)) (Bounded (setting s x.num x.den (fraction_bits F)))) calm.0 (λ s. one-based (setting s x.num x.den (fraction_bits F)) (Bounded (setting s x.num x.den (fraction_bits F))) (λ base. one-said Status.Done (bounded_text (setting s x.num x.den (fraction_bits F)) base) (cost_at 6)))
+one-carried f (command.Sample file x word limits F fast) named calm =
     let bits = known-bits f word calm.1 in
     let t = λ (s : Spec). setting s x.num x.den (fraction_bits F) in
     let met = tape_in f (source_of word) in
     one-specified f file (λ s. Based (t s) (DrawnOver fast (t s) (limits_of limits) met)) calm.0 (λ s. one-based (t s) (DrawnOver fast (t s) (limits_of limits) met) (one-drawn-over fast (t s) (limits_of limits) met bits.0 bits.1 (calm-tape f word calm.1)))
-one-carried f (command.Bulk n F) calm = one-bulk n (fraction_bits F)
-one-carried f (command.Point file) calm = one-point f file calm
-one-carried f (command.Chance file x object F) calm = one-chance f file x object (fraction_bits F) calm
-one-carried f (command.Count file n) calm = one-count f file n calm.0
-one-carried f (command.Unrank file n number) calm = one-unrank f file n number calm.0
-one-carried f (command.Rank file object) calm = one-rank f file object calm.0 calm.1.0
-one-carried f later calm = one-said Status.WordsRefused not_yet_line 0
+one-carried f (command.Pool file x schedule tapes limits F) named calm = one-pool f file x schedule tapes limits (fraction_bits F) (pool_limits file x schedule tapes limits F named).1.0 calm
+one-carried f (command.Bulk n F) named calm = one-bulk n (fraction_bits F)
+one-carried f (command.Point file) named calm = one-point f file calm
+one-carried f (command.Chance file x object F) named calm = one-chance f file x object (fraction_bits F) calm
+one-carried f (command.Count file n) named calm = one-count f file n calm.0
+one-carried f (command.Unrank file n number) named calm = one-unrank f file n number calm.0
+one-carried f (command.Rank file object) named calm = one-rank f file object calm.0 calm.1.0
+one-carried f later named calm = one-said Status.WordsRefused not_yet_line 0
 
 -- words that are refused
 only-unworded : (fault : WordsFault) (status : Status) (text : List ℕ) (ticks : ℕ) → status ≢ Status.OutOfMemory → Unworded fault status text ticks → (fault ≢ WordsFault.OutOfMemory) × (status ≡ Status.WordsRefused) × (text ≡ words_line fault)
@@ -82,7 +84,7 @@ module _ (w : World) (calm : IsUndisturbed w) (status other : Status) (text othe
   answered-twice (answers.refused fault refuses p) (answers.carried asked named q) = absurd (not-refused w.words asked fault named (only-unworded fault status text ticks m p).0 refuses)
   answered-twice (answers.carried asked named p) (answers.refused fault refuses q) = absurd (not-refused w.words asked fault named (only-unworded fault other others more n q).0 refuses)
   answered-twice (answers.carried asked named p) (answers.carried asked_too named_too q) =
-      (one-carried w.files asked (calm.calm asked named)).one status other text others ticks more m n p (subst (λ c. Carries w.files c other others more) (one_command w.words asked_too asked named_too named) q)
+      (one-carried w.files asked (record { words = w.words; is = named }) (calm.calm asked named)).one status other text others ticks more m n p (subst (λ c. Carries w.files c other others more) (one_command w.words asked_too asked named_too named) q)
 
 -- an undisturbed call has one answer
 pub one_answer : (w : World) → IsUndisturbed w → IsOne (Answers w)

@@ -1,9 +1,9 @@
 -- What words stand for, why they stand for none, and which limits a drawing has.
-use Rattle.std.proofs.Common.{Bool, ◌≡◌, ◌≢◌, ℕ, ◌≤◌, ◌⊎◌, List, [], ◌∷◌, refl, ap, arith, inl, inr}
+use Rattle.std.proofs.Common.{length, ◌+◌, Bool, ◌≡◌, ◌≢◌, ℕ, ◌≤◌, ◌⊎◌, List, [], ◌∷◌, refl, ap, arith, inl, inr}
 use Rattle.size_window.specs.Drawing.{AreLimits as AreWithin, limits_of}
 use Rattle.size_window.specs.declared.limits.Limits.{Limits}
 use Rattle.command_words.specs.Values.{IsSet}
-use Rattle.command_words.specs.Words.{Given}
+use Rattle.command_words.specs.Words.{Given, Takes}
 use Rattle.command_words.specs.Commands.{AreLimits, Makes, IsCommand, Refuses}
 use Rattle.command_words.specs.Commands as makes
 use Rattle.command_words.specs.declared.command.Command.{Command}
@@ -14,7 +14,7 @@ use Rattle.command_words.specs.declared.fault.ValueName.TheVariants as value
 use Rattle.command_words.specs.declared.fault.WordsFault.{WordsFault}
 use Rattle.command_words.specs.declared.fault.WordsFault.TheVariants.{NotACommand, BadValue, OutOfMemory}
 use Rattle.command_words.specs.declared.names.CommandName.{CommandName}
-use Rattle.command_words.specs.declared.names.CommandName.TheVariants.{Sample}
+use Rattle.command_words.specs.declared.names.CommandName.TheVariants.{Sample, Pool}
 use Rattle.command_words.specs.declared.names.OptionName.TheVariants as option
 use Rattle.command_words.proofs.Excluded.{no_bad_value, one_bad_value}
 use Rattle.boltz.specs.Commands.{IsStoodFor}
@@ -39,6 +39,7 @@ one-fault words (BadValue v) (BadValue u) m n h i = ap BadValue (one_bad_value w
 -- The limits of a drawing, the number of a run and a size are within those that the command takes.
 abbrev HasLimits : Command → Type 0
 HasLimits (command.Sample file x word limits F fast) = AreWithin (limits_of limits)
+HasLimits (command.Pool file x schedule tapes limits F) = AreWithin (limits_of limits) × ((1 ≤ length tapes) × (length tapes ≤ 64))
 HasLimits (command.Bulk n F) = (1 ≤ n) × (n ≤ 1000)
 HasLimits (command.Count file n) = n ≤ 500
 HasLimits (command.Unrank file n number) = n ≤ 500
@@ -62,28 +63,36 @@ are-within name given limits are =
     let turns = set-turns name (given.values option.Turns) limits.turns are.turns in
     record { window = are.window; max = set-max name (given.values option.Max) limits.max are.max; some = count.0; count = count.1; some_turns = turns.0; turns = turns.1 }
 
-has-limits : (given : Given) (name : CommandName) (c : Command) → Makes given name c → HasLimits c
-has-limits given name c (makes.sample f t x w l b q e r w_is l_is is fast) = are-within Sample given l l_is
-has-limits given name c (makes.spec f e) = tt
-has-limits given name c (makes.oracle f t x b e r is) = tt
-has-limits given name c (makes.pool f t p ts x l b e r l_is is) = tt
-has-limits given name c (makes.verify f k e) = tt
-has-limits given name c (makes.migrate f k e) = tt
-has-limits given name c (makes.bulk t n b e st is) = st.within
-has-limits given name c (makes.point f e) = tt
-has-limits given name c (makes.chance f t o x b e r is) = tt
-has-limits given name c (makes.count f t n e st) = st.within
-has-limits given name c (makes.unrank f t k n number e st ranked) = st.within
-has-limits given name c (makes.rank f o e) = tt
+some-tapes : (f t p : List ℕ) (ts places : List (List ℕ)) → places ≡ f ∷ t ∷ p ∷ ts → 4 ≤ length places → length places ≤ 67 → (1 ≤ length ts) × (length ts ≤ 64)
+some-tapes f t p ts places e few many =
+    let n : length places ≡ length (f ∷ t ∷ p ∷ ts) = ap length e in
+    (omega (arith, n, few), omega (arith, n, many))
+
+has-limits : (given : Given) (name : CommandName) (c : Command) → Takes name given → Makes given name c → HasLimits c
+has-limits given name c takes (makes.sample f t x w l b q e r w_is l_is is fast) = are-within Sample given l l_is
+has-limits given name c takes (makes.spec f e) = tt
+has-limits given name c takes (makes.oracle f t x b e r is) = tt
+has-limits given name c takes (makes.pool f t p ts x l b e r l_is is) = (are-within Pool given l l_is, some-tapes f t p ts given.places e takes.not_too_few takes.not_too_many)
+has-limits given name c takes (makes.verify f k e) = tt
+has-limits given name c takes (makes.migrate f k e) = tt
+has-limits given name c takes (makes.bulk t n b e st is) = st.within
+has-limits given name c takes (makes.point f e) = tt
+has-limits given name c takes (makes.chance f t o x b e r is) = tt
+has-limits given name c takes (makes.count f t n e st) = st.within
+has-limits given name c takes (makes.unrank f t k n number e st ranked) = st.within
+has-limits given name c takes (makes.rank f o e) = tt
 
 pub sample_limits : (file : List ℕ) (x : Fraction) (word : TapeWord) (limits : Limits) (F : FractionBits) (fast : Bool) → IsStoodFor (command.Sample file x word limits F fast) → AreWithin (limits_of limits)
-sample_limits file x word limits F fast h = has-limits _ _ (command.Sample file x word limits F fast) h.is.made
+sample_limits file x word limits F fast h = has-limits _ _ (command.Sample file x word limits F fast) h.is.form.taken h.is.made
 
 pub bulk_limits : (n : ℕ) (F : FractionBits) → IsStoodFor (command.Bulk n F) → (1 ≤ n) × (n ≤ 1000)
-bulk_limits n F h = has-limits _ _ (command.Bulk n F) h.is.made
+bulk_limits n F h = has-limits _ _ (command.Bulk n F) h.is.form.taken h.is.made
 
 pub count_limit : (file : List ℕ) (n : ℕ) → IsStoodFor (command.Count file n) → n ≤ 500
-count_limit file n h = has-limits _ _ (command.Count file n) h.is.made
+count_limit file n h = has-limits _ _ (command.Count file n) h.is.form.taken h.is.made
 
 pub unrank_limit : (file : List ℕ) (n number : ℕ) → IsStoodFor (command.Unrank file n number) → n ≤ 500
-unrank_limit file n number h = has-limits _ _ (command.Unrank file n number) h.is.made
+unrank_limit file n number h = has-limits _ _ (command.Unrank file n number) h.is.form.taken h.is.made
+
+pub pool_limits : (file : List ℕ) (x : Fraction) (schedule : List ℕ) (tapes : List (List ℕ)) (limits : Limits) (F : FractionBits) → IsStoodFor (command.Pool file x schedule tapes limits F) → AreWithin (limits_of limits) × ((1 ≤ length tapes) × (length tapes ≤ 64))
+pool_limits file x schedule tapes limits F h = has-limits _ _ (command.Pool file x schedule tapes limits F) h.is.form.taken h.is.made

@@ -32,6 +32,8 @@ use Rattle.sample_command.specs.Drawn as drawn
 use Rattle.bulk_command.specs.BulkText.{bulk_text}
 use Rattle.bulk_command.specs.BulkCommand.{BulkDrawn}
 use Rattle.bulk_command.specs.BulkCommand as bulks
+use Rattle.pool_command.specs.PoolCommand.{PoolSetting, PoolDrawn, PooledOver, pool_of, first_of, first_status}
+use Rattle.pool_command.specs.PoolCommand as pools
 use Rattle.point_command.specs.PointCommand.{PointedPrinted}
 use Rattle.point_command.proofs.Printing.{pointed-no-words}
 use Rattle.chance_command.specs.ChanceCommand.{Weighed, WeighedAt, ReadAndWeighed}
@@ -97,6 +99,9 @@ unfit-carried w p (command.Oracle file x F) is status text ticks memory h =
     unfit-only w p next status text ticks memory (subst (λ f. Specified w.files f next status text ticks) is h)
 unfit-carried w p (command.Sample file x word limits F fast) is status text ticks memory h =
     let next = λ (s : Spec). Based (setting s x.num x.den (fraction_bits F)) (DrawnOver fast (setting s x.num x.den (fraction_bits F)) (limits_of limits) (tape_in w.files (source_of word))) in
+    unfit-only w p next status text ticks memory (subst (λ f. Specified w.files f next status text ticks) is h)
+unfit-carried w p (command.Pool file x schedule tapes limits F) is status text ticks memory h =
+    let next = λ (s : Spec). Based (setting s x.num x.den (fraction_bits F)) (PooledOver w.files (setting s x.num x.den (fraction_bits F)) (limits_of limits) schedule tapes) in
     unfit-only w p next status text ticks memory (subst (λ f. Specified w.files f next status text ticks) is h)
 unfit-carried w p (command.Point file) is status text ticks memory h = unfit-only w p PointedPrinted status text ticks memory (subst (λ f. Specified w.files f PointedPrinted status text ticks) is h)
 unfit-carried w p (command.Chance file x object F) is status text ticks memory h =
@@ -204,6 +209,38 @@ over-no-words fast t limits met base status text ticks (starting.no_fast none sa
 over-no-words fast t limits met base status text ticks (starting.no_memory says) is = not-words Status.OutOfMemory status _ text _ ticks (λ e. absurd (cc)) says is
 over-no-words fast t limits met base status text ticks (starting.started start more has p sum) is = drawn-no-words fast t limits met base start status text more p is
 
+first-no-words : (a b : Status) → a ≢ Status.WordsRefused → b ≢ Status.WordsRefused → first_of a b ≢ Status.WordsRefused
+first-no-words Status.Done b na nb is = nb is
+first-no-words Status.WordsRefused b na nb is = na is
+first-no-words Status.SpecRefused b na nb is = na is
+first-no-words Status.NoUpper b na nb is = na is
+first-no-words Status.TapeEnded b na nb is = na is
+first-no-words Status.Undecided b na nb is = na is
+first-no-words Status.TurnLimit b na nb is = na is
+first-no-words Status.ReadFault b na nb is = na is
+first-no-words Status.WriteFault b na nb is = na is
+first-no-words Status.OutOfMemory b na nb is = na is
+first-no-words Status.CertRefused b na nb is = na is
+first-no-words Status.NoFast b na nb is = na is
+first-no-words Status.PointRefused b na nb is = na is
+first-no-words Status.ObjectRefused b na nb is = na is
+first-no-words Status.RankRefused b na nb is = na is
+
+statuses-no-words : (statuses : ℕ → Status) (n : ℕ) → ((i : ℕ) → statuses i ≢ Status.WordsRefused) → first_status statuses n ≢ Status.WordsRefused
+unfolding first_status
+statuses-no-words statuses zero each is = absurd (cc)
+statuses-no-words statuses (suc n) each is = first-no-words (first_status statuses n) (statuses n) (statuses-no-words statuses n each) (each n) is
+
+pool-no-words : (p : PoolSetting) (f : Files) (tapes : List (List ℕ)) (schedule : List ℕ) (status : Status) (text : List ℕ) (ticks : ℕ) → PoolDrawn p f tapes schedule status text ticks → status ≡ Status.WordsRefused → ⊥
+pool-no-words p f tapes schedule status text ticks (pools.ended drawings are says) is = not-words (first_status (λ i. ending_status (drawings i).ending) (length tapes)) status _ text _ ticks (statuses-no-words (λ i. ending_status (drawings i).ending) (length tapes) (λ i. ending-no-words (drawings i).ending)) says is
+pool-no-words p f tapes schedule status text ticks (pools.so_far courses are says) is = not-words Status.OutOfMemory status _ text _ ticks (λ e. absurd (cc)) says is
+pool-no-words p f tapes schedule status text ticks (pools.no_memory says) is = not-words Status.OutOfMemory status _ text _ ticks (λ e. absurd (cc)) says is
+
+pooled-no-words : (f : Files) (t : Setting) (limits : Window) (schedule : List ℕ) (tapes : List (List ℕ)) (base : List ℕ) (status : Status) (text : List ℕ) (ticks : ℕ) → PooledOver f t limits schedule tapes base status text ticks → status ≡ Status.WordsRefused → ⊥
+pooled-no-words f t limits schedule tapes base status text ticks (stages.failed rose says) is = not-words Status.ReadFault status _ text _ ticks (λ e. absurd (cc)) says is
+pooled-no-words f t limits schedule tapes base status text ticks (stages.no_memory says) is = not-words Status.OutOfMemory status _ text _ ticks (λ e. absurd (cc)) says is
+pooled-no-words f t limits schedule tapes base status text ticks (stages.read bytes are p) is = pool-no-words (pool_of t base limits) f tapes bytes status text ticks p is
+
 bulk-no-words : (n : ℕ) (t : Setting) (base : List ℕ) (status : Status) (text : List ℕ) (ticks : ℕ) → BulkDrawn n t base status text ticks → status ≡ Status.WordsRefused → ⊥
 bulk-no-words n t base status text ticks (bulks.ended c given d h says) is = not-words (ending_status d) status _ text _ ticks (ending-no-words d) says is
 bulk-no-words n t base status text ticks (bulks.so_far c given h says) is = not-words Status.OutOfMemory status _ text _ ticks (λ e. absurd (cc)) says is
@@ -221,6 +258,9 @@ carried-no-words f (command.Sample file x word limits F fast) built status text 
 carried-no-words f (command.Bulk n F) built status text ticks h is =
     let t = λ (s : Spec). setting s 3 16 (fraction_bits F) in
     judged-no-words (bulk_text n) (λ s. Based (t s) (BulkDrawn n (t s))) (λ s. based-no-words (t s) (BulkDrawn n (t s)) (bulk-no-words n (t s))) status text ticks h is
+carried-no-words f (command.Pool file x schedule tapes limits F) built status text ticks h is =
+    let t = λ (s : Spec). setting s x.num x.den (fraction_bits F) in
+    specified-no-words f file (λ s. Based (t s) (PooledOver f (t s) (limits_of limits) schedule tapes)) (λ s. based-no-words (t s) (PooledOver f (t s) (limits_of limits) schedule tapes) (pooled-no-words f (t s) (limits_of limits) schedule tapes)) status text ticks h is
 carried-no-words f (command.Point file) built status text ticks h is = specified-no-words f file PointedPrinted pointed-no-words status text ticks h is
 carried-no-words f (command.Chance file x object F) built status text ticks h is =
     let t = λ (s : Spec). setting s x.num x.den (fraction_bits F) in
@@ -235,6 +275,7 @@ only-refused w (command.Spec file) named status text ticks h is = absurd (carrie
 only-refused w (command.Oracle file x F) named status text ticks h is = absurd (carried-no-words w.files (command.Oracle file x F) (λ no. no tt) status text ticks h is)
 only-refused w (command.Sample file x word limits F fast) named status text ticks h is = absurd (carried-no-words w.files (command.Sample file x word limits F fast) (λ no. no tt) status text ticks h is)
 only-refused w (command.Bulk n F) named status text ticks h is = absurd (carried-no-words w.files (command.Bulk n F) (λ no. no tt) status text ticks h is)
+only-refused w (command.Pool file x schedule tapes limits F) named status text ticks h is = absurd (carried-no-words w.files (command.Pool file x schedule tapes limits F) (λ no. no tt) status text ticks h is)
 only-refused w (command.Point file) named status text ticks h is = absurd (carried-no-words w.files (command.Point file) (λ no. no tt) status text ticks h is)
 only-refused w (command.Chance file x object F) named status text ticks h is = absurd (carried-no-words w.files (command.Chance file x object F) (λ no. no tt) status text ticks h is)
 only-refused w (command.Count file n) named status text ticks h is = absurd (carried-no-words w.files (command.Count file n) (λ no. no tt) status text ticks h is)
@@ -258,6 +299,7 @@ later-only f (command.Spec file) unbuilt status text ticks memory h = absurd (un
 later-only f (command.Oracle file x F) unbuilt status text ticks memory h = absurd (unbuilt tt)
 later-only f (command.Sample file x word limits F fast) unbuilt status text ticks memory h = absurd (unbuilt tt)
 later-only f (command.Bulk n F) unbuilt status text ticks memory h = absurd (unbuilt tt)
+later-only f (command.Pool file x schedule tapes limits F) unbuilt status text ticks memory h = absurd (unbuilt tt)
 later-only f (command.Point file) unbuilt status text ticks memory h = absurd (unbuilt tt)
 later-only f (command.Chance file x object F) unbuilt status text ticks memory h = absurd (unbuilt tt)
 later-only f (command.Count file n) unbuilt status text ticks memory h = absurd (unbuilt tt)

@@ -10,6 +10,7 @@ use Rattle.command_words.specs.declared.command.TapeWord.TheVariants as tape
 use Rattle.command_words.specs.declared.fault.WordsFault.{WordsFault}
 use Rattle.call_stages.specs.Outcomes.{Outcome, Says, MaySay}
 use Rattle.bulk_command.specs.BulkCommand.{CarriesBulk}
+use Rattle.pool_command.specs.PoolCommand.{CarriesPool}
 use Rattle.point_command.specs.PointCommand.{CarriesPoint}
 use Rattle.chance_command.specs.ChanceCommand.{CarriesChance}
 use Rattle.rank_commands.specs.CountCommand.{CarriesCount}
@@ -39,6 +40,7 @@ abbrev pub Carries : Files → Command → Outcome
 Carries f (command.Spec file) = CarriesSpec f file
 Carries f (command.Oracle file x F) = CarriesOracle f file x (fraction_bits F)
 Carries f (command.Sample file x word limits F fast) = CarriesSample f file x word limits (fraction_bits F) fast
+Carries f (command.Pool file x schedule tapes limits F) = CarriesPool f file x schedule tapes limits (fraction_bits F)
 Carries f (command.Bulk n F) = CarriesBulk n (fraction_bits F)
 Carries f (command.Point file) = CarriesPoint f file
 Carries f (command.Chance file x object F) = CarriesChance f file x object (fraction_bits F)
@@ -67,6 +69,7 @@ abbrev pub files_of : Command → List (List ℕ)
 files_of (command.Spec file) = file ∷ []
 files_of (command.Oracle file x F) = file ∷ []
 files_of (command.Sample file x word limits F fast) = file ∷ tape_files word
+files_of (command.Pool file x schedule tapes limits F) = file ∷ schedule ∷ tapes
 files_of (command.Point file) = file ∷ []
 files_of (command.Chance file x object F) = file ∷ object ∷ []
 files_of (command.Count file n) = file ∷ []

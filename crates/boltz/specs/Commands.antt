@@ -5,11 +5,12 @@ use Rattle.command_words.specs.declared.command.Command.{Command}
 use Rattle.command_words.specs.declared.command.Command.TheVariants as command
 use Rattle.command_words.specs.declared.fault.WordsFault.{WordsFault}
 
--- The program does what every command asks for, but for `pool`, `verify` and `migrate`, which aren't built yet.
+-- The program does what every command asks for, but for `verify` and `migrate`, which aren't built yet.
 abbrev pub IsBuilt : Command → Type 0
 IsBuilt (command.Spec file) = Unit {0}
 IsBuilt (command.Oracle file x F) = Unit {0}
 IsBuilt (command.Sample file x word limits F fast) = Unit {0}
+IsBuilt (command.Pool file x schedule tapes limits F) = Unit {0}
 IsBuilt (command.Bulk n F) = Unit {0}
 IsBuilt (command.Point file) = Unit {0}
 IsBuilt (command.Chance file x object F) = Unit {0}
@@ -23,6 +24,7 @@ abbrev pub Specifies : Command → (file : List ℕ) → Type 0
 Specifies (command.Spec file) name = file ≡ name
 Specifies (command.Oracle file x F) name = file ≡ name
 Specifies (command.Sample file x word limits F fast) name = file ≡ name
+Specifies (command.Pool file x schedule tapes limits F) name = file ≡ name
 Specifies (command.Point file) name = file ≡ name
 Specifies (command.Chance file x object F) name = file ≡ name
 Specifies (command.Count file n) name = file ≡ name

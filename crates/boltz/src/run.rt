@@ -22,6 +22,7 @@ use command_words::command::Command;
 use command_words::fault::WordsFault;
 use command_words::read::read_words;
 use point_command::point::point;
+use pool_command::pool::pool;
 use rank_commands::count::count;
 use rank_commands::rank::rank;
 use rank_commands::unrank::unrank;
@@ -86,7 +87,19 @@ fn carried_out<S: Shelf, K: Sink, L: Ledger>(
         } => sample(
             alloc, file, *x, tape, *limits, *fraction, *fast, shelf, out, steps,
         ),
-        Command::Pool { .. } => not_yet(alloc, out),
+        Command::Pool {
+            file,
+            x,
+            schedule,
+            tapes,
+            limits,
+            fraction,
+        } => {
+            let tapes = tapes.items();
+            pool(
+                alloc, file, *x, schedule, tapes, *limits, *fraction, shelf, out, steps,
+            )
+        }
         Command::Verify { .. } => not_yet(alloc, out),
         Command::Migrate { .. } => not_yet(alloc, out),
         Command::Bulk { n, fraction } => bulk(alloc, *n, *fraction, out, steps),

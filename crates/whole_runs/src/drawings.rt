@@ -24,7 +24,7 @@ fn words_that_are_refused(rt: HostRuntime) -> Result<(), Fail> {
             "refused value min\n",
         ),
         ("oracle s 1/2 --fraction 47", "refused value fraction\n"),
-        ("pool s 1/2 s t", "refused not yet\n"),
+        ("pool s 1/2 s", "refused words\n"),
         ("verify s t", "refused not yet\n"),
         ("bulk 0", "refused value n\n"),
         ("bulk 1001", "refused value n\n"),

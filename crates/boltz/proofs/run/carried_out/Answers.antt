@@ -1,11 +1,11 @@
-use Rattle.std.proofs.Common.{subst, sym}
+use Rattle.std.proofs.Common.{ℕ, ◌≤◌, List, length, subst, sym}
 use Rattle.command_words.specs.declared.command.Command.{Command}
 use Rattle.command_words.specs.declared.command.Command.TheVariants as command
 use Rattle.boltz.specs.Answers.{Carries}
 use Rattle.boltz.specs.Commands.{IsStoodFor}
 use Rattle.call_stages.specs.Ends.{EndsBy, output}
 use Rattle.call_stages.specs.Stages.{files}
-use Rattle.boltz.proofs.Commands.{sample_limits, bulk_limits, count_limit, unrank_limit}
+use Rattle.boltz.proofs.Commands.{sample_limits, bulk_limits, count_limit, unrank_limit, pool_limits}
 use Rattle.boltz.proofs.run.carried_out.Goals as goal
 
 -- the limits of a sample are within those of a drawing
@@ -26,6 +26,13 @@ returns-in-Bulk-clause-ends g c = subst (λ (k : Command). EndsBy (Carries (file
 -- a specification is printed
 pub returns-in-Spec-clause-ends : goal.returns-in-Spec-clause-ends
 returns-in-Spec-clause-ends g c = subst (λ (k : Command). EndsBy (Carries (files (g.S.Shelf.content c.args.shelf.now) (g.S.Shelf.faults c.args.shelf.now) (g.S.Shelf.faults c.spec.new.shelf)) k) (output (g.K.Sink.written c.args.out.now) (g.K.Sink.written c.spec.new.out) (g.K.Sink.faults c.args.out.now) (g.K.Sink.faults c.spec.new.out) c.args.steps.now c.args.steps.now) c.spec.result) (sym c.in-Spec.is) (c.spec.ensures.ends c.args.steps.now)
+
+-- the limits of a pool and the number of its tapes are within those that it takes
+pub pool-requires-clause-limits : goal.pool-requires-clause-limits
+pool-requires-clause-limits g c = (pool_limits c.in-Pool.file c.in-Pool.x c.in-Pool.schedule c.in-Pool.tapes c.in-Pool.limits c.in-Pool.fraction (subst IsStoodFor c.in-Pool.is c.requires.stood_for)).0
+
+pub pool-requires-clause-number : goal.pool-requires-clause-number
+pool-requires-clause-number g c = subst (λ (k : List (List ℕ)). (1 ≤ length k) × (length k ≤ 64)) (sym c.items-tapes.ensures.items) (pool_limits c.in-Pool.file c.in-Pool.x c.in-Pool.schedule c.in-Pool.tapes c.in-Pool.limits c.in-Pool.fraction (subst IsStoodFor c.in-Pool.is c.requires.stood_for)).1
 
 -- the size is within the limits
 pub count-requires : goal.count-requires
@@ -51,15 +58,9 @@ pub returns-in-Rank-clause-ends : goal.returns-in-Rank-clause-ends
 returns-in-Rank-clause-ends g c = subst (λ (k : Command). EndsBy (Carries (files (g.S.Shelf.content c.args.shelf.now) (g.S.Shelf.faults c.args.shelf.now) (g.S.Shelf.faults c.rank.new.shelf)) k) (output (g.K.Sink.written c.args.out.now) (g.K.Sink.written c.rank.new.out) (g.K.Sink.faults c.args.out.now) (g.K.Sink.faults c.rank.new.out) c.args.steps.now c.args.steps.now) c.rank.result) (sym c.in-Rank.is) (c.rank.ensures.ends c.args.steps.now)
 
 -- the command isn't built yet
-pub returns-in-Pool-clause-ends : goal.returns-in-Pool-clause-ends
-returns-in-Pool-clause-ends g c =
-    let at = c.not_yet in
-    subst (λ (k : Command). EndsBy (Carries (files (g.S.Shelf.content c.args.shelf.now) (g.S.Shelf.faults c.args.shelf.now) (g.S.Shelf.faults c.args.shelf.now)) k) (output (g.K.Sink.written c.args.out.now) (g.K.Sink.written at.new.out) (g.K.Sink.faults c.args.out.now) (g.K.Sink.faults at.new.out) c.args.steps.now c.args.steps.now) at.result) (sym c.in-Pool.is) (at.ensures.ends c.args.steps.now)
-
--- the command isn't built yet
 pub returns-in-Verify-clause-ends : goal.returns-in-Verify-clause-ends
 returns-in-Verify-clause-ends g c =
-    let at = c.not_yet-in-Verify in
+    let at = c.not_yet in
     subst (λ (k : Command). EndsBy (Carries (files (g.S.Shelf.content c.args.shelf.now) (g.S.Shelf.faults c.args.shelf.now) (g.S.Shelf.faults c.args.shelf.now)) k) (output (g.K.Sink.written c.args.out.now) (g.K.Sink.written at.new.out) (g.K.Sink.faults c.args.out.now) (g.K.Sink.faults at.new.out) c.args.steps.now c.args.steps.now) at.result) (sym c.in-Verify.is) (at.ensures.ends c.args.steps.now)
 
 -- the command isn't built yet
