@@ -63,7 +63,8 @@ returns-in-Err-NotPostFixed-clause-verdict g c =
     let first = subst (λ vs. IsFirstAbove (bodies_up (setting_of c.args.founded.now g.row.F c.args.cert.now.header) (values_up (setting_of c.args.founded.now g.row.F c.args.cert.now.header) vs)) vs c.in-Err-NotPostFixed.fault.class_id.0 c.in-Err-NotPostFixed.fault.got) vals fault in
     let lengths : length (bodies_up (setting_of c.args.founded.now g.row.F c.args.cert.now.header) (values_up (setting_of c.args.founded.now g.row.F c.args.cert.now.header) c.args.cert.now.header.base)) ≡ length c.args.cert.now.header.base = length-map c.args.founded.now.bodies (value_at (values_up (setting_of c.args.founded.now g.row.F c.args.cert.now.header) c.args.cert.now.header.base)) ∙ ap (λ (s : Spec). length s.bodies) (sym sys) ∙ c.known.ensures.sound.bodies ∙ ap (λ (s : Spec). length s.names) sys ∙ sym (ap length same) ∙ sym c.requires.header.one_each in
     let fails = values-fail (first_base_line c.args.cert.now.header) c.in-Err-NotPostFixed.fault.class_id.0 c.in-Err-NotPostFixed.fault.got (bodies_up (setting_of c.args.founded.now g.row.F c.args.cert.now.header) (values_up (setting_of c.args.founded.now g.row.F c.args.cert.now.header) c.args.cert.now.header.base)) c.args.cert.now.header.base lengths first in
-    let there : c.first_base_line-line.result + c.from-in-Err-NotPostFixed.result ≡ first_base_line c.args.cert.now.header + c.in-Err-NotPostFixed.fault.class_id.0 = omega (arith, c.first_base_line-line.ensures.line, c.from-in-Err-NotPostFixed.ensures) in
+    let class : c.from-in-Err-NotPostFixed.result ≡ c.in-Err-NotPostFixed.fault.class_id.0 = rw c.in-Err-NotPostFixed.field-0-is at c.from-in-Err-NotPostFixed.ensures in
+    let there : c.first_base_line-line.result + c.from-in-Err-NotPostFixed.result ≡ first_base_line c.args.cert.now.header + c.in-Err-NotPostFixed.fault.class_id.0 = omega (arith, c.first_base_line-line.ensures.line, class) in
     subst (FirstFails (checks c.args.founded.now g.row.F c.args.cert.now)) (ap (λ n. Invalid n reason.Base) (sym there))
     (at-values (header_checks c.args.founded.now g.row.F c.args.cert.now.header)
     (name_checks (first_base_line c.args.cert.now.header) c.args.cert.now.header.names c.args.founded.now.names)
