@@ -14,3 +14,10 @@ pub mod ReadLines
 pub mod StageLines
 pub mod WordFronts
 pub mod Writing
+pub mod BaseTests
+pub mod Chains
+pub mod EntryTests
+pub mod HeaderTests
+pub mod Tests
+pub mod Complete
+pub mod Costs

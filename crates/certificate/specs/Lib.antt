@@ -6,3 +6,7 @@ pub mod Ranges
 pub mod Reading
 pub mod Stages
 pub mod Stops
+pub mod Verdicts
+pub mod Checks
+pub mod Soundness
+pub mod Completeness

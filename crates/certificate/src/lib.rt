@@ -8,17 +8,23 @@
 //! A text is read exactly: what is read has this text, and a refusal names the first bad line
 //! (`specs/Reading.antt`). `specs/Stages.antt` says which line may stand next; `stages` reads the line in
 //! front of a text, by the readers of lines in `lines` and of fields in `fields`. `laws` says that one
-//! text has one certificate and at most one first bad line, and that what is written is read. No
-//! clause says that memory suffices.
+//! text has one certificate and at most one first bad line, and that what is written is read.
+//!
+//! `verify` makes the tests of `specs/Checks.antt` in order, those of entries by `entry_tests`. Its
+//! verdict (`reason`) tells the first that fails (`specs/Verdicts.antt`); a valid certificate is sound
+//! (`specs/Soundness.antt`). No clause says that memory suffices.
 #![tactic(auto)]
 
 pub mod certificate;
 pub mod closing;
 pub mod digest;
+mod entry_tests;
 mod fields;
 pub mod laws;
 mod lines;
 mod pattern;
 pub mod read;
+pub mod reason;
 mod stages;
+pub mod verify;
 pub mod write;

@@ -1,0 +1,32 @@
+//! Laws of replays. Each function's contract is the law; none does anything.
+ghost use Rattle.std.specs.Prelude.{◌≡◌, ℕ, Bool, List, Option};
+ghost use Rattle.std.specs.List.{AllByRecursion};
+ghost use Rattle.bz_model.specs.declared.cell.Bounds.{Bounds};
+ghost use Rattle.bz_model.specs.declared.cell.Cell.{Cell};
+ghost use Rattle.bz_model.specs.Fraction.{Fraction};
+ghost use Rattle.bz_model.specs.Spec.{Spec};
+ghost use Rattle.class_system.specs.Sound.{IsSound};
+ghost use Rattle.object_store.specs.declared.token.Token.{Token};
+ghost use Rattle.size_window.specs.Drawing.{DrawingState};
+ghost use Rattle.size_window.specs.RunByBits.{Limits, Course};
+ghost use Rattle.size_window.specs.Trace.{IsTrace};
+ghost use Rattle.entry_replay.specs.Replay.{AreMadeOf};
+
+/// Cells make at most one object with its labels: the tokens and labels that are drawn from the bits
+/// that they spell are the same however they are drawn.
+pub fn cells_make_one_object()
+    ensures { (s : Spec) (F : ℕ) (table : (level node : ℕ) → Bounds) (greatest : ℕ) (cells : List Cell)
+        → IsSound s → (tokens others : List Token) (labels told : List ℕ)
+        → AreMadeOf s F table greatest cells tokens labels
+        → AreMadeOf s F table greatest cells others told
+        → (tokens ≡ others) × (labels ≡ told) }
+{}
+
+/// Each entry of a drawing's trace is made of its own cells: whatever its tape and its shelf, the bits
+/// that the entry's cells spell make its tokens and labels again, with exactly these cells.
+pub fn a_trace_makes_its_entries()
+    ensures { (s : Spec) (x : Fraction) (F : ℕ) (table : (level node : ℕ) → Bounds) (limits : Limits)
+        (told : Option (ℕ → Option Bool)) (turns : ℕ) (d : DrawingState) (used most : ℕ) (c : Course)
+        → IsTrace s x F table limits told turns d used most c
+        → AllByRecursion (λ e. AreMadeOf s F table limits.max e.cells e.tokens e.labels) c.entries }
+{}
