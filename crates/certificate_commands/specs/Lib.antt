@@ -1,0 +1,5 @@
+pub mod CertificateStage
+pub mod Tested
+pub mod VerifyCommand
+pub mod MigrateCommand
+pub mod Completeness

@@ -1,0 +1,1 @@
+//! Laws of the commands' outcomes. Each function's contract is the law; none does anything.
