@@ -27,9 +27,11 @@ first-same n c names classes places h = let e : Some n ≡ Some c = h 0 (omega a
 pub names-differ : (line place : ℕ) (names classes : List (List ℕ)) → place < length names → place < length classes → Agree names classes place → slice_get names place ≢ slice_get classes place → FirstFails (name_checks line names classes) (Invalid (line + place) reason.Base)
 names-differ line zero (n ∷ names) (c ∷ classes) in_names in_classes agree differ = inr ((λ e. differ (ap Some e)), ap (λ m. Invalid m reason.Base) (let z : line + 0 ≡ line = omega arith in z))
 names-differ line (suc place) (n ∷ names) (c ∷ classes) in_names in_classes agree differ =
-    inl (first-same n c names classes place agree,
+    inl (
+      first-same n c names classes place agree,
       subst (FirstFails (name_checks (suc line) names classes)) (told line place (line + suc place) (omega arith))
-      (names-differ (suc line) place names classes (omega arith) (omega arith) (later n c names classes place agree) differ))
+          (names-differ (suc line) place names classes (omega arith) (omega arith) (later n c names classes place agree) differ),
+    )
 names-differ line place [] classes in_names in_classes agree differ = let no : ⊥ = omega arith in absurd no
 names-differ line place (n ∷ names) [] in_names in_classes agree differ = let no : ⊥ = omega arith in absurd no
 
@@ -40,9 +42,11 @@ names-unequal line place (n ∷ names) [] is agree differ = inr ((λ none. none)
 names-unequal line place [] (c ∷ classes) is agree differ = inr ((λ none. none), ap (λ m. Invalid m reason.Base) (let z : line + place ≡ line = omega arith in z))
 names-unequal line zero (n ∷ names) (c ∷ classes) is agree differ = let no : ⊥ = omega arith in absurd no
 names-unequal line (suc place) (n ∷ names) (c ∷ classes) is agree differ =
-    inl (first-same n c names classes place agree,
+    inl (
+      first-same n c names classes place agree,
       subst (FirstFails (name_checks (suc line) names classes)) (told line place (line + suc place) (omega arith))
-      (names-unequal (suc line) place names classes (omega arith) (later n c names classes place agree) (λ e. differ (ap suc e))))
+          (names-unequal (suc line) place names classes (omega arith) (later n c names classes place agree) (λ e. differ (ap suc e))),
+    )
 
 -- where they are the same
 pub names-pass : (line place : ℕ) (names classes : List (List ℕ)) → place ≡ length names → length names ≡ length classes → Agree names classes place → FirstFails (name_checks line names classes) Valid
@@ -76,11 +80,13 @@ values-fail line place got (b ∷ bodies) [] same h = let no : ⊥ = omega arith
 values-fail line place got [] (v ∷ base) same h = let no : ⊥ = omega arith in absurd no
 values-fail line zero got (b ∷ bodies) (v ∷ base) same h = inr ((λ ok. h.above (subst (λ g. IsNoGreater g (Some v)) (sym h.value) ok)), ap (λ m. Invalid m reason.Base) (let z : line + 0 ≡ line = omega arith in z))
 values-fail line (suc place) got (b ∷ bodies) (v ∷ base) same h =
-    inl (h.before 0 (omega arith),
+    inl (
+      h.before 0 (omega arith),
       subst (FirstFails (value_checks (suc line) bodies base)) (told line place (line + suc place) (omega arith))
-      (values-fail (suc line) place got bodies base (omega arith) (record {
-        within = (let w = h.within in omega arith);
-        value = h.value;
-        above = h.above;
-        before = λ c below. h.before (suc c) (omega arith);
-      })))
+          (values-fail (suc line) place got bodies base (omega arith) (record {
+            within = (let w = h.within in omega arith);
+            value = h.value;
+            above = h.above;
+            before = λ c below. h.before (suc c) (omega arith);
+          })),
+    )

@@ -5,7 +5,6 @@ use Rattle.certificate.specs.declared.reason.Verdict.{Verdict}
 use Rattle.certificate.specs.declared.reason.Verdict.TheVariants.{Valid, Invalid}
 use Rattle.certificate.specs.Verdicts.{Check, FirstFails}
 
-
 -- where the first tests pass, the further ones decide
 pub passes-then : (first more : List Check) (v : Verdict) → FirstFails first Valid → FirstFails more v → FirstFails (first ++ more) v
 passes-then [] more v h i = i

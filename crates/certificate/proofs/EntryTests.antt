@@ -133,9 +133,10 @@ module _ (s : Spec) (F : ℕ) (table : (level node : ℕ) → Bounds) (x : Fract
 
   -- all pass
   pub tested-all : (index number place line : ℕ) → length entries ≤ index → AreTested s F table x least greatest first entries index number place line → FirstFails (entries_checks s F table least greatest 0 0 first entries) Valid × AllByRecursion (IsSoundEntry s x least greatest) entries
-  tested-all index number place line past t =
-      (t.further Valid (subst (λ es. FirstFails (entries_checks s F table least greatest number place line es) Valid) (sym (drop_past entries index past)) refl),
-      subst (AllByRecursion (IsSoundEntry s x least greatest)) (take_past entries index past) t.sound)
+  tested-all index number place line past t = (
+    t.further Valid (subst (λ es. FirstFails (entries_checks s F table least greatest number place line es) Valid) (sym (drop_past entries index past)) refl),
+    subst (AllByRecursion (IsSoundEntry s x least greatest)) (take_past entries index past) t.sound,
+  )
     where
       drop_past : (es : List CertEntry) (i : ℕ) → length es ≤ i → drop i es ≡ []
       drop_past [] zero h = refl

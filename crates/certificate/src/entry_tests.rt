@@ -75,7 +75,9 @@ pub(crate) fn test_entries<const F: u32, O: Oracle<F>, L: Ledger>(
         line,
     };
     'tests: for entry in entries {
-        let answer = test_entry(alloc, founded, oracle, session, window, entry, before, steps);
+        let answer = test_entry(
+            alloc, founded, oracle, session, window, entry, before, steps,
+        );
         oracle.known();
         let tested = answer?;
         let Verdict::Valid = tested else {

@@ -25,16 +25,31 @@ byte-at bytes l byte k place at few small is =
 
 -- the eight bits of a byte
 byte-bits : (bytes : List ℕ) (l byte : ℕ) → slice_get bytes l ≡ Some byte → l < 2 ^ 60 → HasBits (file_bit bytes) (8 * l) (bits_of 8 byte)
-byte-bits bytes l byte at few =
-    (byte-at bytes l byte 0 (8 * l) at few (omega arith) (omega arith),
-    (byte-at bytes l byte 1 (suc (8 * l)) at few (omega arith) (omega arith),
-    (byte-at bytes l byte 2 (suc (suc (8 * l))) at few (omega arith) (omega arith),
-    (byte-at bytes l byte 3 (suc (suc (suc (8 * l)))) at few (omega arith) (omega arith),
-    (byte-at bytes l byte 4 (suc (suc (suc (suc (8 * l))))) at few (omega arith) (omega arith),
-    (byte-at bytes l byte 5 (suc (suc (suc (suc (suc (8 * l)))))) at few (omega arith) (omega arith),
-    (byte-at bytes l byte 6 (suc (suc (suc (suc (suc (suc (8 * l))))))) at few (omega arith) (omega arith),
-    (byte-at bytes l byte 7 (suc (suc (suc (suc (suc (suc (suc (8 * l)))))))) at few (omega arith) (omega arith),
-    tt))))))))
+byte-bits bytes l byte at few = (
+  byte-at bytes l byte 0 (8 * l) at few (omega arith) (omega arith),
+  (
+    byte-at bytes l byte 1 (suc (8 * l)) at few (omega arith) (omega arith),
+    (
+      byte-at bytes l byte 2 (suc (suc (8 * l))) at few (omega arith) (omega arith),
+      (
+        byte-at bytes l byte 3 (suc (suc (suc (8 * l)))) at few (omega arith) (omega arith),
+        (
+          byte-at bytes l byte 4 (suc (suc (suc (suc (8 * l))))) at few (omega arith) (omega arith),
+          (
+            byte-at bytes l byte 5 (suc (suc (suc (suc (suc (8 * l)))))) at few (omega arith) (omega arith),
+            (
+              byte-at bytes l byte 6 (suc (suc (suc (suc (suc (suc (8 * l))))))) at few (omega arith) (omega arith),
+              (
+                byte-at bytes l byte 7 (suc (suc (suc (suc (suc (suc (suc (8 * l)))))))) at few (omega arith) (omega arith),
+                tt,
+              ),
+            ),
+          ),
+        ),
+      ),
+    ),
+  ),
+)
 
 get-seam : (front : List ℕ) (byte : ℕ) (rest : List ℕ) → slice_get (front ++ byte ∷ rest) (length front) ≡ Some byte
 get-seam [] byte rest = refl
@@ -118,5 +133,5 @@ pub spelled-more : (cells : List Cell) (i : ℕ) (d : Cell) (before next : List 
 spelled-more cells i d before next h is more =
     let cell = get_or cells i d in
     let one : spelled (take (i + 1) cells) ≡ spelled (take i cells) ++ bits_of (get_or cells i d).b (get_or cells i d).k =
-        ap spelled (take_more cells i d h) ∙ spelled-both (take i cells) (get_or cells i d ∷ []) ∙ ap (λ bs. spelled (take i cells) ++ bs) (append-nil (bits_of (get_or cells i d).b (get_or cells i d).k)) in
+    ap spelled (take_more cells i d h) ∙ spelled-both (take i cells) (get_or cells i d ∷ []) ∙ ap (λ bs. spelled (take i cells) ++ bs) (append-nil (bits_of (get_or cells i d).b (get_or cells i d).k)) in
     more ∙ ap (λ bs. bs ++ bits_of (get_or cells i d).b (get_or cells i d).k) is ∙ sym one

@@ -12,7 +12,7 @@ front-more front cells rest next i d h is more =
 pub front-other : (front cells rest : List Cell) (i : ℕ) (d : Cell) → i < length front → cells ≡ take i front ++ rest → ((next : List Cell) → rest ≢ get_or front i d ∷ next) → (behind : List Cell) → cells ≢ front ++ behind
 front-other front cells rest i d h is differs behind e =
     let whole : front ≡ take i front ++ (get_or front i d ∷ drop (i + 1) front) =
-        sym (take-append-drop (i + 1) front) ∙ ap (λ t. t ++ drop (i + 1) front) (take_more front i d h) ∙ append_assoc (take i front) (get_or front i d ∷ []) (drop (i + 1) front) in
+    sym (take-append-drop (i + 1) front) ∙ ap (λ t. t ++ drop (i + 1) front) (take_more front i d h) ∙ append_assoc (take i front) (get_or front i d ∷ []) (drop (i + 1) front) in
     differs (drop (i + 1) front ++ behind)
     (append_cancel_left (take i front) rest (get_or front i d ∷ (drop (i + 1) front ++ behind))
     (sym is ∙ e ∙ ap (λ t. t ++ behind) whole ∙ append_assoc (take i front) (get_or front i d ∷ drop (i + 1) front) behind))

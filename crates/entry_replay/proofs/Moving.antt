@@ -47,12 +47,13 @@ module _ (c : Chooser) (greatest : ℕ) where
           let all : HasBits bits start (spelled a.cells ++ spelled again.more) = subst (HasBits bits start) both have in
           let first = h.by bits start (has_bits-first bits start (spelled a.cells) (spelled again.more) all) in
           let middle : ℕ = start + length (spelled a.cells) in
-          let next = again.again bits middle (has_bits-more bits start (spelled a.cells) (spelled again.more) all) in
-          (suc first.0,
+          let next = again.again bits middle (has_bits-more bits start (spelled a.cells) (spelled again.more) all) in (
+            suc first.0,
             ap (visited_next c (bit_of bits None)) first.1
-            ∙ ap (visit_among c (bit_of bits None) (at_used a middle)) pending
-            ∙ next
-            ∙ ap (λ n. Visited.Went (at_used b n)) (places start a.cells again.more b.cells again.cells))
+                ∙ ap (visit_among c (bit_of bits None) (at_used a middle)) pending
+                ∙ next
+                ∙ ap (λ n. Visited.Went (at_used b n)) (places start a.cells again.more b.cells again.cells),
+          )
 
   module _ (bits : ℕ → Option Bool) (start : ℕ) where
     among-comes : (b a : Attempt) (pending : List ℕ) → b.pending ≡ pending → Comes b → visit_among c (bit_of bits None) b pending ≡ Visited.Went a → Comes a
@@ -113,13 +114,19 @@ pub record IsReplayed (c : Chooser) (greatest : ℕ) (bits : ℕ → Option Bool
 module _ (c : Chooser) (greatest : ℕ) (bits : ℕ → Option Bool) (start : ℕ) (e : Entry) where
   from-labels : (mode : Mode) (made : Attempt) → IsMadeFrom c greatest bits start made → made.tokens ≡ e.tokens → e.size ≡ size_of e.tokens → c.spec.mode ≡ mode → HasLabelsAgain mode bits made e (start + length (spelled e.cells)) → IsReplayed c greatest bits start e
   from-labels Mode.Unlabelled made from tokens size is h = record {
-    made = made; from = from; tokens = tokens; size = size;
+    made = made;
+    from = from;
+    tokens = tokens;
+    size = size;
     more = [];
     cells = h.1 ∙ sym (append-nil made.cells);
     labels = subst (λ m. GetLabels m bits (size_of made.tokens) made.used e.labels [] (start + length (spelled e.cells))) (sym is) (h.0, refl, sym h.2);
   }
   from-labels Mode.Labelled made from tokens size is h = record {
-    made = made; from = from; tokens = tokens; size = size;
+    made = made;
+    from = from;
+    tokens = tokens;
+    size = size;
     more = h.more;
     cells = h.cells;
     labels = subst (λ m. GetLabels m bits (size_of made.tokens) made.used e.labels h.more (start + length (spelled e.cells))) (sym is) h.given;

@@ -9,11 +9,8 @@ use Rattle.bz_model.specs.Fraction.{Fraction}
 use Rattle.bz_model.specs.Spec.{Spec, Mode}
 use Rattle.shape_sampler.specs.Answer.{ChoosesBy}
 use Rattle.shape_sampler.specs.Visit.{Chooser, Attempt}
-use Rattle.size_window.specs.declared.ending.Ending.{Ending as Told}
-use Rattle.size_window.specs.declared.ending.Ending.TheVariants as ending
-use Rattle.size_window.specs.Drawing.{DrawingState}
 use Rattle.size_window.specs.Redrawn.{HasLabelsAgain, IsRedrawn, IsRedrawnAlone, AreRedrawn}
-use Rattle.size_window.specs.RunByBits.{Limits, Entry, Course}
+use Rattle.size_window.specs.RunByBits.{Limits, Entry, Course, Ending}
 use Rattle.size_window.specs.Trace.{EndsAt, IsTrace}
 use Rattle.size_window.proofs.Redrawing.{has-own, course-redrawn}
 use Rattle.entry_replay.specs.Replay.{entry_with, AreMadeOf}
@@ -35,13 +32,13 @@ alone c greatest e r = record {
 }
 
 -- a tape that ends there ends there
-ends-there : (o : Option Told) (used : ℕ) (bits : ℕ → Option Bool) → bits used ≡ None → EndsAt o used bits
+ends-there : (o : Option Ending) (used : ℕ) (bits : ℕ → Option Bool) → bits used ≡ None → EndsAt o used bits
 ends-there None used bits h = tt
-ends-there (Some ending.Done) used bits h = tt
-ends-there (Some ending.TapeEnded) used bits h = h
-ends-there (Some (ending.Undecided straddle)) used bits h = tt
-ends-there (Some ending.TurnLimit) used bits h = tt
-ends-there (Some ending.ReadFault) used bits h = tt
+ends-there (Some Ending.Done) used bits h = tt
+ends-there (Some Ending.TapeEnded) used bits h = h
+ends-there (Some (Ending.Undecided number)) used bits h = tt
+ends-there (Some Ending.TurnLimit) used bits h = tt
+ends-there (Some Ending.ReadFault) used bits h = tt
 
 module _ (s : Spec) (F : ℕ) (table : (level node : ℕ) → Bounds) (greatest : ℕ) where
   -- what each chooser makes again is made of its cells
@@ -49,10 +46,11 @@ module _ (s : Spec) (F : ℕ) (table : (level node : ℕ) → Bounds) (greatest 
   all-made [] h = tt
   all-made (e ∷ es) h = (record { redrawn = λ k by. alone k greatest e ((h k by).0.1) }, all-made es (λ k by. (h k by).1))
 
-pub trace-makes : (s : Spec) (x : Fraction) (F : ℕ) (table : (level node : ℕ) → Bounds) (limits : Limits) (told : Option (ℕ → Option Bool)) (turns : ℕ) (d : DrawingState) (used most : ℕ) (c : Course) → IsTrace s x F table limits told turns d used most c → AllByRecursion (λ e. AreMadeOf s F table limits.max e.cells e.tokens e.labels) c.entries
-trace-makes s x F table limits told turns d used most c t =
+pub trace-makes : (s : Spec) (x : Fraction) (F : ℕ) (table : (level node : ℕ) → Bounds) (limits : Limits) (told : Option (ℕ → Option Bool)) (turns most : ℕ) (c : Course) → IsTrace s x F table limits told turns most c → AllByRecursion (λ e. AreMadeOf s F table limits.max e.cells e.tokens e.labels) c.entries
+trace-makes s x F table limits told turns most c t =
     all-made s F table limits.max c.entries (λ k by.
-        let long = t.gave.count in
-        let past : length t.given ≤ used = omega (arith, long) in
-        let over = t.exact (slice_get t.given) (has-own t.given) (ends-there d.ending used (slice_get t.given) (slice_get_past t.given used past)) k by in
-        subst (λ (q : Course). AreRedrawn k limits.max q.entries) (sym over.same) (course-redrawn (record { chooser = k; limits = limits; tape = slice_get t.given }) t.faults turns))
+    let used = c.state.attempt.used in
+    let long = t.gave.count in
+    let past : length t.given ≤ used = omega (arith, long) in
+    let over = t.exact (slice_get t.given) (has-own t.given) (ends-there c.state.ending used (slice_get t.given) (slice_get_past t.given used past)) k by in
+    subst (λ (q : Course). AreRedrawn k limits.max q.entries) (sym over.same) (course-redrawn (record { chooser = k; limits = limits; tape = slice_get t.given }) t.faults turns))

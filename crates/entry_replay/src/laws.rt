@@ -7,7 +7,6 @@ ghost use Rattle.bz_model.specs.Fraction.{Fraction};
 ghost use Rattle.bz_model.specs.Spec.{Spec};
 ghost use Rattle.class_system.specs.Sound.{IsSound};
 ghost use Rattle.object_store.specs.declared.token.Token.{Token};
-ghost use Rattle.size_window.specs.Drawing.{DrawingState};
 ghost use Rattle.size_window.specs.RunByBits.{Limits, Course};
 ghost use Rattle.size_window.specs.Trace.{IsTrace};
 ghost use Rattle.entry_replay.specs.Replay.{AreMadeOf};
@@ -26,7 +25,7 @@ pub fn cells_make_one_object()
 /// that the entry's cells spell make its tokens and labels again, with exactly these cells.
 pub fn a_trace_makes_its_entries()
     ensures { (s : Spec) (x : Fraction) (F : ℕ) (table : (level node : ℕ) → Bounds) (limits : Limits)
-        (told : Option (ℕ → Option Bool)) (turns : ℕ) (d : DrawingState) (used most : ℕ) (c : Course)
-        → IsTrace s x F table limits told turns d used most c
+        (told : Option (ℕ → Option Bool)) (turns most : ℕ) (c : Course)
+        → IsTrace s x F table limits told turns most c
         → AllByRecursion (λ e. AreMadeOf s F table limits.max e.cells e.tokens e.labels) c.entries }
 {}

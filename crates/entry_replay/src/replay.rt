@@ -85,7 +85,15 @@ pub fn replay<const F: u32, O: Oracle<F>, L: Ledger>(
         return Ok(None);
     }
     let (shape, own) = session.take_made();
-    label_again(alloc, system.mode(), shape, &own, cells, &mut tape, &mut shelf)
+    label_again(
+        alloc,
+        system.mode(),
+        shape,
+        &own,
+        cells,
+        &mut tape,
+        &mut shelf,
+    )
 }
 
 /// Labels a shape that was made with its own cells, where the cells are these followed by those of its

@@ -43,8 +43,8 @@ returns-clause-none g c =
     none-of (IsNotLabelled (spec_mode c.mode.result) (file_bit c.attempt.new.shelf) (size_of c.take_made-shape.result.0.items) c.attempt.new.tape.used c.take_made-shape.result.1.items c.args.cells.now)
     ((tokens : List Token) (labels : List ℕ) → ¬ (AreMadeOf c.args.founded.now g.row.F (g.O.Oracle.table c.args.oracle.now) c.args.session.now.whole c.args.cells.now tokens labels))
     (λ n tokens labels h.
-        not-labelled c.args.founded.now sound g.row.F (g.O.Oracle.table c.args.oracle.now) c.args.session.now.whole (file_bit c.new-shelf.result) c.args.cells.now have tokens labels h (attempt_of c.attempt.new.session c.attempt.new.tape.used) attempt
-        (moved (λ m b k own. IsNotLabelled m b k c.attempt.new.tape.used own c.args.cells.now) (spec_mode c.mode.result) c.args.founded.now.mode c.attempt.new.shelf c.new-shelf.result c.take_made-shape.result.0.items c.attempt.new.session.tokens c.take_made-shape.result.1.items c.attempt.new.session.cells mode c.attempt.ensures.shelf c.take_made-shape.ensures.shape c.take_made-shape.ensures.cells n))
+    not-labelled c.args.founded.now sound g.row.F (g.O.Oracle.table c.args.oracle.now) c.args.session.now.whole (file_bit c.new-shelf.result) c.args.cells.now have tokens labels h (attempt_of c.attempt.new.session c.attempt.new.tape.used) attempt
+    (moved (λ m b k own. IsNotLabelled m b k c.attempt.new.tape.used own c.args.cells.now) (spec_mode c.mode.result) c.args.founded.now.mode c.attempt.new.shelf c.new-shelf.result c.take_made-shape.result.0.items c.attempt.new.session.tokens c.take_made-shape.result.1.items c.attempt.new.session.cells mode c.attempt.ensures.shelf c.take_made-shape.ensures.shape c.take_made-shape.ensures.cells n))
     c.label_again.result c.label_again.ensures.none
 
 pub returns-clause-made : goal.returns-clause-made
@@ -56,9 +56,9 @@ returns-clause-made g c =
     some-of (λ (made : Redrawn). (made.shape.items ≡ c.take_made-shape.result.0.items) × IsLabelledBy (spec_mode c.mode.result) (file_bit c.attempt.new.shelf) (size_of c.take_made-shape.result.0.items) c.attempt.new.tape.used c.take_made-shape.result.1.items c.args.cells.now made.labels)
     (λ (made : Redrawn). AreMadeOf c.args.founded.now g.row.F (g.O.Oracle.table c.args.oracle.now) c.args.session.now.whole c.args.cells.now made.shape.items made.labels)
     (λ made p.
-        labelled-made c.args.founded.now g.row.F (g.O.Oracle.table c.args.oracle.now) c.args.session.now.whole (file_bit c.new-shelf.result) (attempt_of c.attempt.new.session c.attempt.new.tape.used) made.labels c.args.cells.now made.shape.items attempt (p.0 ∙ c.take_made-shape.ensures.shape)
-        (moved (λ m b k own. IsLabelledBy m b k c.attempt.new.tape.used own c.args.cells.now made.labels) (spec_mode c.mode.result) c.args.founded.now.mode c.attempt.new.shelf c.new-shelf.result c.take_made-shape.result.0.items c.attempt.new.session.tokens c.take_made-shape.result.1.items c.attempt.new.session.cells mode c.attempt.ensures.shelf c.take_made-shape.ensures.shape c.take_made-shape.ensures.cells p.1)
-        have)
+    labelled-made c.args.founded.now g.row.F (g.O.Oracle.table c.args.oracle.now) c.args.session.now.whole (file_bit c.new-shelf.result) (attempt_of c.attempt.new.session c.attempt.new.tape.used) made.labels c.args.cells.now made.shape.items attempt (p.0 ∙ c.take_made-shape.ensures.shape)
+    (moved (λ m b k own. IsLabelledBy m b k c.attempt.new.tape.used own c.args.cells.now made.labels) (spec_mode c.mode.result) c.args.founded.now.mode c.attempt.new.shelf c.new-shelf.result c.take_made-shape.result.0.items c.attempt.new.session.tokens c.take_made-shape.result.1.items c.attempt.new.session.cells mode c.attempt.ensures.shelf c.take_made-shape.ensures.shape c.take_made-shape.ensures.cells p.1)
+    have)
     c.label_again.result c.label_again.ensures.some
 
 pub returns-clause-ideal : goal.returns-clause-ideal
@@ -67,6 +67,6 @@ returns-clause-ideal g c =
     some-of (λ (made : Redrawn). (made.shape.items ≡ c.take_made-shape.result.0.items) × IsLabelledBy (spec_mode c.mode.result) (file_bit c.attempt.new.shelf) (size_of c.take_made-shape.result.0.items) c.attempt.new.tape.used c.take_made-shape.result.1.items c.args.cells.now made.labels)
     (λ (made : Redrawn). IsMadeOfItsCells c.args.founded.now (g.O.Oracle.x c.args.oracle.now) c.args.session.now.whole (entry_with made.shape.items made.labels c.args.cells.now))
     (λ made p.
-        labelled-ideally c.args.founded.now (g.O.Oracle.x c.args.oracle.now) c.args.session.now.whole (file_bit c.new-shelf.result) c.attempt.new.tape.used c.attempt.new.session.tokens c.attempt.new.session.cells c.args.cells.now made.labels made.shape.items (c.in_ok-done.ensures.ideal c.if-not-done.false) (p.0 ∙ c.take_made-shape.ensures.shape)
-        (moved (λ m b k own. IsLabelledBy m b k c.attempt.new.tape.used own c.args.cells.now made.labels) (spec_mode c.mode.result) c.args.founded.now.mode c.attempt.new.shelf c.new-shelf.result c.take_made-shape.result.0.items c.attempt.new.session.tokens c.take_made-shape.result.1.items c.attempt.new.session.cells mode c.attempt.ensures.shelf c.take_made-shape.ensures.shape c.take_made-shape.ensures.cells p.1))
+    labelled-ideally c.args.founded.now (g.O.Oracle.x c.args.oracle.now) c.args.session.now.whole (file_bit c.new-shelf.result) c.attempt.new.tape.used c.attempt.new.session.tokens c.attempt.new.session.cells c.args.cells.now made.labels made.shape.items (c.in_ok-done.ensures.ideal c.if-not-done.false) (p.0 ∙ c.take_made-shape.ensures.shape)
+    (moved (λ m b k own. IsLabelledBy m b k c.attempt.new.tape.used own c.args.cells.now made.labels) (spec_mode c.mode.result) c.args.founded.now.mode c.attempt.new.shelf c.new-shelf.result c.take_made-shape.result.0.items c.attempt.new.session.tokens c.take_made-shape.result.1.items c.attempt.new.session.cells mode c.attempt.ensures.shelf c.take_made-shape.ensures.shape c.take_made-shape.ensures.cells p.1))
     c.label_again.result c.label_again.ensures.some
