@@ -2,8 +2,9 @@
 use Rattle.std.specs.Prelude.{ℕ, List, Option, Some, None}
 use Rattle.bz_model.specs.Spec.{Spec}
 use Rattle.certificate.specs.declared.certificate.Certificate.{Certificate}
+use Rattle.certificate.specs.declared.certificate.CertEntry.{CertEntry}
 use Rattle.certificate.specs.declared.certificate.Header.{Header}
-use Rattle.certificate.specs.Certificates.{certificate_lines}
+use Rattle.certificate.specs.Certificates.{entry_lines, certificate_lines}
 use Rattle.certificate.specs.Lines.{text_of}
 use Rattle.class_system.specs.CanonicalText.{canonical_text}
 use Rattle.sha2.specs.Sha256.{sha256}
@@ -24,6 +25,10 @@ header_in_2 s h = record h { version = 2; digest = Some (own_digest s h.digest) 
 -- A certificate in version 2: with that header, and the same entries and closing.
 abbrev pub certificate_in_2 : Spec → Certificate → Certificate
 certificate_in_2 s c = record c { header = header_in_2 s c.header }
+
+-- The lines of an entry.
+abbrev pub entry_text : CertEntry → List ℕ
+entry_text e = text_of (entry_lines e)
 
 -- The lines of a certificate in version 2.
 abbrev pub migrated_text : Spec → Certificate → List ℕ

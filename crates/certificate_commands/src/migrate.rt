@@ -2,13 +2,12 @@
 ghost use Rattle.std.specs.Prelude.{◌≡◌, ℕ, ◌≤◌, ◌++◌, List, IfOk, OnOk, flat_map};
 ghost use Rattle.class_system.specs.CanonicalText.{canonical_text};
 ghost use Rattle.sha2.specs.Sha256.{sha256};
-ghost use Rattle.certificate.specs.Certificates.{entry_lines, FitsHeader, FitsClosing};
-ghost use Rattle.certificate.specs.Lines.{text_of};
+ghost use Rattle.certificate.specs.Certificates.{FitsHeader, FitsClosing};
 ghost use Rattle.call_stages.specs.Ends.{EndsBy, output};
 ghost use Rattle.call_stages.specs.Outcomes.{MaySay};
 ghost use Rattle.call_stages.specs.Stages.{files};
 ghost use Rattle.call_stages.specs.declared.status.Status.{Status};
-ghost use Rattle.certificate_commands.specs.MigrateCommand.{own_digest, header_in_2, migrated_text, CarriesMigrate};
+ghost use Rattle.certificate_commands.specs.MigrateCommand.{header_in_2, entry_text, migrated_text, CarriesMigrate};
 
 use crate::tested::verified;
 use bz_model::steps::Steps;
@@ -144,9 +143,9 @@ fn append_entries(
     entries: &[CertEntry],
 ) -> Result<(), AllocError>
     ensures { OnOk result (text.new.items ≡ text.old.items
-        ++ text_of (flat_map entry_lines entries.now)) }
+        ++ flat_map entry_text entries.now) }
 {
-    'entries: for entry in entries {
+    for entry in entries {
         let lines = write_entry(alloc, entry)?;
         text.extend_from_slice(lines.as_slice())?;
     }
