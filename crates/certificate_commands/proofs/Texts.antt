@@ -1,10 +1,13 @@
 -- The text of lines that follow one another.
-use Rattle.std.proofs.Common.{◌≡◌, List, [], ◌∷◌, ◌++◌, refl, sym, ap, ◌∙◌, append_assoc}
+use Rattle.std.proofs.Common.{◌≡◌, ℕ, List, [], ◌∷◌, ◌++◌, refl, sym, ap, subst, ◌∙◌, append_assoc}
 use Rattle.std.specs.Prelude.{flat_map}
+use Rattle.bz_model.specs.Spec.{Spec}
 use Rattle.certificate.specs.declared.certificate.CertEntry.{CertEntry}
-use Rattle.certificate.specs.Certificates.{entry_lines}
+use Rattle.certificate.specs.declared.certificate.Certificate.{Certificate}
+use Rattle.certificate.specs.declared.certificate.Header.{Header}
+use Rattle.certificate.specs.Certificates.{header_lines, entry_lines, closing_lines}
 use Rattle.certificate.specs.Lines.{Line, whole_line, text_of}
-use Rattle.certificate_commands.specs.MigrateCommand.{entry_text}
+use Rattle.certificate_commands.specs.MigrateCommand.{entry_text, header_in_2, migrated_text}
 
 lines-append : (xs ys : List Line) → text_of (xs ++ ys) ≡ text_of xs ++ text_of ys
 lines-append [] ys = refl
@@ -22,3 +25,11 @@ three-parts first last es =
     ∙ ap (λ t. text_of first ++ (t ++ text_of last)) (entries-text es)
     ∙ ap (λ t. text_of first ++ t) (sym (lines-append (flat_map entry_lines es) last))
     ∙ sym (lines-append first (flat_map entry_lines es ++ last))
+
+-- the parts of a certificate's text in version 2
+pub in_2 : (s : Spec) (c : Certificate) (h : Header) (header texts last all : List ℕ) → h ≡ header_in_2 s c.header → header ≡ text_of (header_lines h) → texts ≡ header ++ flat_map entry_text c.entries → last ≡ text_of (closing_lines c.closing) → all ≡ texts ++ last → all ≡ migrated_text s c
+in_2 s c h header texts last all same first middle end joined =
+    joined ∙ ap (λ t. t ++ last) middle ∙ ap (λ t. (header ++ flat_map entry_text c.entries) ++ t) end
+    ∙ ap (λ t. (t ++ flat_map entry_text c.entries) ++ text_of (closing_lines c.closing)) first
+    ∙ three-parts (header_lines h) (closing_lines c.closing) c.entries
+    ∙ ap (λ (k : Header). text_of (header_lines k ++ (flat_map entry_lines c.entries ++ closing_lines c.closing))) same

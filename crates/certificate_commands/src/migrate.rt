@@ -3,6 +3,7 @@ ghost use Rattle.std.specs.Prelude.{◌≡◌, ℕ, ◌≤◌, ◌++◌, List, I
 ghost use Rattle.class_system.specs.CanonicalText.{canonical_text};
 ghost use Rattle.sha2.specs.Sha256.{sha256};
 ghost use Rattle.certificate.specs.Certificates.{FitsHeader, FitsClosing};
+ghost use Rattle.certificate.specs.Fields.{IsDigest};
 ghost use Rattle.call_stages.specs.Ends.{EndsBy, output};
 ghost use Rattle.call_stages.specs.Outcomes.{MaySay};
 ghost use Rattle.call_stages.specs.Stages.{files};
@@ -72,6 +73,7 @@ fn migrated<K: Sink>(
 }
 
 /// The text of a certificate in version 2.
+#[tactic(auto, using(crate::proofs::Texts::in_2))]
 fn text_in_2(
     alloc: Global,
     founded: &Founded,
@@ -79,7 +81,7 @@ fn text_in_2(
 ) -> Result<Vec<u8>, AllocError>
     requires header { FitsHeader certificate.header }
     requires closing { FitsClosing certificate.closing }
-    ensures { IfOk result (λ text. text.items ≡ migrated_text founded.now certificate.entry) }
+    ensures { IfOk result (λ text. text.items ≡ migrated_text founded.now certificate) }
 {
     let Certificate {
         header,
@@ -97,7 +99,7 @@ fn text_in_2(
 /// A header in version 2: with a digest, and all else as it was.
 fn in_version_2(alloc: Global, founded: &Founded, header: Header) -> Result<Header, AllocError>
     requires { FitsHeader header }
-    ensures same { IfOk result (λ h. h ≡ header_in_2 founded.now header.entry) }
+    ensures same { IfOk result (λ h. h ≡ header_in_2 founded.now header) }
     ensures fits { IfOk result FitsHeader }
 {
     let Header {
@@ -130,10 +132,13 @@ fn in_version_2(alloc: Global, founded: &Founded, header: Header) -> Result<Head
 
 /// The digest of a specification's canonical text.
 fn digest_of(system: &System) -> Result<SpecDigest, AllocError>
-    ensures { IfOk result (λ digest. digest ≡ sha256 (canonical_text system.now)) }
+    ensures digest { IfOk result (λ digest. digest ≡ sha256 (canonical_text system.now)) }
+    ensures fits { IfOk result IsDigest }
 {
     let canonical = system.to_text()?;
-    Ok(SpecDigest::new(Sha256::digest(canonical.as_slice())))
+    let digest = SpecDigest::new(Sha256::digest(canonical.as_slice()));
+    let _bytes = digest.bytes();
+    Ok(digest)
 }
 
 /// Appends the lines of entries, in order.
