@@ -1,3 +1,4 @@
 pub mod Judging
 pub mod Testing
 pub mod Texts
+pub mod Done
