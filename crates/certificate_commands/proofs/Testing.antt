@@ -98,6 +98,7 @@ module _ (content : List ℕ → Option (List ℕ)) (before after : List ℕ →
     where
       next : Spec → Certificate → Outcome
       next t d = MaySay Status.Done (line t d) test_ticks
+
       go : (status : Status) (text : List ℕ) (ticks : ℕ) → MaySay Status.Done said 0 status text ticks → MaySay Status.Done (line s c) test_ticks status text test_ticks
       go status text ticks (outcomes.says says) = outcomes.says (record { status_is = says.status_is; text_is = says.text_is ∙ same; ticks_are = refl })
       go status text ticks (outcomes.no_memory says) = outcomes.no_memory (record { status_is = says.status_is; text_is = says.text_is; ticks_are = refl })

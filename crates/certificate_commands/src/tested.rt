@@ -137,5 +137,5 @@ fn verdict_at<L: Ledger>(
         → IsSoundCertificate founded.now (fraction_bits fraction) certificate.now) }
     ensures ticks { steps.new ≤ steps.old + test_ticks }
 {
-    at_fraction!(fraction, verify [L] (alloc, founded, certificate, steps))
+    at_fraction!(fraction, verify[L](alloc, founded, certificate, steps))
 }
