@@ -2,3 +2,4 @@ pub mod Judging
 pub mod Testing
 pub mod Texts
 pub mod Done
+pub mod Refused
