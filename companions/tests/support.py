@@ -57,5 +57,9 @@ def stored(row: str, name: str = "stdout") -> bytes:
 
 
 def stored_draws() -> list[str]:
-    """The stored runs that printed at least one object."""
-    return [row for row in sorted(os.listdir(ROWS)) if b"\nobject 1 " in stored(row)]
+    """The stored runs of one drawing that printed at least one object; a pool has several drawings."""
+    return [
+        row
+        for row in sorted(os.listdir(ROWS))
+        if stored(row, "args").startswith(b"sample\n") and b"\nobject 1 " in stored(row)
+    ]
