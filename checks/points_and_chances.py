@@ -3,12 +3,14 @@
 
     python3 checks/points_and_chances.py PROGRAM
 
-- For each specification of examples/ that can be counted, the pointed one has n times as many objects of size n.
+- For each specification of examples/ without labels and bounds on numbers of parts, the pointed one has n times as
+  many objects of size n. The others are refused for labels or a range, by `count` and by `point` alike.
 - For three specifications with rational class values: the chances of all objects of one size, asked for one by one,
   add up to the size's own, which is the number of objects times x^n over the class value.
 """
 import glob
 import os
+import re
 import subprocess
 import sys
 import tempfile
@@ -31,9 +33,26 @@ def run(program, folder, *words):
 
 
 def counts(program, folder, name, most):
-    """The numbers of objects of the sizes up to `most`; None where they aren't counted."""
+    """The numbers of objects of the sizes up to `most`."""
     status, lines = run(program, folder, "count", name, most)
-    return [int(line.split()[2]) for line in lines[:-1]] if status == 0 else None
+    if status or len(lines) != most + 2:
+        raise SystemExit("count %s: status %d, %r" % (name, status, lines[-1:]))
+    return [int(line.split()[2]) for line in lines[:-1]]
+
+
+def is_plain(path):
+    """Whether a specification is unlabelled and has no bound on a number of parts."""
+    with open(path, encoding="ascii") as file:
+        text = "\n".join(line.split("#")[0] for line in file)
+    return text.split()[0] == "unlabelled" and not re.search(r"\bSeq\s*[<>=]", text)
+
+
+def check_refused(program, folder, path):
+    """Labels and ranges are refused by both commands."""
+    for words, status in ((("count", path, MOST), 15), (("point", path), 13)):
+        got, lines = run(program, folder, *words)
+        if got != status or not re.fullmatch(r"refused (rank|point) (labelled|range node \d+)", lines[0]):
+            raise SystemExit("%s: status %d, %r" % (" ".join(map(str, words)), got, lines))
 
 
 def write(folder, name, text):
@@ -45,12 +64,11 @@ def check_points(program, folder):
     """How many specifications were compared."""
     compared = 0
     for path in sorted(glob.glob(os.path.join(EXAMPLES, "*.boltz"))):
+        if not is_plain(path):
+            check_refused(program, folder, path)
+            continue
         plain = counts(program, folder, path, MOST)
-        if plain is None:
-            continue
         status, lines = run(program, folder, "point", path)
-        if status == 13 and not any(plain[1:]):
-            continue
         if status:
             raise SystemExit("point %s: status %d, %r" % (path, status, lines[-1:]))
         write(folder, "pointed", "\n".join(lines[:-1]) + "\n")
@@ -58,6 +76,8 @@ def check_points(program, folder):
         if pointed != [size * number for size, number in enumerate(plain)]:
             raise SystemExit("%s: pointed %r, plain %r" % (path, pointed, plain))
         compared += 1
+    if not compared:
+        raise SystemExit("no example was pointed")
     return compared
 
 
