@@ -124,10 +124,10 @@ class Oracle:
 
 
 def pointed(program: Program, spec: Spec) -> Spec | None:
-    """The specification of the objects with one marked atom, where the program makes it."""
+    """The specification of the objects with one marked atom, None where there is none."""
     with folder_with(spec=spec.canonical()) as folder:
         ran = program.run("point", os.path.join(folder, "spec"))
-    if ran.is_missing or ran.status == 13:
+    if ran.status == 13:
         return None
     lines = ran.needed().lines
     return read_spec("\n".join(lines[:-1]) + "\n")

@@ -27,7 +27,6 @@ STATUSES = {
     14: "object refused",
     15: "rank refused",
 }
-NOT_YET = "refused not yet"
 
 
 class ProgramError(RuntimeError):
@@ -52,11 +51,6 @@ class Ran:
         """The line that refuses, None where there is none."""
         first = self.output[:2000].decode("ascii", "replace").split("\n", 1)[0]
         return first if first.startswith("refused ") else None
-
-    @property
-    def is_missing(self) -> bool:
-        """Whether this build of the program doesn't have the command."""
-        return self.refusal == NOT_YET or (self.status == 2 and self.refusal == "refused words")
 
     def needed(self, *statuses: int) -> Ran:
         """The same, where the status is one of these (0 where none is given); else ProgramError."""

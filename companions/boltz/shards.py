@@ -18,7 +18,7 @@ from typing import Any, Iterator, Sequence
 
 from boltz import VERSION
 from boltz.certificate import closing_of
-from boltz.program import STATUSES, Program, Ran, file_digest, folder_with
+from boltz.program import STATUSES, Program, file_digest, folder_with
 from boltz.spec import read_spec
 
 OUTCOMES = (0, 5, 6, 7)  # statuses of a drawing that has ended by its own rules
@@ -52,7 +52,7 @@ class Plan:
 
 @dataclass(frozen=True)
 class Receipt:
-    """What is known of a shard. `verified` is None where the program has no `verify`."""
+    """What is known of a shard. `verified`: its certificate was valid where it was made."""
 
     shard: int
     seed: int
@@ -65,7 +65,7 @@ class Receipt:
     undecided: str | None
     bytes: int
     sha256: str
-    verified: bool | None
+    verified: bool
     seconds: float
     host: str
     worker: str
@@ -112,9 +112,9 @@ def make_shard(plan: Plan, shard: int, program: Program, path: str) -> Receipt:
                 "shard %d ended with status %d (%s)"
                 % (shard, status, STATUSES.get(status, "unknown"))
             )
-        verified = is_valid(program.run("verify", spec, path))
-    if verified is False:
-        raise ShardError("the certificate of shard %d isn't valid" % shard)
+        verdict = program.run("verify", spec, path).needed(0, 11)
+    if verdict.status == 11:
+        raise ShardError("the certificate of shard %d: %s" % (shard, verdict.lines[0]))
     closing = closing_of(path)
     return Receipt(
         shard,
@@ -128,23 +128,11 @@ def make_shard(plan: Plan, shard: int, program: Program, path: str) -> Receipt:
         closing.undecided,
         os.path.getsize(path),
         file_digest(path),
-        verified,
+        True,
         round(time.monotonic() - begun, 3),
         platform.node(),
         "%d" % os.getpid(),
     )
-
-
-def is_valid(ran: Ran) -> bool | None:
-    """What `boltz verify` said; None where the program doesn't have it."""
-    if ran.is_missing:
-        return None
-    if ran.status == 0:
-        return True
-    if ran.status == 11:
-        return False
-    ran.needed()
-    return None
 
 
 class Folder:
@@ -289,8 +277,8 @@ def shortened(numbers: Sequence[int], most: int = 10) -> str:
 BIAS = {
     "tape-ended": "their tapes were used up; the objects before are in the merged stream",
     "undecided": (
-        "60 bits left a number open; the objects before it are in the merged stream. To leave such "
-        "shards out, or to draw others in their place, would favour objects of fewer numbers"
+        "60 bits didn't decide a variate; the objects before it are in the merged stream. To leave "
+        "such shards out, or to draw others instead, would favour objects of fewer variates"
     ),
     "turn-limit": (
         "the limit of turns was reached; the objects before it are in the merged stream. Large "
@@ -310,16 +298,7 @@ def report(plan: Plan, receipts: Sequence[Receipt]) -> list[str]:
     for ending, count in sorted(Counter(r.ending for r in receipts).items()):
         short = ": " + BIAS[ending] if ending in BIAS else ""
         lines.append("ended by %s: %d%s" % (ending, count, short))
-    verified = sum(r.verified is True for r in receipts)
-    lines.append(
-        "verified: %d%s"
-        % (
-            verified,
-            ""
-            if verified == len(receipts)
-            else "; the others not, since this build of the program has no verify yet",
-        )
-    )
+    lines.append("verified: %d" % sum(r.verified for r in receipts))
     return lines
 
 

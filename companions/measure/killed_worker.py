@@ -5,8 +5,8 @@ kills one.
     BOLTZ=PROGRAM companions/measure/killed_worker.py SPEC X [--shards N] [--after K] [--apart]
         [words of sample]
 
-One worker is killed when K shards are complete. Then all must be there, and the merged stream must
-have the bytes of a run on one machine.
+One worker is killed when K shards are complete. Then all must be there, each verified, and the
+merged stream must have the bytes of a run on one machine.
 """
 from __future__ import annotations
 
@@ -137,10 +137,11 @@ def main() -> int:
         run_and_kill(work, many, args.after, args.apart)
         print("%.1f s with starting and killing" % (time.monotonic() - begun))
         tools("shards", "status", many)
+        verified = all(receipt.verified for receipt in Folder(many).collect())
         tools("shards", "run", alone, "--workers", "1")
         same = merged(many) == merged(alone)
         print("the merged stream %s that of one machine" % ("equals" if same else "differs from"))
-    return 0 if same else 1
+    return 0 if same and verified else 1
 
 
 if __name__ == "__main__":

