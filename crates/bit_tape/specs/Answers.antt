@@ -4,7 +4,8 @@ use Rattle.bit_tape.specs.declared.tape.BitAnswer.{BitAnswer}
 use Rattle.bit_tape.specs.declared.tape.BitAnswer.TheVariants.{Bit, Ended, ReadFault}
 use Rattle.bit_tape.specs.Tape.{TapeState}
 
--- A bit is the next one, and the end is met exactly where there is none. A failed read says nothing of the bits.
+-- A bit is the next one, and the end is met exactly where there is none. A failed read says nothing
+-- of the bits.
 abbrev pub Tells : BitAnswer → (next : Option Bool) → Type 0
 Tells (Bit bit) next = next ≡ Some bit
 Tells Ended next = next ≡ None

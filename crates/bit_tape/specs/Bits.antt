@@ -1,5 +1,7 @@
--- The bits of files and of seeds. A tape's bits are a function from a place to a bit, None from the end on.
-use Rattle.std.specs.Prelude.{ℕ, ◌-◌, ◌/◌, ◌%◌, ◌^◌, Bool, nat_eq, nat_lt, List, ◌++◌, replicate, slice_get, Option, Some, None, option_map, if◌then◌else◌}
+-- The bits of files and of seeds. A tape's bits are a function from a place to a bit, None from the
+-- end on.
+use Rattle.std.specs.Prelude.{ℕ, ◌-◌, ◌/◌, ◌%◌, ◌^◌, Bool, nat_eq, nat_lt, List, ◌++◌, replicate}
+use Rattle.std.specs.Prelude.{slice_get, Option, Some, None, option_map, if◌then◌else◌}
 use Rattle.std.specs.Int.{w64, to_le_bytes}
 use Rattle.rand_chacha.specs.ChaCha.{word_at, key_of}
 
@@ -13,7 +15,8 @@ byte_bit byte k = nat_eq (byte / 2 ^ (7 - k) % 2) 1
 
 -- The bits of a file are those of its bytes in order.
 abbrev pub file_bit : (bytes : List ℕ) → (place : ℕ) → Option Bool
-file_bit bytes place = within_tape place (option_map (λ byte. byte_bit byte (place % 8)) (slice_get bytes (place / 8)))
+file_bit bytes place =
+    within_tape place (option_map (λ byte. byte_bit byte (place % 8)) (slice_get bytes (place / 8)))
 
 -- The 32 bytes of a seed: the number as 8 bytes, least first, and 24 zero bytes.
 abbrev pub seed_bytes : ℕ → List ℕ

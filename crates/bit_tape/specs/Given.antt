@@ -6,7 +6,9 @@ abbrev pub HasBits : (bits : ℕ → Option Bool) → (place : ℕ) → List Boo
 HasBits bits place [] = Unit {0}
 HasBits bits place (bit ∷ more) = (bits place ≡ Some bit) × HasBits bits (suc place) more
 
--- A call was given these bits of a tape, from a place on: as many as it used, and the tape's own where they are told.
-pub record Gave (told : Option (ℕ → Option Bool)) (start used : ℕ) (given : List Bool) : Type 0 where
-  pub count : used ≡ start + length given
-  pub are_told : IfSome told (λ bits. HasBits bits start given)
+-- A call was given these bits of a tape, from a place on: as many as it used, and the tape's own
+-- where they are told.
+pub record Gave (told : Option (ℕ → Option Bool)) (start used : ℕ) (given : List Bool) : Type 0
+  where
+    pub count : used ≡ start + length given
+    pub are_told : IfSome told (λ bits. HasBits bits start given)

@@ -11,7 +11,8 @@ abbrev pub source_of : Source → TapeSource
 source_of (File name) = TapeSource.Named name
 source_of (Seed words) = TapeSource.Seeded words.seed
 
--- The bytes read ahead from a place on are the rest of the last word that a seed gave, the highest byte first.
+-- The bytes read ahead from a place on are the rest of the last word that a seed gave, the highest
+-- byte first.
 pub record IsRestOfWord (seed words place : ℕ) (ahead : List ℕ) : Type 0 where
   pub few : length ahead ≤ 4
   pub ends : place + length ahead ≡ 4 * words

@@ -1,5 +1,6 @@
 //! Bytes read ahead, given bit by bit.
-ghost use Rattle.std.specs.Prelude.{◌≡◌, ℕ, ◌+◌, ◌^◌, ◌<◌, ◌≤◌, ◌↔◌, List, [], length, slice_index, IsTrue, IfSome, IfOk, OnOk, OnErr};
+ghost use Rattle.std.specs.Prelude.{◌≡◌, ℕ, ◌+◌, ◌^◌, ◌<◌, ◌≤◌, ◌↔◌, List, [], length, slice_index};
+ghost use Rattle.std.specs.Prelude.{IsTrue, IfSome, IfOk, OnOk, OnErr};
 ghost use Rattle.std.specs.Int.{w32, to_be_bytes};
 ghost use Rattle.bz_outside.specs.Outside.{ReadFailed};
 ghost use Rattle.bit_tape.specs.Bits.{byte_bit};
@@ -95,7 +96,8 @@ impl BitBuffer {
         ensures length { IfOk result (λ n. length self.new.bytes ≡ n) }
         ensures room { IfOk result (λ n. place + n ≤ 2 ^ 60) }
         ensures told { IfOk result (λ n. IfSome (S.content shelf.old name.now) (AreAt self.new.bytes place)) }
-        ensures end { IfOk result (λ n. IfSome (S.content shelf.old name.now) (λ bytes. n ≡ 0 → length bytes ≤ place)) }
+        ensures end { IfOk result (λ n. IfSome (S.content shelf.old name.now) (λ bytes. n ≡ 0
+            → length bytes ≤ place)) }
         ensures bit { self.new.bit ≡ self.old.bit }
         ensures unchanged { OnErr result (self.new ≡ self.old) }
         ensures steady { OnOk result (S.faults shelf.new ≡ S.faults shelf.old) }

@@ -37,9 +37,11 @@ impl Source {
         ensures content { S.content shelf.new ≡ S.content shelf.old }
         ensures source { source_of self.new ≡ source_of self.old }
         ensures bit { buffer.new.bit ≡ buffer.old.bit }
-        ensures refills { Refills result (source_of self.old) (S.content shelf.old) (S.faults shelf.old) (S.faults shelf.new) place buffer.old.bytes buffer.new.bytes }
+        ensures refills { Refills result (source_of self.old) (S.content shelf.old)
+            (S.faults shelf.old) (S.faults shelf.new) place buffer.old.bytes buffer.new.bytes }
         ensures goes_on { GoesOn self.new place buffer.new.bytes }
-        ensures seeded { (seed : ℕ) → source_of self.old ≡ TapeSource.Seeded seed → shelf.new ≡ shelf.old }
+        ensures seeded { (seed : ℕ) → source_of self.old ≡ TapeSource.Seeded seed
+            → shelf.new ≡ shelf.old }
     {
         match self {
             Source::Seed(words) => {

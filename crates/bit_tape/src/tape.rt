@@ -1,5 +1,6 @@
 //! A tape of bits.
-ghost use Rattle.std.specs.Prelude.{◌≡◌, ℕ, ◌+◌, ◌^◌, ◌<◌, ◌≤◌, [], List, length, Option, IfSome, IsTrue, ◌↔◌};
+ghost use Rattle.std.specs.Prelude.{◌≡◌, ℕ, ◌+◌, ◌^◌, ◌<◌, ◌≤◌, [], List, length, Option, IfSome};
+ghost use Rattle.std.specs.Prelude.{IsTrue, ◌↔◌};
 ghost use Rattle.bit_tape.specs.Tape.{TapeSource, Belongs, LeavesTape, bits_of, GivesBit};
 
 use crate::buffer::{BitBuffer, MOST_BYTES};
@@ -40,7 +41,8 @@ impl Model for Tape {
 
     ghost view = { λ t. record { source = source_of t.source; used = t.used; ahead = t.buffer.bytes } };
 
-    ghost invariant = { λ t. (t.buffer.bit ≡ t.used % 8) × (t.used / 8 + length t.buffer.bytes ≤ 2 ^ 60) × GoesOn t.source (t.used / 8) t.buffer.bytes };
+    ghost invariant = { λ t. (t.buffer.bit ≡ t.used % 8) × (t.used / 8 + length t.buffer.bytes ≤ 2 ^ 60)
+        × GoesOn t.source (t.used / 8) t.buffer.bytes };
 }
 
 impl Tape {
@@ -87,15 +89,18 @@ impl Tape {
     ///
     /// `Ended` comes exactly where all bits of the told content are used, or 2^63 bits were used;
     /// this yields to a failed read. Over a content that isn't told it comes where a read gave no
-    /// byte, too. `ReadFault` comes exactly where the count of faults of the tape's name rose in this
+    /// byte, too. `ReadFault` comes exactly where the count of faults of the tape's name rose in
+    /// this
     /// call, by one. Both leave the tape as it was. A seeded tape never asks the shelf.
     pub fn next_bit<S: Shelf>(&mut self, shelf: &mut S) -> BitAnswer
         requires belongs { Belongs (S.content shelf.old) self.old }
-        ensures tells { IfSome (bits_of self.old.source (S.content shelf.old)) (λ bits. Tells result (bits self.old.used)) }
+        ensures tells { IfSome (bits_of self.old.source (S.content shelf.old))
+            (λ bits. Tells result (bits self.old.used)) }
         ensures limit { 2 ^ 63 ≤ self.old.used → result ≡ BitAnswer.Ended }
         ensures leaves { Leaves result self.old self.new }
         ensures asks { 0 < length self.old.ahead → shelf.new ≡ shelf.old }
-        ensures tape { LeavesTape S.content S.faults (is_fault result) shelf.old shelf.new self.old self.new }
+        ensures tape { LeavesTape S.content S.faults (is_fault result) shelf.old shelf.new self.old
+            self.new }
     {
         if !self.is_used_up() {
             return BitAnswer::Bit(self.take_bit());
@@ -132,8 +137,10 @@ impl Tape {
         requires { length self.old.ahead ≡ 0 }
         ensures content { S.content shelf.new ≡ S.content shelf.old }
         ensures same { (self.new.source ≡ self.old.source) × (self.new.used ≡ self.old.used) }
-        ensures refills { RefillsTape result (S.content shelf.old) (S.faults shelf.old) (S.faults shelf.new) self.old self.new }
-        ensures seeded { (seed : ℕ) → self.old.source ≡ TapeSource.Seeded seed → shelf.new ≡ shelf.old }
+        ensures refills { RefillsTape result (S.content shelf.old) (S.faults shelf.old)
+            (S.faults shelf.new) self.old self.new }
+        ensures seeded { (seed : ℕ) → self.old.source ≡ TapeSource.Seeded seed
+            → shelf.new ≡ shelf.old }
     {
         if self.used / 8 >= MOST_BYTES {
             return Refill::Ended;

@@ -25,7 +25,10 @@ impl Model for Words {
 
     ghost view = { λ w. record { seed = w.seed; place = w.generator.word_pos } };
 
-    ghost invariant = { λ w. w.generator ≡ record (of_seed (seed_bytes w.seed)) { word_pos = w.generator.word_pos } };
+    ghost invariant = { λ w. w.generator ≡ record (of_seed (seed_bytes w.seed)) {
+      word_pos =
+          w.generator.word_pos;
+    } };
 }
 
 impl Words {

@@ -17,17 +17,16 @@ use Rattle.rounded_map.specs.RoundedMap.{Setting, setting}
 use Rattle.oracle_memo.specs.Levels.{cost_at}
 use Rattle.size_window.specs.Drawing.{limits_of}
 use Rattle.size_window.specs.RunByBits.{Limits as Window}
-use Rattle.boltz.specs.Answers.{World, world, Carries, NotYet, Unworded, Answers, files_of, tape_files, IsUndisturbed}
+use Rattle.boltz.specs.Answers.{World, world, Carries, Unworded, Answers, files_of, tape_files, IsUndisturbed}
 use Rattle.boltz.specs.Answers as answers
-use Rattle.boltz.specs.Commands.{IsBuilt, IsStoodFor, AreRefused}
-use Rattle.boltz.specs.Commands as commands
+use Rattle.boltz.specs.Commands.{IsStoodFor, AreRefused}
 use Rattle.sample_command.specs.Drawn.{HasFailed}
 use Rattle.call_stages.specs.Ends.{output, EndsBy}
 use Rattle.call_stages.specs.Ends as ends
 use Rattle.boltz.specs.OracleCommand.{Bounded, bounded_text}
 use Rattle.call_stages.specs.Outcomes.{Outcome, Says, MaySay, IsOne}
 use Rattle.call_stages.specs.Outcomes as outcomes
-use Rattle.call_stages.specs.Refusals.{words_line, not_yet_line}
+use Rattle.call_stages.specs.Refusals.{words_line}
 use Rattle.sample_command.specs.SampleCommand.{source_of, tape_in, DrawnOver}
 use Rattle.boltz.specs.SpecCommand.{Printed, spec_text}
 use Rattle.call_stages.specs.Stages.{AreCalm, Files, files, Based}
@@ -36,6 +35,8 @@ use Rattle.boltz.proofs.Commands.{not-refused, one-fault, pool_limits}
 use Rattle.call_stages.proofs.Endings as endings
 use Rattle.call_stages.proofs.Endings.{ends_as, written_on}
 use Rattle.sample_command.proofs.Starting.{one-drawn-over}
+use Rattle.certificate_commands.specs.VerifyCommand.{CarriesVerify}
+use Rattle.certificate_commands.specs.MigrateCommand.{CarriesMigrate}
 use Rattle.bulk_command.proofs.OneBulk.{one-bulk}
 use Rattle.point_command.proofs.Printing.{one-carried as one-point}
 use Rattle.pool_command.proofs.OnePool.{one-carried as one-pool}
@@ -52,30 +53,36 @@ pub calm-tape : (f : Files) (word : TapeWord) → AreCalm f (tape_files word) �
 calm-tape f (tape.File name) calm rose = calm.0.unfailed rose
 calm-tape f (tape.Seed seed) calm never = never
 
+-- The laws of crate certificate_commands that are used: its commands have one outcome where their files are calm.
+pub record CertificateLaws : Type 0 where
+  pub verify : (f : Files) (file cert : List ℕ) → AreCalm f (file ∷ cert ∷ []) → IsOne (CarriesVerify f file cert)
+  pub migrate : (f : Files) (file cert : List ℕ) → AreCalm f (file ∷ cert ∷ []) → IsOne (CarriesMigrate f file cert)
+
 -- each command has one outcome where its files are calm: a command adds its line
-one-carried : (f : Files) (asked : Command) → IsStoodFor asked → AreCalm f (files_of asked) → IsOne (Carries f asked)
-one-carried f (command.Spec file) named calm = one-specified f file Printed calm.0 (λ s. one-said Status.Done (spec_text s) 0)
-one-carried f (command.Oracle file x F) named calm = one-specified f file (λ s. Based (setting s x.num x.den (fraction_bits F)) (Bounded (setting s x.num x.den (fraction_bits F)))) calm.0 (λ s. one-based (setting s x.num x.den (fraction_bits F)) (Bounded (setting s x.num x.den (fraction_bits F))) (λ base. one-said Status.Done (bounded_text (setting s x.num x.den (fraction_bits F)) base) (cost_at 6)))
-one-carried f (command.Sample file x word limits F fast) named calm =
+one-carried : (laws : CertificateLaws) (f : Files) (asked : Command) → IsStoodFor asked → AreCalm f (files_of asked) → IsOne (Carries f asked)
+one-carried laws f (command.Spec file) named calm = one-specified f file Printed calm.0 (λ s. one-said Status.Done (spec_text s) 0)
+one-carried laws f (command.Oracle file x F) named calm = one-specified f file (λ s. Based (setting s x.num x.den (fraction_bits F)) (Bounded (setting s x.num x.den (fraction_bits F)))) calm.0 (λ s. one-based (setting s x.num x.den (fraction_bits F)) (Bounded (setting s x.num x.den (fraction_bits F))) (λ base. one-said Status.Done (bounded_text (setting s x.num x.den (fraction_bits F)) base) (cost_at 6)))
+one-carried laws f (command.Sample file x word limits F fast) named calm =
     let bits = known-bits f word calm.1 in
     let t = λ (s : Spec). setting s x.num x.den (fraction_bits F) in
     let met = tape_in f (source_of word) in
     one-specified f file (λ s. Based (t s) (DrawnOver fast (t s) (limits_of limits) met)) calm.0 (λ s. one-based (t s) (DrawnOver fast (t s) (limits_of limits) met) (one-drawn-over fast (t s) (limits_of limits) met bits.0 bits.1 (calm-tape f word calm.1)))
-one-carried f (command.Pool file x schedule tapes limits F) named calm = one-pool f file x schedule tapes limits (fraction_bits F) (pool_limits file x schedule tapes limits F named).1.0 calm
-one-carried f (command.Bulk n F) named calm = one-bulk n (fraction_bits F)
-one-carried f (command.Point file) named calm = one-point f file calm
-one-carried f (command.Chance file x object F) named calm = one-chance f file x object (fraction_bits F) calm
-one-carried f (command.Count file n) named calm = one-count f file n calm.0
-one-carried f (command.Unrank file n number) named calm = one-unrank f file n number calm.0
-one-carried f (command.Rank file object) named calm = one-rank f file object calm.0 calm.1.0
-one-carried f later named calm = one-said Status.WordsRefused not_yet_line 0
+one-carried laws f (command.Pool file x schedule tapes limits F) named calm = one-pool f file x schedule tapes limits (fraction_bits F) (pool_limits file x schedule tapes limits F named).1.0 calm
+one-carried laws f (command.Verify file cert) named calm = laws.verify f file cert calm
+one-carried laws f (command.Migrate file cert) named calm = laws.migrate f file cert calm
+one-carried laws f (command.Bulk n F) named calm = one-bulk n (fraction_bits F)
+one-carried laws f (command.Point file) named calm = one-point f file calm
+one-carried laws f (command.Chance file x object F) named calm = one-chance f file x object (fraction_bits F) calm
+one-carried laws f (command.Count file n) named calm = one-count f file n calm.0
+one-carried laws f (command.Unrank file n number) named calm = one-unrank f file n number calm.0
+one-carried laws f (command.Rank file object) named calm = one-rank f file object calm.0 calm.1.0
 
 -- words that are refused
 only-unworded : (fault : WordsFault) (status : Status) (text : List ℕ) (ticks : ℕ) → status ≢ Status.OutOfMemory → Unworded fault status text ticks → (fault ≢ WordsFault.OutOfMemory) × (status ≡ Status.WordsRefused) × (text ≡ words_line fault)
 only-unworded fault status text ticks memory (answers.refused m says) = (m, says.status_is, says.text_is)
 only-unworded fault status text ticks memory (answers.no_memory says) = absurd (memory says.status_is)
 
-module _ (w : World) (calm : IsUndisturbed w) (status other : Status) (text others : List ℕ) (ticks more : ℕ) (m : status ≢ Status.OutOfMemory) (n : other ≢ Status.OutOfMemory) where
+module _ (laws : CertificateLaws) (w : World) (calm : IsUndisturbed w) (status other : Status) (text others : List ℕ) (ticks more : ℕ) (m : status ≢ Status.OutOfMemory) (n : other ≢ Status.OutOfMemory) where
   answered-twice : Answers w status text ticks → Answers w other others more → (status ≡ other) × (text ≡ others)
   answered-twice (answers.refused fault refuses p) (answers.refused fault_too refuses_too q) =
       let a = only-unworded fault status text ticks m p in
@@ -84,14 +91,14 @@ module _ (w : World) (calm : IsUndisturbed w) (status other : Status) (text othe
   answered-twice (answers.refused fault refuses p) (answers.carried asked named q) = absurd (not-refused w.words asked fault named (only-unworded fault status text ticks m p).0 refuses)
   answered-twice (answers.carried asked named p) (answers.refused fault refuses q) = absurd (not-refused w.words asked fault named (only-unworded fault other others more n q).0 refuses)
   answered-twice (answers.carried asked named p) (answers.carried asked_too named_too q) =
-      (one-carried w.files asked (record { words = w.words; is = named }) (calm.calm asked named)).one status other text others ticks more m n p (subst (λ c. Carries w.files c other others more) (one_command w.words asked_too asked named_too named) q)
+      (one-carried laws w.files asked (record { words = w.words; is = named }) (calm.calm asked named)).one status other text others ticks more m n p (subst (λ c. Carries w.files c other others more) (one_command w.words asked_too asked named_too named) q)
 
 -- an undisturbed call has one answer
-pub one_answer : (w : World) → IsUndisturbed w → IsOne (Answers w)
-one_answer w calm = record { one = λ status other text others ticks more m n p q. answered-twice w calm status other text others ticks more m n p q }
+pub one_answer : (laws : CertificateLaws) (w : World) → IsUndisturbed w → IsOne (Answers w)
+one_answer laws w calm = record { one = λ status other text others ticks more m n p q. answered-twice laws w calm status other text others ticks more m n p q }
 
-pub exact : (w : World) (b a : Option (List ℕ)) (fb fa tb ta : ℕ) (result : Status) → EndsBy (Answers w) (output b a fb fa tb ta) result → (status : Status) (text : List ℕ) (ticks : ℕ) → IsUndisturbed w → Answers w status text ticks → status ≢ Status.OutOfMemory → ¬ (Rose fb fa) → (result ≡ Status.OutOfMemory) ⊎ ((result ≡ status) × Appends b a text)
-exact w b a fb fa tb ta result h status text ticks calm p memory fine = endings.exact (Answers w) (output b a fb fa tb ta) result status text ticks (one_answer w calm) h p memory fine
+pub exact : (laws : CertificateLaws) (w : World) (b a : Option (List ℕ)) (fb fa tb ta : ℕ) (result : Status) → EndsBy (Answers w) (output b a fb fa tb ta) result → (status : Status) (text : List ℕ) (ticks : ℕ) → IsUndisturbed w → Answers w status text ticks → status ≢ Status.OutOfMemory → ¬ (Rose fb fa) → (result ≡ Status.OutOfMemory) ⊎ ((result ≡ status) × Appends b a text)
+exact laws w b a fb fa tb ta result h status text ticks calm p memory fine = endings.exact (Answers w) (output b a fb fa tb ta) result status text ticks (one_answer laws w calm) h p memory fine
 
 -- a command's outcome is an answer
 pub carried_answers : (words : List (List ℕ)) (f : Files) (asked : Command) (b a : Option (List ℕ)) (fb fa tb ta : ℕ) (result : Status) → IsCommand words asked → EndsBy (Carries f asked) (output b a fb fa tb ta) result → EndsBy (Answers (world words f)) (output b a fb fa tb ta) result
@@ -100,10 +107,9 @@ carried_answers words f asked b a fb fa tb ta result named h = ends_as (Carries 
 pub refused_answers : (words : List (List ℕ)) (f : Files) (fault : WordsFault) (b a : Option (List ℕ)) (fb fa tb ta : ℕ) (result : Status) → Refuses words fault → EndsBy (Unworded fault) (output b a fb fa tb ta) result → EndsBy (Answers (world words f)) (output b a fb fa tb ta) result
 refused_answers words f fault b a fb fa tb ta result refuses h = ends_as (Unworded fault) (Answers (world words f)) b a fb fa tb ta result (λ status text ticks p. answers.refused fault refuses p) h
 
--- words that stand for a command that is built aren't refused
-pub not_both : (words : List (List ℕ)) (asked : Command) → IsCommand words asked → IsBuilt asked → ¬ (AreRefused words)
-not_both words asked named built (commands.no_command fault memory refuses) = not-refused words asked fault named memory refuses
-not_both words asked named built (commands.not_yet other named_too later) = later (subst IsBuilt (one_command words asked other named named_too) built)
+-- words that stand for a command aren't refused
+pub not_both : (words : List (List ℕ)) (asked : Command) → IsCommand words asked → ¬ (AreRefused words)
+not_both words asked named are = not-refused words asked are.fault named are.not_memory are.refuses
 
 -- memory ran out before a refusal of words was made
 pub words_lack_memory : (fault : WordsFault) (o : Option (List ℕ)) (fb fa ticks : ℕ) → EndsBy (Unworded fault) (output o o fb fa ticks ticks) Status.OutOfMemory

@@ -23,8 +23,7 @@ use Rattle.command_words.specs.declared.fault.WordsFault.{WordsFault}
 use Rattle.command_words.proofs.Unique.{one_command}
 use Rattle.boltz.specs.Answers.{World, Carries, Answers, Unworded}
 use Rattle.boltz.specs.Answers as answers
-use Rattle.boltz.specs.Commands.{IsBuilt, Specifies, AreRefused}
-use Rattle.boltz.specs.Commands as commands
+use Rattle.boltz.specs.Commands.{Specifies, AreRefused}
 use Rattle.boltz.specs.Complete.{IsGiven, IsFit, IsPrintable, IsUnfit, undisturbed, IsDrawable, IsBoundable, IsBaseless, IsWithoutFast}
 use Rattle.boltz.specs.Complete as complete
 use Rattle.sample_command.specs.Drawn.{TapeMet, HasFailed, Drawn, Lists, drawn_header, closing_lines, ending_status}
@@ -32,6 +31,13 @@ use Rattle.sample_command.specs.Drawn as drawn
 use Rattle.bulk_command.specs.BulkText.{bulk_text}
 use Rattle.bulk_command.specs.BulkCommand.{BulkDrawn}
 use Rattle.bulk_command.specs.BulkCommand as bulks
+use Rattle.certificate.specs.declared.certificate.Certificate.{Certificate}
+use Rattle.certificate_commands.specs.CertificateStage.{CertificateJudged, CertificateRead}
+use Rattle.certificate_commands.specs.CertificateStage as certificates
+use Rattle.certificate_commands.specs.Tested.{test_ticks, Tested, ReadAndTested}
+use Rattle.certificate_commands.specs.Tested as tests
+use Rattle.certificate_commands.specs.VerifyCommand.{valid_line, CountedEntries}
+use Rattle.certificate_commands.specs.MigrateCommand.{migrated_text, WrittenIn2}
 use Rattle.pool_command.specs.PoolCommand.{PoolSetting, PoolDrawn, PooledOver, pool_of, first_of, first_status}
 use Rattle.pool_command.specs.PoolCommand as pools
 use Rattle.point_command.specs.PointCommand.{PointedPrinted}
@@ -46,7 +52,7 @@ use Rattle.rank_commands.proofs.NoWords.{count-no-words, unrank-no-words, rank-n
 use Rattle.boltz.specs.OracleCommand.{Bounded, bounded_text}
 use Rattle.call_stages.specs.Outcomes.{Outcome, Says, MaySay}
 use Rattle.call_stages.specs.Outcomes as outcomes
-use Rattle.call_stages.specs.Refusals.{words_line, not_yet_line, no_upper_text, no_fast_line}
+use Rattle.call_stages.specs.Refusals.{words_line, no_upper_text, no_fast_line}
 use Rattle.sample_command.specs.SampleCommand.{DrawnFrom, DrawnOver, source_of, tape_in}
 use Rattle.sample_command.specs.Starts.{format_of, start_of, Started}
 use Rattle.sample_command.specs.Starts as starting
@@ -57,7 +63,12 @@ use Rattle.call_stages.specs.declared.status.Status.{Status}
 use Rattle.boltz.proofs.Commands.{not-refused, one-fault}
 use Rattle.sample_command.proofs.OneDrawing.{same-course}
 use Rattle.sample_command.proofs.Starting.{started-only, startless-only}
-use Rattle.call_stages.proofs.OneReading.{may-say-only, read-only, judged-only, unfit-refused, based-only, baseless-only}
+use Rattle.call_stages.proofs.Completing.{specified-only}
+use Rattle.call_stages.proofs.OneReading.{may-say-only, read-only, unfit-refused, based-only, baseless-only}
+
+-- a call that is done had memory
+pub not-for-memory : (status : Status) → status ≡ Status.Done → status ≢ Status.OutOfMemory
+not-for-memory status done none = let same : Status.Done ≡ Status.OutOfMemory = sym done ∙ none in absurd (cc)
 
 -- words that stand for a command have an outcome of it
 pub outcome-of : (w : World) (asked : Command) → IsCommand w.words asked → (status : Status) (text : List ℕ) (ticks : ℕ) → status ≢ Status.OutOfMemory → Answers w status text ticks → Carries w.files asked status text ticks
@@ -69,24 +80,14 @@ outcome-of w asked named status text ticks memory (answers.carried other named_t
 abbrev calm-of : (w : World) (asked : Command) (file bytes : List ℕ) → IsGiven w asked file bytes → IsCalm w.files file
 calm-of w asked file bytes given = record { bytes = bytes; known = given.is_known; unfailed = given.no_fault }
 
--- all of a short list
-take-all : (n : ℕ) (xs : List ℕ) → length xs ≤ n → take n xs ≡ xs
-take-all zero [] h = refl
-take-all (suc n) [] h = refl
-take-all zero (x ∷ xs) h = absurd (omega arith)
-take-all (suc n) (x ∷ xs) h = ap (λ ys. x ∷ ys) (take-all n xs (omega arith))
-
 -- a fit specification goes on to the command's own part
 fit-only : (w : World) (asked : Command) (file : List ℕ) (s : Spec) (fit : IsFit w asked file s) (next : Spec → Outcome) (status : Status) (text : List ℕ) (ticks : ℕ) → status ≢ Status.OutOfMemory → Specified w.files file next status text ticks → next s status text ticks
-fit-only w asked file s fit next status text ticks memory p =
-    let read = read-only w.files file 65537 (Judged next) (calm-of w asked file fit.bytes fit.given) status text ticks memory p in
-    let all : take 65537 fit.bytes ≡ fit.bytes = take-all 65537 fit.bytes (let few = fit.accepted.few in omega (arith, few)) in
-    judged-only next fit.bytes s fit.accepted fit.founded status text ticks memory (subst (λ b. Judged next b status text ticks) all read)
+fit-only w asked file s fit next status text ticks memory p = specified-only w.files file s next status text ticks fit.has memory p
 
 pub printed : (w : World) (s : Spec) (status : Status) (text : List ℕ) (ticks : ℕ) → IsPrintable w s → status ≢ Status.OutOfMemory → Answers w status text ticks → (status ≡ Status.Done) × (text ≡ spec_text s)
 printed w s status text ticks p memory h =
     let asked = command.Spec p.file in
-    may-say-only Status.Done (spec_text s) 0 status text ticks memory (fit-only w asked p.file s p.fit Printed status text ticks memory (outcome-of w asked p.fit.given.named status text ticks memory h))
+    may-say-only Status.Done (spec_text s) 0 status text ticks memory (fit-only w asked p.file s p.fit Printed status text ticks memory (outcome-of w asked p.fit.named status text ticks memory h))
 
 -- what is read of an unfit specification is refused
 unfit-only : (w : World) (p : IsUnfit w) (next : Spec → Outcome) (status : Status) (text : List ℕ) (ticks : ℕ) → status ≢ Status.OutOfMemory → Specified w.files p.file next status text ticks → status ≡ Status.SpecRefused
@@ -103,6 +104,13 @@ unfit-carried w p (command.Sample file x word limits F fast) is status text tick
 unfit-carried w p (command.Pool file x schedule tapes limits F) is status text ticks memory h =
     let next = λ (s : Spec). Based (setting s x.num x.den (fraction_bits F)) (PooledOver w.files (setting s x.num x.den (fraction_bits F)) (limits_of limits) schedule tapes) in
     unfit-only w p next status text ticks memory (subst (λ f. Specified w.files f next status text ticks) is h)
+unfit-carried w p (command.Verify file cert) is status text ticks memory h =
+    let next = ReadAndTested w.files cert CountedEntries in
+    unfit-only w p next status text ticks memory (subst (λ f. Specified w.files f next status text ticks) is h)
+unfit-carried w p (command.Migrate file cert) is status text ticks memory h =
+    let next = ReadAndTested w.files cert WrittenIn2 in
+    unfit-only w p next status text ticks memory (subst (λ f. Specified w.files f next status text ticks) is h)
+unfit-carried w p (command.Bulk n F) is status text ticks memory h = absurd is
 unfit-carried w p (command.Point file) is status text ticks memory h = unfit-only w p PointedPrinted status text ticks memory (subst (λ f. Specified w.files f PointedPrinted status text ticks) is h)
 unfit-carried w p (command.Chance file x object F) is status text ticks memory h =
     let next = λ (s : Spec). ReadAndWeighed w.files object (setting s x.num x.den (fraction_bits F)) in
@@ -110,7 +118,6 @@ unfit-carried w p (command.Chance file x object F) is status text ticks memory h
 unfit-carried w p (command.Count file n) is status text ticks memory h = unfit-only w p (CountedTo n) status text ticks memory (subst (λ f. Specified w.files f (CountedTo n) status text ticks) is h)
 unfit-carried w p (command.Unrank file n number) is status text ticks memory h = unfit-only w p (Unranked n number) status text ticks memory (subst (λ f. Specified w.files f (Unranked n number) status text ticks) is h)
 unfit-carried w p (command.Rank file object) is status text ticks memory h = unfit-only w p (RankedIn w.files object) status text ticks memory (subst (λ f. Specified w.files f (RankedIn w.files object) status text ticks) is h)
-unfit-carried w p later is status text ticks memory h = absurd is
 
 pub refused : (w : World) (status : Status) (text : List ℕ) (ticks : ℕ) → IsUnfit w → status ≢ Status.OutOfMemory → Answers w status text ticks → status ≡ Status.SpecRefused
 refused w status text ticks p memory h = unfit-carried w p p.asked p.specifies status text ticks memory (outcome-of w p.asked p.given.named status text ticks memory h)
@@ -119,7 +126,7 @@ pub bounded : (w : World) (s : Spec) (x : Fraction) (F : FractionBits) (base : L
 bounded w s x F base status text ticks p memory h =
     let asked = command.Oracle p.file x F in
     let t = λ (s : Spec). setting s x.num x.den (fraction_bits F) in
-    let own = fit-only w asked p.file s p.fit (λ s. Based (t s) (Bounded (t s))) status text ticks memory (outcome-of w asked p.fit.given.named status text ticks memory h) in
+    let own = fit-only w asked p.file s p.fit (λ s. Based (t s) (Bounded (t s))) status text ticks memory (outcome-of w asked p.fit.named status text ticks memory h) in
     let over = based-only (t s) (Bounded (t s)) base p.has_base status text ticks memory own in
     may-say-only Status.Done (bounded_text (t s) base) (cost_at 6) status text over.0 memory over.1
 
@@ -127,12 +134,12 @@ pub baseless : (w : World) (s : Spec) (x : Fraction) (F : FractionBits) (status 
 baseless w s x F status text ticks (complete.to_bound file fit none) memory h =
     let asked = command.Oracle file x F in
     let t = λ (s : Spec). setting s x.num x.den (fraction_bits F) in
-    baseless-only (t s) (Bounded (t s)) none status text ticks memory (fit-only w asked file s fit (λ s. Based (t s) (Bounded (t s))) status text ticks memory (outcome-of w asked fit.given.named status text ticks memory h))
+    baseless-only (t s) (Bounded (t s)) none status text ticks memory (fit-only w asked file s fit (λ s. Based (t s) (Bounded (t s))) status text ticks memory (outcome-of w asked fit.named status text ticks memory h))
 baseless w s x F status text ticks (complete.to_draw file word limits fast fit none) memory h =
     let asked = command.Sample file x word limits F fast in
     let t = λ (s : Spec). setting s x.num x.den (fraction_bits F) in
     let met = tape_in w.files (source_of word) in
-    baseless-only (t s) (DrawnOver fast (t s) (limits_of limits) met) none status text ticks memory (fit-only w asked file s fit (λ s. Based (t s) (DrawnOver fast (t s) (limits_of limits) met)) status text ticks memory (outcome-of w asked fit.given.named status text ticks memory h))
+    baseless-only (t s) (DrawnOver fast (t s) (limits_of limits) met) none status text ticks memory (fit-only w asked file s fit (λ s. Based (t s) (DrawnOver fast (t s) (limits_of limits) met)) status text ticks memory (outcome-of w asked fit.named status text ticks memory h))
 
 -- a drawing over a tape that is known is the undisturbed one
 drawn-only : (cost : ℕ → ℕ) (header : List ℕ) (a : Setting) (base start : List ℕ) (limits : Window) (t : TapeMet) (bits : ℕ → Option Bool) (turns : ℕ) (ending : Ending) → bits_of t.source t.contents ≡ Some bits → ¬ (HasFailed t) → (undisturbed a base start limits bits turns).state.ending ≡ Some ending → (status : Status) (text : List ℕ) (ticks : ℕ) → status ≢ Status.OutOfMemory → Drawn cost header a.spec (ratio a.num a.den) a.bits (level_bounds_from a start base) limits t status text ticks → (status ≡ ending_status ending) × ((lines : List ℕ) × Lists a.spec (undisturbed a base start limits bits turns).entries lines × (text ≡ header ++ (lines ++ closing_lines (level_bounds_from a start base) (undisturbed a base start limits bits turns) ending)))
@@ -153,7 +160,7 @@ draws w s x F fast turns limits base start bits ending status text ticks p memor
     let asked = command.Sample p.file x p.word limits F fast in
     let t = λ (s : Spec). setting s x.num x.den (fraction_bits F) in
     let met = tape_in w.files (source_of p.word) in
-    let own = fit-only w asked p.file s p.fit (λ s. Based (t s) (DrawnOver fast (t s) (limits_of limits) met)) status text ticks memory (outcome-of w asked p.fit.given.named status text ticks memory h) in
+    let own = fit-only w asked p.file s p.fit (λ s. Based (t s) (DrawnOver fast (t s) (limits_of limits) met)) status text ticks memory (outcome-of w asked p.fit.named status text ticks memory h) in
     let over = based-only (t s) (DrawnOver fast (t s) (limits_of limits) met) base p.has_base status text ticks memory own in
     let from = started-only fast (t s) base (DrawnFrom fast (t s) (limits_of limits) met base) start p.has_start status text over.0 memory over.1 in
     drawn-only cost_at (drawn_header (format_of fast) (t s) base (limits_of limits)) (t s) base start (limits_of limits) met bits turns ending p.are_told p.no_fault p.ends status text from.0 memory from.1
@@ -164,7 +171,7 @@ without-fast w s x F base status text ticks p memory h =
     let asked = command.Sample p.file x p.word p.limits F true in
     let t = λ (s : Spec). setting s x.num x.den (fraction_bits F) in
     let met = tape_in w.files (source_of p.word) in
-    let own = fit-only w asked p.file s p.fit (λ s. Based (t s) (DrawnOver true (t s) (limits_of p.limits) met)) status text ticks memory (outcome-of w asked p.fit.given.named status text ticks memory h) in
+    let own = fit-only w asked p.file s p.fit (λ s. Based (t s) (DrawnOver true (t s) (limits_of p.limits) met)) status text ticks memory (outcome-of w asked p.fit.named status text ticks memory h) in
     let over = based-only (t s) (DrawnOver true (t s) (limits_of p.limits) met) base p.has_base status text ticks memory own in
     startless-only true (t s) base (DrawnFrom true (t s) (limits_of p.limits) met base) p.has_none status text over.0 memory over.1
 
@@ -246,66 +253,56 @@ bulk-no-words n t base status text ticks (bulks.ended c given d h says) is = not
 bulk-no-words n t base status text ticks (bulks.so_far c given h says) is = not-words Status.OutOfMemory status _ text _ ticks (λ e. absurd (cc)) says is
 bulk-no-words n t base status text ticks (bulks.no_memory says) is = not-words Status.OutOfMemory status _ text _ ticks (λ e. absurd (cc)) says is
 
-carried-no-words : (f : Files) (asked : Command) → ¬ (¬ (IsBuilt asked)) → (status : Status) (text : List ℕ) (ticks : ℕ) → Carries f asked status text ticks → status ≡ Status.WordsRefused → ⊥
-carried-no-words f (command.Spec file) built status text ticks h is = specified-no-words f file Printed (λ s status text ticks p e. said-no-words Status.Done (spec_text s) 0 status text ticks (λ e. absurd (cc)) p e) status text ticks h is
-carried-no-words f (command.Oracle file x F) built status text ticks h is =
+-- a certificate that is read and tested
+module _ (s : Spec) (next : Certificate → Outcome) (on : (c : Certificate) (status : Status) (text : List ℕ) (ticks : ℕ) → next c status text ticks → status ≡ Status.WordsRefused → ⊥) (status : Status) (text : List ℕ) (ticks : ℕ) where
+  one-tested-no-words : (c : Certificate) → Tested s c (next c) status text ticks → status ≡ Status.WordsRefused → ⊥
+  one-tested-no-words c (tests.invalid line why fails says) is = not-words Status.CertRefused status _ text _ ticks (λ e. absurd (cc)) says is
+  one-tested-no-words c (tests.no_memory says) is = not-words Status.OutOfMemory status _ text _ ticks (λ e. absurd (cc)) says is
+  one-tested-no-words c (tests.valid valid p) is = on c status text ticks p is
+
+  certificate-no-words : (bytes : List ℕ) → CertificateJudged (λ c. Tested s c (next c)) bytes status text ticks → status ≡ Status.WordsRefused → ⊥
+  certificate-no-words bytes (certificates.too_long long says) is = not-words Status.CertRefused status _ text _ ticks (λ e. absurd (cc)) says is
+  certificate-no-words bytes (certificates.refused line few bad says) is = not-words Status.CertRefused status _ text _ ticks (λ e. absurd (cc)) says is
+  certificate-no-words bytes (certificates.no_memory says) is = not-words Status.OutOfMemory status _ text _ ticks (λ e. absurd (cc)) says is
+  certificate-no-words bytes (certificates.read c few is_text p) is = one-tested-no-words c p is
+
+  tested-no-words : (f : Files) (cert : List ℕ) → CertificateRead f cert (λ c. Tested s c (next c)) status text ticks → status ≡ Status.WordsRefused → ⊥
+  tested-no-words f cert (stages.failed rose says) is = not-words Status.ReadFault status _ text _ ticks (λ e. absurd (cc)) says is
+  tested-no-words f cert (stages.no_memory says) is = not-words Status.OutOfMemory status _ text _ ticks (λ e. absurd (cc)) says is
+  tested-no-words f cert (stages.read bytes are p) is = certificate-no-words bytes p is
+
+carried-no-words : (f : Files) (asked : Command) → (status : Status) (text : List ℕ) (ticks : ℕ) → Carries f asked status text ticks → status ≡ Status.WordsRefused → ⊥
+carried-no-words f (command.Spec file) status text ticks h is = specified-no-words f file Printed (λ s status text ticks p e. said-no-words Status.Done (spec_text s) 0 status text ticks (λ e. absurd (cc)) p e) status text ticks h is
+carried-no-words f (command.Oracle file x F) status text ticks h is =
     let t = λ (s : Spec). setting s x.num x.den (fraction_bits F) in
     specified-no-words f file (λ s. Based (t s) (Bounded (t s))) (λ s. based-no-words (t s) (Bounded (t s)) (λ base status text ticks p e. said-no-words Status.Done (bounded_text (t s) base) (cost_at 6) status text ticks (λ e. absurd (cc)) p e)) status text ticks h is
-carried-no-words f (command.Sample file x word limits F fast) built status text ticks h is =
+carried-no-words f (command.Sample file x word limits F fast) status text ticks h is =
     let t = λ (s : Spec). setting s x.num x.den (fraction_bits F) in
     let met = tape_in f (source_of word) in
     specified-no-words f file (λ s. Based (t s) (DrawnOver fast (t s) (limits_of limits) met)) (λ s. based-no-words (t s) (DrawnOver fast (t s) (limits_of limits) met) (over-no-words fast (t s) (limits_of limits) met)) status text ticks h is
-carried-no-words f (command.Bulk n F) built status text ticks h is =
+carried-no-words f (command.Bulk n F) status text ticks h is =
     let t = λ (s : Spec). setting s 3 16 (fraction_bits F) in
     judged-no-words (bulk_text n) (λ s. Based (t s) (BulkDrawn n (t s))) (λ s. based-no-words (t s) (BulkDrawn n (t s)) (bulk-no-words n (t s))) status text ticks h is
-carried-no-words f (command.Pool file x schedule tapes limits F) built status text ticks h is =
+carried-no-words f (command.Pool file x schedule tapes limits F) status text ticks h is =
     let t = λ (s : Spec). setting s x.num x.den (fraction_bits F) in
     specified-no-words f file (λ s. Based (t s) (PooledOver f (t s) (limits_of limits) schedule tapes)) (λ s. based-no-words (t s) (PooledOver f (t s) (limits_of limits) schedule tapes) (pooled-no-words f (t s) (limits_of limits) schedule tapes)) status text ticks h is
-carried-no-words f (command.Point file) built status text ticks h is = specified-no-words f file PointedPrinted pointed-no-words status text ticks h is
-carried-no-words f (command.Chance file x object F) built status text ticks h is =
+carried-no-words f (command.Verify file cert) status text ticks h is = specified-no-words f file (ReadAndTested f cert CountedEntries) (λ s status text ticks p e. tested-no-words s (CountedEntries s) (λ c status text ticks p e. said-no-words Status.Done (valid_line (length c.entries)) test_ticks status text ticks (λ e. absurd (cc)) p e) status text ticks f cert p e) status text ticks h is
+carried-no-words f (command.Migrate file cert) status text ticks h is = specified-no-words f file (ReadAndTested f cert WrittenIn2) (λ s status text ticks p e. tested-no-words s (WrittenIn2 s) (λ c status text ticks p e. said-no-words Status.Done (migrated_text s c) test_ticks status text ticks (λ e. absurd (cc)) p e) status text ticks f cert p e) status text ticks h is
+carried-no-words f (command.Point file) status text ticks h is = specified-no-words f file PointedPrinted pointed-no-words status text ticks h is
+carried-no-words f (command.Chance file x object F) status text ticks h is =
     let t = λ (s : Spec). setting s x.num x.den (fraction_bits F) in
     specified-no-words f file (λ s. ReadAndWeighed f object (t s)) (λ s. object-no-words f s object (λ tokens labels. WeighedAt (t s) tokens) (λ tokens labels. based-no-words (t s) (Weighed (t s) tokens) (weighed-no-words (t s) tokens))) status text ticks h is
-carried-no-words f (command.Count file n) built status text ticks h is = specified-no-words f file (CountedTo n) (count-no-words n) status text ticks h is
-carried-no-words f (command.Unrank file n number) built status text ticks h is = specified-no-words f file (Unranked n number) (unrank-no-words n number) status text ticks h is
-carried-no-words f (command.Rank file object) built status text ticks h is = specified-no-words f file (RankedIn f object) (rank-no-words f object) status text ticks h is
-carried-no-words f later built status text ticks h is = absurd (built (λ no. no))
-
-only-refused : (w : World) (asked : Command) → IsCommand w.words asked → (status : Status) (text : List ℕ) (ticks : ℕ) → Carries w.files asked status text ticks → status ≡ Status.WordsRefused → AreRefused w.words
-only-refused w (command.Spec file) named status text ticks h is = absurd (carried-no-words w.files (command.Spec file) (λ no. no tt) status text ticks h is)
-only-refused w (command.Oracle file x F) named status text ticks h is = absurd (carried-no-words w.files (command.Oracle file x F) (λ no. no tt) status text ticks h is)
-only-refused w (command.Sample file x word limits F fast) named status text ticks h is = absurd (carried-no-words w.files (command.Sample file x word limits F fast) (λ no. no tt) status text ticks h is)
-only-refused w (command.Bulk n F) named status text ticks h is = absurd (carried-no-words w.files (command.Bulk n F) (λ no. no tt) status text ticks h is)
-only-refused w (command.Pool file x schedule tapes limits F) named status text ticks h is = absurd (carried-no-words w.files (command.Pool file x schedule tapes limits F) (λ no. no tt) status text ticks h is)
-only-refused w (command.Point file) named status text ticks h is = absurd (carried-no-words w.files (command.Point file) (λ no. no tt) status text ticks h is)
-only-refused w (command.Chance file x object F) named status text ticks h is = absurd (carried-no-words w.files (command.Chance file x object F) (λ no. no tt) status text ticks h is)
-only-refused w (command.Count file n) named status text ticks h is = absurd (carried-no-words w.files (command.Count file n) (λ no. no tt) status text ticks h is)
-only-refused w (command.Unrank file n number) named status text ticks h is = absurd (carried-no-words w.files (command.Unrank file n number) (λ no. no tt) status text ticks h is)
-only-refused w (command.Rank file object) named status text ticks h is = absurd (carried-no-words w.files (command.Rank file object) (λ no. no tt) status text ticks h is)
-only-refused w later named status text ticks h is = commands.not_yet later named (λ built. built)
+carried-no-words f (command.Count file n) status text ticks h is = specified-no-words f file (CountedTo n) (count-no-words n) status text ticks h is
+carried-no-words f (command.Unrank file n number) status text ticks h is = specified-no-words f file (Unranked n number) (unrank-no-words n number) status text ticks h is
+carried-no-words f (command.Rank file object) status text ticks h is = specified-no-words f file (RankedIn f object) (rank-no-words f object) status text ticks h is
 
 pub words_only : (w : World) (status : Status) (text : List ℕ) (ticks : ℕ) → Answers w status text ticks → status ≡ Status.WordsRefused → AreRefused w.words
-words_only w status text ticks (answers.refused fault refuses (answers.refused m says)) is = commands.no_command fault m refuses
+words_only w status text ticks (answers.refused fault refuses (answers.refused m says)) is = record { fault = fault; not_memory = m; refuses = refuses }
 words_only w status text ticks (answers.refused fault refuses (answers.no_memory says)) is = absurd (not-words Status.OutOfMemory status _ text _ ticks (λ e. absurd (cc)) says is)
-words_only w status text ticks (answers.carried asked named h) is = only-refused w asked named status text ticks h is
+words_only w status text ticks (answers.carried asked named h) is = absurd (carried-no-words w.files asked status text ticks h is)
 
--- words that stand for no command, and for one that isn't built yet
+-- words that stand for no command
 pub no_command : (w : World) (fault : WordsFault) (status : Status) (text : List ℕ) (ticks : ℕ) → Refuses w.words fault → fault ≢ WordsFault.OutOfMemory → status ≢ Status.OutOfMemory → Answers w status text ticks → (status ≡ Status.WordsRefused) × (text ≡ words_line fault)
 no_command w fault status text ticks refuses m memory (answers.refused other refuses_too (answers.refused n says)) = (says.status_is, says.text_is ∙ ap words_line (one-fault w.words other fault n m refuses_too refuses))
 no_command w fault status text ticks refuses m memory (answers.refused other refuses_too (answers.no_memory says)) = absurd (memory says.status_is)
 no_command w fault status text ticks refuses m memory (answers.carried asked named h) = absurd (not-refused w.words asked fault named m refuses)
-
-later-only : (f : Files) (asked : Command) → ¬ (IsBuilt asked) → (status : Status) (text : List ℕ) (ticks : ℕ) → status ≢ Status.OutOfMemory → Carries f asked status text ticks → (status ≡ Status.WordsRefused) × (text ≡ not_yet_line)
-later-only f (command.Spec file) unbuilt status text ticks memory h = absurd (unbuilt tt)
-later-only f (command.Oracle file x F) unbuilt status text ticks memory h = absurd (unbuilt tt)
-later-only f (command.Sample file x word limits F fast) unbuilt status text ticks memory h = absurd (unbuilt tt)
-later-only f (command.Bulk n F) unbuilt status text ticks memory h = absurd (unbuilt tt)
-later-only f (command.Pool file x schedule tapes limits F) unbuilt status text ticks memory h = absurd (unbuilt tt)
-later-only f (command.Point file) unbuilt status text ticks memory h = absurd (unbuilt tt)
-later-only f (command.Chance file x object F) unbuilt status text ticks memory h = absurd (unbuilt tt)
-later-only f (command.Count file n) unbuilt status text ticks memory h = absurd (unbuilt tt)
-later-only f (command.Unrank file n number) unbuilt status text ticks memory h = absurd (unbuilt tt)
-later-only f (command.Rank file object) unbuilt status text ticks memory h = absurd (unbuilt tt)
-later-only f later unbuilt status text ticks memory h = may-say-only Status.WordsRefused not_yet_line 0 status text ticks memory h
-
-pub not_yet : (w : World) (asked : Command) (status : Status) (text : List ℕ) (ticks : ℕ) → IsCommand w.words asked → ¬ (IsBuilt asked) → status ≢ Status.OutOfMemory → Answers w status text ticks → (status ≡ Status.WordsRefused) × (text ≡ not_yet_line)
-not_yet w asked status text ticks named unbuilt memory h = later-only w.files asked unbuilt status text ticks memory (outcome-of w asked named status text ticks memory h)

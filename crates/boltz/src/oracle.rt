@@ -1,5 +1,6 @@
 //! The command `oracle`: the base, and the class vectors of the six levels.
 ghost use Rattle.std.specs.Prelude.{◌≡◌, ◌+◌, ℕ, List, ◌++◌, ◌<◌, ◌≤◌, ◌⊎◌, length, IfOk, OnOk};
+ghost use Rattle.bz_model.specs.Fraction.{IsFractionBits};
 ghost use Rattle.rounded_map.specs.RoundedMap.{setting, IsPostFixed};
 ghost use Rattle.newton_upper.specs.BaseRule.{base_of};
 ghost use Rattle.kleene_lower.specs.Lower.{zeros};
@@ -8,7 +9,8 @@ ghost use Rattle.oracle_memo.specs.Levels.{cost_at};
 ghost use Rattle.command_words.specs.Fractions.{fraction_bits};
 ghost use Rattle.call_stages.specs.Ends.{EndsBy, output};
 ghost use Rattle.call_stages.specs.Lines.{lines_below};
-ghost use Rattle.boltz.specs.OracleCommand.{CarriesOracle, Bounded, bounded_text, class_level, level_after};
+ghost use Rattle.boltz.specs.OracleCommand.{CarriesOracle, Bounded, bounded_text, class_level};
+ghost use Rattle.boltz.specs.OracleCommand.{level_after};
 ghost use Rattle.call_stages.specs.Stages.{files, Based};
 
 use bz_model::cell::Bounds;
@@ -43,7 +45,11 @@ pub fn oracle<S: Shelf, K: Sink, L: Ledger>(
     out: &mut K,
     steps: &mut Steps<L>,
 ) -> Status
-    ensures ends { EndsBy (CarriesOracle (files (S.content shelf.old) (S.faults shelf.old) (S.faults shelf.new)) file.now x (fraction_bits fraction)) (output (K.written out.old) (K.written out.new) (K.faults out.old) (K.faults out.new) steps.old steps.new) result }
+    ensures ends { EndsBy
+        (CarriesOracle (files (S.content shelf.old) (S.faults shelf.old) (S.faults shelf.new))
+        file.now x (fraction_bits fraction))
+        (output (K.written out.old) (K.written out.new) (K.faults out.old) (K.faults out.new)
+        steps.old steps.new) result }
     ensures content { S.content shelf.new ≡ S.content shelf.old }
     ensures counts { (name : List ℕ) → S.faults shelf.old name ≤ S.faults shelf.new name }
     ensures writes { K.faults out.old ≤ K.faults out.new }
@@ -63,7 +69,10 @@ fn bounded_at<K: Sink, L: Ledger>(
     out: &mut K,
     steps: &mut Steps<L>,
 ) -> Status
-    ensures ends { EndsBy (Based (setting founded.now x.num x.den (fraction_bits fraction)) (Bounded (setting founded.now x.num x.den (fraction_bits fraction)))) (output (K.written out.old) (K.written out.new) (K.faults out.old) (K.faults out.new) steps.old steps.new) result }
+    ensures ends { EndsBy (Based (setting founded.now x.num x.den (fraction_bits fraction))
+        (Bounded (setting founded.now x.num x.den (fraction_bits fraction))))
+        (output (K.written out.old) (K.written out.new) (K.faults out.old) (K.faults out.new)
+        steps.old steps.new) result }
     ensures writes { K.faults out.old ≤ K.faults out.new }
 {
     at_fraction!(fraction, bounded [K, L] (alloc, founded, x, out, steps))
@@ -77,8 +86,11 @@ fn bounded<const F: u32, K: Sink, L: Ledger>(
     out: &mut K,
     steps: &mut Steps<L>,
 ) -> Status
-    requires fraction_bits { (24 ≤ F) × (F ≤ 56) }
-    ensures ends { EndsBy (Based (setting founded.now x.num x.den F) (Bounded (setting founded.now x.num x.den F))) (output (K.written out.old) (K.written out.new) (K.faults out.old) (K.faults out.new) steps.old steps.new) result }
+    requires fraction_bits { IsFractionBits F }
+    ensures ends { EndsBy
+        (Based (setting founded.now x.num x.den F) (Bounded (setting founded.now x.num x.den F)))
+        (output (K.written out.old) (K.written out.new) (K.faults out.old) (K.faults out.new)
+        steps.old steps.new) result }
     ensures writes { K.faults out.old ≤ K.faults out.new }
 {
     match based::<F, L>(alloc, founded, x, steps) {
@@ -96,9 +108,11 @@ fn leveled<const F: u32, K: Sink, L: Ledger>(
     out: &mut K,
     steps: &mut Steps<L>,
 ) -> Status
-    requires fraction_bits { (24 ≤ F) × (F ≤ 56) }
+    requires fraction_bits { IsFractionBits F }
     requires post_fixed { IsPostFixed (setting founded.now x.num x.den F) base }
-    ensures ends { EndsBy (Bounded (setting founded.now x.num x.den F) base.entry) (output (K.written out.old) (K.written out.new) (K.faults out.old) (K.faults out.new) steps.old steps.new) result }
+    ensures ends { EndsBy (Bounded (setting founded.now x.num x.den F) base.entry)
+        (output (K.written out.old) (K.written out.new) (K.faults out.old) (K.faults out.new)
+        steps.old steps.new) result }
     ensures writes { K.faults out.old ≤ K.faults out.new }
 {
     match base_and_levels::<F, L>(alloc, founded, x, base, steps) {
@@ -115,9 +129,10 @@ fn base_and_levels<const F: u32, L: Ledger>(
     base: Base<F>,
     steps: &mut Steps<L>,
 ) -> Result<Vec<u8>, AllocError>
-    requires fraction_bits { (24 ≤ F) × (F ≤ 56) }
+    requires fraction_bits { IsFractionBits F }
     requires post_fixed { IsPostFixed (setting founded.now x.num x.den F) base }
-    ensures text { IfOk result (λ text. text.items ≡ bounded_text (setting founded.now x.num x.den F) base.entry) }
+    ensures text { IfOk result (λ text. text.items ≡ bounded_text (setting founded.now x.num x.den F)
+        base.entry) }
     ensures ticks { steps.new ≤ steps.old + cost_at 6 }
 {
     let system = founded.system();
@@ -129,7 +144,8 @@ fn base_and_levels<const F: u32, L: Ledger>(
     Ok(text)
 }
 
-/// Appends the lines of the levels 1 to 6, and raises each. None is raised yet, and the lower sweeps
+/// Appends the lines of the levels 1 to 6, and raises each. None is raised yet, and the lower
+/// sweeps
 /// start from zero.
 #[tactic(auto, using(crate::proofs::OracleCommand::costs_no_more))]
 fn append_levels<const F: u32, L: Ledger>(
@@ -139,12 +155,14 @@ fn append_levels<const F: u32, L: Ledger>(
     steps: &mut Steps<L>,
     text: &mut Vec<u8>,
 ) -> Result<(), AllocError>
-    requires fraction_bits { (24 ≤ F) × (F ≤ 56) }
+    requires fraction_bits { IsFractionBits F }
     requires same { memo.old.spec ≡ system.now }
     requires none_raised { memo.old.raised ≡ 0 }
     requires from_zero { memo.old.start ≡ zeros (setting system.now memo.old.num memo.old.den F) }
     requires post_fixed { IsPostFixed (setting system.now memo.old.num memo.old.den F) memo.old.base }
-    ensures text { OnOk result (text.new.items ≡ text.old.items ++ lines_below (level_after (setting system.now memo.old.num memo.old.den F) memo.old.base) 6) }
+    ensures text { OnOk result (text.new.items ≡ text.old.items
+        ++ lines_below (level_after (setting system.now memo.old.num memo.old.den F) memo.old.base)
+        6) }
     ensures ticks { steps.new ≤ steps.old + cost_at 6 }
 {
     for before in 0..LEVELS {
@@ -166,7 +184,9 @@ fn append_level(
 ) -> Result<(), AllocError>
     requires one_lower_per_class { length lower.now ≡ length system.now.bodies }
     requires one_upper_per_class { length upper.now ≡ length system.now.bodies }
-    ensures { OnOk result (text.new.items ≡ text.old.items ++ lines_below (class_level system.now level lower.now upper.now) (length system.now.bodies)) }
+    ensures { OnOk result (text.new.items ≡ text.old.items
+        ++ lines_below (class_level system.now level lower.now upper.now)
+        (length system.now.bodies)) }
 {
     system.known();
     for class in 0..lower.len() {

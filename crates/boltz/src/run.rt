@@ -1,8 +1,8 @@
 //! The top call.
 ghost use Rattle.std.specs.Prelude.{◌≡◌, ◌≢◌, ℕ, ◌≤◌, ◌⊎◌, List};
 ghost use Rattle.bz_outside.specs.Outside.{Rose, Appends};
-ghost use Rattle.boltz.specs.Answers.{world, Answers, Carries, NotYet, Unworded, IsUndisturbed};
-ghost use Rattle.boltz.specs.Commands.{IsBuilt, IsStoodFor, AreRefused};
+ghost use Rattle.boltz.specs.Answers.{world, Answers, Carries, Unworded, IsUndisturbed};
+ghost use Rattle.boltz.specs.Commands.{IsStoodFor, AreRefused};
 ghost use Rattle.call_stages.specs.Ends.{EndsBy, output};
 ghost use Rattle.call_stages.specs.Stages.{files};
 ghost use Rattle.call_stages.specs.declared.status.Status.{Status};
@@ -14,9 +14,12 @@ use bz_model::steps::Steps;
 use bz_outside::shelf::Shelf;
 use bz_outside::sink::Sink;
 use bz_outside::word::Word;
-use call_stages::refusals::{not_yet_refusal, words_refusal};
+use call_stages::refusals::words_refusal;
 use call_stages::report::written;
 use call_stages::status::Status;
+use certificate_commands::laws::the_command_has_one_outcome;
+use certificate_commands::migrate::migrate;
+use certificate_commands::verify::verify;
 use chance_command::chance::chance;
 use command_words::command::Command;
 use command_words::fault::WordsFault;
@@ -30,11 +33,14 @@ use sample_command::sample::sample;
 use std::alloc::Global;
 use std::sync::ledger::Ledger;
 
-/// Does all that the program does: reads the words and the files that they name, and writes the answer.
+/// Does all that the program does: reads the words and the files that they name, and writes the
+/// answer.
 ///
-/// A drawing's lines are written while it goes on, other answers at their end. Where memory runs out, or
-/// a write fails, a prefix of an answer's text was written, and nothing more is. Words that stand for no
-/// command that is built are refused, and nothing is read then.
+/// A drawing's lines are written while it goes on, other answers at their end. Where memory runs
+/// out, or
+/// a write fails, a prefix of an answer's text was written, and nothing more is. Words that stand
+/// for no
+/// command are refused, and nothing is read then.
 pub fn run<S: Shelf, K: Sink, L: Ledger>(
     alloc: Global,
     words: &[Word],
@@ -42,15 +48,26 @@ pub fn run<S: Shelf, K: Sink, L: Ledger>(
     out: &mut K,
     steps: &mut Steps<L>,
 ) -> Status
-    ensures ends { EndsBy (Answers (world words.now (files (S.content shelf.old) (S.faults shelf.old) (S.faults shelf.new)))) (output (K.written out.old) (K.written out.new) (K.faults out.old) (K.faults out.new) steps.old steps.new) result }
-    ensures exact { (status : Status) (text : List ℕ) (ticks : ℕ) → IsUndisturbed (world words.now (files (S.content shelf.old) (S.faults shelf.old) (S.faults shelf.new)))
-        → Answers (world words.now (files (S.content shelf.old) (S.faults shelf.old) (S.faults shelf.new))) status text ticks → status ≢ Status.OutOfMemory → ¬ (Rose (K.faults out.old) (K.faults out.new))
-        → (result ≡ Status.OutOfMemory) ⊎ ((result ≡ status) × Appends (K.written out.old) (K.written out.new) text) }
+    ensures ends { EndsBy
+        (Answers
+        (world words.now (files (S.content shelf.old) (S.faults shelf.old) (S.faults shelf.new))))
+        (output (K.written out.old) (K.written out.new) (K.faults out.old) (K.faults out.new)
+        steps.old steps.new) result }
+    ensures exact { (status : Status) (text : List ℕ) (ticks : ℕ)
+        → IsUndisturbed
+        (world words.now (files (S.content shelf.old) (S.faults shelf.old) (S.faults shelf.new)))
+        → Answers
+        (world words.now
+        (files (S.content shelf.old) (S.faults shelf.old) (S.faults shelf.new))) status text
+        ticks → status ≢ Status.OutOfMemory → ¬ (Rose (K.faults out.old) (K.faults out.new))
+        → (result ≡ Status.OutOfMemory)
+        ⊎ ((result ≡ status) × Appends (K.written out.old) (K.written out.new) text) }
     ensures unread { AreRefused words.now → shelf.new ≡ shelf.old }
     ensures content { S.content shelf.new ≡ S.content shelf.old }
     ensures counts { (name : List ℕ) → S.faults shelf.old name ≤ S.faults shelf.new name }
     ensures writes { K.faults out.old ≤ K.faults out.new }
 {
+    the_command_has_one_outcome();
     match read_words(alloc, words) {
         Ok(command) => carried_out(alloc, &command, shelf, out, steps),
         Err(fault) => without_command(alloc, fault, out),
@@ -66,8 +83,9 @@ fn carried_out<S: Shelf, K: Sink, L: Ledger>(
     steps: &mut Steps<L>,
 ) -> Status
     requires stood_for { IsStoodFor command.now }
-    ensures ends { EndsBy (Carries (files (S.content shelf.old) (S.faults shelf.old) (S.faults shelf.new)) command.now) (output (K.written out.old) (K.written out.new) (K.faults out.old) (K.faults out.new) steps.old steps.new) result }
-    ensures unread { ¬ (IsBuilt command.now) → shelf.new ≡ shelf.old }
+    ensures ends { EndsBy (Carries (files (S.content shelf.old) (S.faults shelf.old) (S.faults shelf.new))
+        command.now) (output (K.written out.old) (K.written out.new) (K.faults out.old)
+        (K.faults out.new) steps.old steps.new) result }
     ensures content { S.content shelf.new ≡ S.content shelf.old }
     ensures counts { (name : List ℕ) → S.faults shelf.old name ≤ S.faults shelf.new name }
     ensures writes { K.faults out.old ≤ K.faults out.new }
@@ -100,8 +118,8 @@ fn carried_out<S: Shelf, K: Sink, L: Ledger>(
                 alloc, file, *x, schedule, tapes, *limits, *fraction, shelf, out, steps,
             )
         }
-        Command::Verify { .. } => not_yet(alloc, out),
-        Command::Migrate { .. } => not_yet(alloc, out),
+        Command::Verify { file, cert } => verify(alloc, file, cert, shelf, out, steps),
+        Command::Migrate { file, cert } => migrate(alloc, file, cert, shelf, out, steps),
         Command::Bulk { n, fraction } => bulk(alloc, *n, *fraction, out, steps),
         Command::Point { file } => point(alloc, file, shelf, out),
         Command::Chance {
@@ -116,20 +134,11 @@ fn carried_out<S: Shelf, K: Sink, L: Ledger>(
     }
 }
 
-/// Refuses a command that isn't built yet.
-fn not_yet<K: Sink>(alloc: Global, out: &mut K) -> Status
-    ensures ends { (ticks : ℕ) → EndsBy NotYet (output (K.written out.old) (K.written out.new) (K.faults out.old) (K.faults out.new) ticks ticks) result }
-    ensures writes { K.faults out.old ≤ K.faults out.new }
-{
-    match not_yet_refusal(alloc) {
-        Ok(report) => written(out, report.status, report.text.as_slice()),
-        Err(_) => Status::OutOfMemory,
-    }
-}
-
 /// Refuses words that stand for no command.
 fn without_command<K: Sink>(alloc: Global, fault: WordsFault, out: &mut K) -> Status
-    ensures ends { (ticks : ℕ) → EndsBy (Unworded fault) (output (K.written out.old) (K.written out.new) (K.faults out.old) (K.faults out.new) ticks ticks) result }
+    ensures ends { (ticks : ℕ)
+        → EndsBy (Unworded fault) (output (K.written out.old) (K.written out.new) (K.faults out.old)
+        (K.faults out.new) ticks ticks) result }
     ensures writes { K.faults out.old ≤ K.faults out.new }
 {
     match words_refusal(alloc, fault) {

@@ -17,7 +17,11 @@ use well_founded::examination::Founded;
 
 /// Reads a specification, judges it, and prints it in its canonical form.
 pub fn spec<S: Shelf, K: Sink>(alloc: Global, file: &Word, shelf: &mut S, out: &mut K) -> Status
-    ensures ends { (ticks : ℕ) → EndsBy (CarriesSpec (files (S.content shelf.old) (S.faults shelf.old) (S.faults shelf.new)) file.now) (output (K.written out.old) (K.written out.new) (K.faults out.old) (K.faults out.new) ticks ticks) result }
+    ensures ends { (ticks : ℕ)
+        → EndsBy
+        (CarriesSpec (files (S.content shelf.old) (S.faults shelf.old) (S.faults shelf.new))
+        file.now) (output (K.written out.old) (K.written out.new) (K.faults out.old)
+        (K.faults out.new) ticks ticks) result }
     ensures content { S.content shelf.new ≡ S.content shelf.old }
     ensures counts { (name : List ℕ) → S.faults shelf.old name ≤ S.faults shelf.new name }
     ensures writes { K.faults out.old ≤ K.faults out.new }
@@ -30,7 +34,10 @@ pub fn spec<S: Shelf, K: Sink>(alloc: Global, file: &Word, shelf: &mut S, out: &
 
 /// Prints a specification in its canonical form.
 fn printed<K: Sink>(alloc: Global, founded: &Founded, out: &mut K) -> Status
-    ensures ends { (ticks : ℕ) → EndsBy (Printed founded.now) (output (K.written out.old) (K.written out.new) (K.faults out.old) (K.faults out.new) ticks ticks) result }
+    ensures ends { (ticks : ℕ)
+        → EndsBy (Printed founded.now)
+        (output (K.written out.old) (K.written out.new) (K.faults out.old) (K.faults out.new) ticks
+        ticks) result }
     ensures writes { K.faults out.old ≤ K.faults out.new }
 {
     match spec_lines(alloc, founded.system()) {

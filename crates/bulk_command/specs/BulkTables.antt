@@ -4,7 +4,8 @@ use Rattle.std.specs.List.{range_with_len}
 use Rattle.bz_model.specs.Spec.{Spec, Mode, Node, plain_range}
 use Rattle.bulk_command.specs.BulkText.{classes_of, class_name, next_class}
 
--- The nodes of a class: a neutral leaf, an atom, the class, the class after it, the product of these three, and the union of the first and the product.
+-- The nodes of a class: a neutral leaf, an atom, the class, the class after it, the product of
+-- these three, and the union of the first and the product.
 abbrev pub class_nodes : (classes class : ℕ) → List Node
 class_nodes classes class =
     Node.Empty []

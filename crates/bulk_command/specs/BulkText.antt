@@ -15,10 +15,14 @@ class_name class = codes "A" ++ decimal class
 abbrev pub next_class : (classes class : ℕ) → ℕ
 next_class classes class = (class + 1) % classes
 
--- The line of a class: an object is empty, or an atom with an object of the class and one of the class after it.
+-- The line of a class: an object is empty, or an atom with an object of the class and one of the
+-- class after it.
 abbrev pub rule_line : (classes class : ℕ) → List ℕ
-rule_line classes class = class_name class ++ (codes " = E + Z*" ++ (class_name class ++ (codes "*" ++ (class_name (next_class classes class) ++ feed))))
+rule_line classes class = class_name class
+    ++ (codes " = E + Z*"
+    ++ (class_name class ++ (codes "*" ++ (class_name (next_class classes class) ++ feed))))
 
 -- The text: the mode, and the line of each class.
 abbrev pub bulk_text : (n : ℕ) → List ℕ
-bulk_text n = codes "unlabelled" ++ (feed ++ flat_map (rule_line (classes_of n)) (range_with_len 0 (classes_of n)))
+bulk_text n = codes "unlabelled"
+    ++ (feed ++ flat_map (rule_line (classes_of n)) (range_with_len 0 (classes_of n)))

@@ -10,8 +10,11 @@ use Rattle.size_window.specs.Drawing.{DrawingState}
 use Rattle.sample_command.specs.UnderWay.{IsCourseSoFar}
 use Rattle.bulk_command.specs.NoFiles.{empty_files}
 
--- A run is under way: it has a course so far, and its levels are raised for the bits that its numbers were given.
-pub record IsRunning (s : Spec) (x : Fraction) (F : ℕ) (table : (level node : ℕ) → Bounds) (limits : Limits) (source : TapeSource) (d : DrawingState) (used raised : ℕ) : Type 0 where
-  pub most : ℕ
-  pub so_far : IsCourseSoFar s x F table limits (bits_of source empty_files) d used most
-  pub raised_is : raised ≡ level_for most
+-- A run is under way: it has a course so far, and its levels are raised for the bits that its
+-- numbers were given.
+pub record IsRunning (s : Spec) (x : Fraction) (F : ℕ) (table : (level node : ℕ)
+    → Bounds) (limits : Limits) (source : TapeSource) (d : DrawingState) (used raised : ℕ) : Type 0
+  where
+    pub most : ℕ
+    pub so_far : IsCourseSoFar s x F table limits (bits_of source empty_files) d used most
+    pub raised_is : raised ≡ level_for most

@@ -1,5 +1,6 @@
 //! The command `bulk`: one line of a run that a number names.
 ghost use Rattle.std.specs.Prelude.{◌≡◌, ◌≤◌};
+ghost use Rattle.bz_model.specs.Fraction.{IsFractionBits};
 ghost use Rattle.command_words.specs.Fractions.{fraction_bits};
 ghost use Rattle.rounded_map.specs.RoundedMap.{setting};
 ghost use Rattle.call_stages.specs.Ends.{EndsBy, output};
@@ -20,7 +21,8 @@ use std::alloc::Global;
 use std::sync::ledger::Ledger;
 use well_founded::examination::Founded;
 
-/// Makes the specification of `n`, draws objects of its first class, and writes what became of them.
+/// Makes the specification of `n`, draws objects of its first class, and writes what became of
+/// them.
 pub fn bulk<K: Sink, L: Ledger>(
     alloc: Global,
     n: u64,
@@ -30,7 +32,9 @@ pub fn bulk<K: Sink, L: Ledger>(
 ) -> Status
     requires least { 1 ≤ n }
     requires greatest { n ≤ 1000 }
-    ensures ends { EndsBy (CarriesBulk n (fraction_bits fraction)) (output (K.written out.old) (K.written out.new) (K.faults out.old) (K.faults out.new) steps.old steps.new) result }
+    ensures ends { EndsBy (CarriesBulk n (fraction_bits fraction))
+        (output (K.written out.old) (K.written out.new) (K.faults out.old) (K.faults out.new)
+        steps.old steps.new) result }
     ensures writes { K.faults out.old ≤ K.faults out.new }
 {
     let Ok(text) = bulk_spec(alloc, n) else {
@@ -53,7 +57,10 @@ fn run_at<K: Sink, L: Ledger>(
 ) -> Status
     requires least { 1 ≤ n }
     requires greatest { n ≤ 1000 }
-    ensures ends { EndsBy (Based (setting founded.now 3 16 (fraction_bits fraction)) (BulkDrawn n (setting founded.now 3 16 (fraction_bits fraction)))) (output (K.written out.old) (K.written out.new) (K.faults out.old) (K.faults out.new) steps.old steps.new) result }
+    ensures ends { EndsBy (Based (setting founded.now 3 16 (fraction_bits fraction))
+        (BulkDrawn n (setting founded.now 3 16 (fraction_bits fraction))))
+        (output (K.written out.old) (K.written out.new) (K.faults out.old) (K.faults out.new)
+        steps.old steps.new) result }
     ensures writes { K.faults out.old ≤ K.faults out.new }
 {
     at_fraction!(fraction, run [K, L] (alloc, founded, n, out, steps))
@@ -67,10 +74,12 @@ fn run<const F: u32, K: Sink, L: Ledger>(
     out: &mut K,
     steps: &mut Steps<L>,
 ) -> Status
-    requires fraction_bits { (24 ≤ F) × (F ≤ 56) }
+    requires fraction_bits { IsFractionBits F }
     requires least { 1 ≤ n }
     requires greatest { n ≤ 1000 }
-    ensures ends { EndsBy (Based (setting founded.now 3 16 F) (BulkDrawn n (setting founded.now 3 16 F))) (output (K.written out.old) (K.written out.new) (K.faults out.old) (K.faults out.new) steps.old steps.new) result }
+    ensures ends { EndsBy (Based (setting founded.now 3 16 F) (BulkDrawn n (setting founded.now 3 16 F)))
+        (output (K.written out.old) (K.written out.new) (K.faults out.old) (K.faults out.new)
+        steps.old steps.new) result }
     ensures writes { K.faults out.old ≤ K.faults out.new }
 {
     let x = Fraction { num: 3, den: 16 };

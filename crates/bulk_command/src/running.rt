@@ -1,5 +1,6 @@
 //! Runs whose objects are counted and let go.
 ghost use Rattle.std.specs.Prelude.{◌≡◌, ℕ, ◌≤◌, ◌++◌, IfOk, string_bytes};
+ghost use Rattle.bz_model.specs.Fraction.{IsFractionBits};
 ghost use Rattle.bit_tape.specs.Tape.{CountsFault};
 ghost use Rattle.bz_model.specs.Oracle.{AreCosts, LeavesOracle};
 ghost use Rattle.rounded_map.specs.RoundedMap.{setting, IsPostFixed};
@@ -46,7 +47,8 @@ const OBJECTS: u64 = 100;
 /// How many turns may be made.
 const TURNS: u64 = 50_000_000;
 
-/// Draws `100 * n` objects over the levels of the base, with the bits of the seed `n`, and writes a line.
+/// Draws `100 * n` objects over the levels of the base, with the bits of the seed `n`, and writes a
+/// line.
 pub(crate) fn drawn<const F: u32, K: Sink, L: Ledger>(
     alloc: Global,
     founded: &Founded,
@@ -56,7 +58,7 @@ pub(crate) fn drawn<const F: u32, K: Sink, L: Ledger>(
     out: &mut K,
     steps: &mut Steps<L>,
 ) -> Status
-    requires fraction_bits { (24 ≤ F) × (F ≤ 56) }
+    requires fraction_bits { IsFractionBits F }
     requires least { 1 ≤ n }
     requires greatest { n ≤ 1000 }
     requires post_fixed { IsPostFixed (setting founded.now x.num x.den F) base }
@@ -148,7 +150,7 @@ fn draw_to_the_end<const F: u32, O: Oracle<F>, L: Ledger>(
     drawing: &mut Drawing,
     steps: &mut Steps<L>,
 ) -> Result<Ending, AllocError>
-    requires fraction { (24 ≤ F) × (F ≤ 56) }
+    requires fraction_bits { IsFractionBits F }
     requires spec { O.spec oracle.old ≡ founded.now }
     requires costs { AreCosts (O.cost oracle.old) }
     requires levels { O.raised oracle.old ≤ 6 }
@@ -183,7 +185,7 @@ fn turn_once<const F: u32, O: Oracle<F>, L: Ledger>(
     drawing: &mut Drawing,
     steps: &mut Steps<L>,
 ) -> Result<Option<Ending>, AllocError>
-    requires fraction { (24 ≤ F) × (F ≤ 56) }
+    requires fraction_bits { IsFractionBits F }
     requires spec { O.spec oracle.old ≡ founded.now }
     requires can_turn { CanTurn founded.now (O.x oracle.old) empty_files drawing.old.limits
         drawing.old tape.old }

@@ -29,5 +29,6 @@ pub mod Items
 pub mod Canonical
 pub mod First
 pub mod Rooms
-pub mod Pending
 pub mod ByOption
+pub mod WithoutRoom
+pub mod LeastHeights

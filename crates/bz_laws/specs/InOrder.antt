@@ -5,7 +5,8 @@ use Rattle.bz_model.specs.Object.Object.{Unit_, Dot, Pick, Tuple, SeqOf, SetOf, 
 use Rattle.bz_model.specs.Measures.{size}
 use Rattle.bz_model.specs.ObjectText.{least_label}
 
--- The least label of each part, 0 for a part that holds none, each part taking as many labels as it has atoms.
+-- The least label of each part, 0 for a part that holds none, each part taking as many labels as it
+-- has atoms.
 abbrev pub leasts : Objects → List ℕ → List ℕ
 leasts none labels = []
 leasts (more o os) labels = least_label (take (size o) labels) ∷ leasts os (drop (size o) labels)
@@ -25,7 +26,9 @@ abbrev pub BeginsWithLeast : List ℕ → Type 0
 BeginsWithLeast [] = Unit {0}
 BeginsWithLeast (a ∷ numbers) = a ≡ least_label (a ∷ numbers)
 
--- An object with its labels stands in order where each set's parts stand in the order of their least labels, those without a label first, and each cycle begins with the part that holds its least label.
+-- An object with its labels stands in order where each set's parts stand in the order of their
+-- least labels, those without a label first, and each cycle begins with the part that holds its
+-- least label.
 abbrev mutual
   pub StandsInOrder : Object → List ℕ → Type 0
   StandsInOrder Unit_ labels = Unit {0}
@@ -39,4 +42,5 @@ abbrev mutual
   -- Each object of a list, with as many labels as it has atoms, stands in order.
   pub AllStandInOrder : Objects → List ℕ → Type 0
   AllStandInOrder none labels = Unit {0}
-  AllStandInOrder (more o os) labels = StandsInOrder o (take (size o) labels) × AllStandInOrder os (drop (size o) labels)
+  AllStandInOrder (more o os) labels = StandsInOrder o (take (size o) labels)
+      × AllStandInOrder os (drop (size o) labels)

@@ -5,6 +5,6 @@ pub mod Values
 pub mod Orders
 pub mod Spelled
 pub mod Parts
-pub mod Pending
 pub mod InOrder
 pub mod ByOption
+pub mod WithoutRoom

@@ -30,10 +30,13 @@ HasSoundRange (Node.Set part) r = LetsItsLow r
 HasSoundRange (Node.Cyc part) r = LetsItsLow r
 HasSoundRange _ r = Unit {0}
 
--- The laws need of a specification that each node's parts stand below it, that a union has a part, that a counted node has a range with its low within its high, that a reference's class has a body, and that each body is a node.
+-- The laws need of a specification that each node's parts stand below it, that a union has a part,
+-- that a counted node has a range with its low within its high, that a reference's class has a
+-- body, and that each body is a node.
 pub record IsLaidOut (s : Spec) : Type 0 where
   pub below : (e : ℕ) (node : Node) → node_at s e ≡ Some node → EachPart (λ part. part < e) node
   pub unions : (e : ℕ) (node : Node) → node_at s e ≡ Some node → HasSomePart node
   pub ranges : (e : ℕ) (node : Node) → node_at s e ≡ Some node → HasSoundRange node (range_at s e)
-  pub classes : (e c : ℕ) → node_at s e ≡ Some (Node.Class c) → (body : ℕ) × (body_of s c ≡ Some body)
+  pub classes : (e c : ℕ) → node_at s e ≡ Some (Node.Class c)
+      → (body : ℕ) × (body_of s c ≡ Some body)
   pub bodies : (c body : ℕ) → body_of s c ≡ Some body → body < length s.nodes

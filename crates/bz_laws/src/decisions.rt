@@ -1,5 +1,6 @@
 //! Laws on the ideal choice: what a cell's tests decide for every number of the cell.
-ghost use Rattle.std.specs.Prelude.{◌≡◌, ℕ, suc, ◌*◌, ◌^◌, ◌<◌, ◌≤◌, List, length, Option, Some, slice_get};
+ghost use Rattle.std.specs.Prelude.{◌≡◌, ℕ, suc, ◌*◌, ◌^◌, ◌<◌, ◌≤◌, List, length, Option, Some};
+ghost use Rattle.std.specs.Prelude.{slice_get};
 ghost use Rattle.bz_model.specs.Fraction.{Fraction, IsUniform, units};
 ghost use Rattle.bz_model.specs.Spec.{Spec, Node, node_at, range_at, IsInRange};
 ghost use Rattle.bz_model.specs.Object.{Object, Objects, Belongs};
@@ -87,7 +88,8 @@ pub fn the_ideal_option_is_taken()
         (o : Object) × Belongs s e o × (option_of o ≡ i) }
 {}
 
-/// The option of a union's object is below its number of parts, that of a sequence, set or cycle lies
+/// The option of a union's object is below its number of parts, that of a sequence, set or cycle
+/// lies
 /// in its range. So a cycle has a part where its low is at least 1.
 pub fn options_lie_in_the_range()
     ensures union { (s : Spec) (e : ℕ) (parts : List ℕ) (o : Object)

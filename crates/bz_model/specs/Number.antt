@@ -2,7 +2,8 @@
 use Rattle.std.specs.Prelude.{◌≡◌, ℕ, ◌≤◌, List, ◌∷◌, ◌++◌, length, slice_index}
 use Rattle.std.specs.Str.Parse.{IsNumeral, digits_value}
 
--- A text is a number where it is one or more digits, the first of them not 0 unless it is the only one.
+-- A text is a number where it is one or more digits, the first of them not 0 unless it is the only
+-- one.
 pub record IsNumber (text : List ℕ) : Type 0 where
   pub digits : IsNumeral 10 text
   pub plain : slice_index text 0 ≡ 48 → length text ≡ 1

@@ -7,17 +7,21 @@ use Rattle.bz_model.specs.Object.{Object, Belongs}
 use Rattle.bz_model.specs.Totals.{Above, Below}
 use Rattle.bz_model.specs.WellFounded.{IsWellFounded}
 
--- A pair of bounds encloses the value of a node: some list of distinct objects of the node totals at least the lower one, and every such list totals at most the upper one.
+-- A pair of bounds encloses the value of a node: some list of distinct objects of the node totals
+-- at least the lower one, and every such list totals at most the upper one.
 pub record Encloses (s : Spec) (x : Fraction) (F e : ℕ) (b : Bounds) : Type 0 where
   pub reached : Below x (units F b.lo) (Belongs s e)
   pub above : Above x (units F b.hi) (Belongs s e)
 
--- A table is sound where the specification is well founded, each of its nodes has an object, x is positive, and the bounds of each node at the levels 1 to 6 enclose the node's value.
-pub record IsSound (s : Spec) (x : Fraction) (F : ℕ) (table : (level node : ℕ) → Bounds) : Type 0 where
+-- A table is sound where the specification is well founded, each of its nodes has an object, x is
+-- positive, and the bounds of each node at the levels 1 to 6 enclose the node's value.
+pub record IsSound (s : Spec) (x : Fraction) (F : ℕ) (table : (level node : ℕ)
+    → Bounds) : Type 0 where
   pub founded : IsWellFounded s
   pub inhabited : (e : ℕ) → e < length s.nodes → (o : Object) × Belongs s e o
   pub positive : 0 < x.num
-  pub enclosed : (level e : ℕ) → 1 ≤ level → level ≤ 6 → e < length s.nodes → Encloses s x F e (table level e)
+  pub enclosed : (level e : ℕ) → 1 ≤ level → level ≤ 6 → e < length s.nodes
+      → Encloses s x F e (table level e)
 
 -- A list of costs begins with 0, has a number for each level up to 6, and never falls.
 pub record AreCosts (costs : List ℕ) : Type 0 where
@@ -29,8 +33,12 @@ pub record AreCosts (costs : List ℕ) : Type 0 where
 abbrev pub cost_between : (costs : List ℕ) → (from to : ℕ) → ℕ
 cost_between costs from to = slice_index costs to - slice_index costs from
 
--- What calls that may raise an oracle leave, its meanings being given: specification, x, table and costs stay, no level is lost, and the ticks are at most what raising from the old highest level to the new one costs.
-pub record LeavesOracle {O : Type 0} (spec_of : O → Spec) (x_of : O → Fraction) (table_of : O → (level node : ℕ) → Bounds) (cost_of : O → List ℕ) (raised_of : O → ℕ) (old new : O) (before now : ℕ) : Type 0 where
+-- What calls that may raise an oracle leave, its meanings being given: specification, x, table and
+-- costs stay, no level is lost, and the ticks are at most what raising from the old highest level
+-- to the new one costs.
+pub record LeavesOracle {O : Type 0} (spec_of : O → Spec) (x_of : O → Fraction) (table_of : O
+    → (level node : ℕ) → Bounds) (cost_of : O → List ℕ) (raised_of : O
+    → ℕ) (old new : O) (before now : ℕ) : Type 0 where
   pub spec : spec_of new ≡ spec_of old
   pub x : x_of new ≡ x_of old
   pub table : table_of new ≡ table_of old

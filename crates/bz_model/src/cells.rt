@@ -22,7 +22,11 @@ impl Model for Cells {
 
     ghost Value = { Roomy Cell };
 
-    ghost view = { λ c. record { items = c.content.items; spare = vec_capacity c.content - vec_len c.content } };
+    ghost view = { λ c. record {
+      items = c.content.items;
+      spare =
+          vec_capacity c.content - vec_len c.content;
+    } };
 
     ghost invariant = { λ c. AreCells c.content.items };
 }
@@ -53,7 +57,8 @@ impl Cells {
         self.content.reserve(more)
     }
 
-    /// Appends a cell. A refusal leaves the list as it was, and none comes where there is spare room.
+    /// Appends a cell. A refusal leaves the list as it was, and none comes where there is spare
+    /// room.
     #[tactic(auto, using(crate::proofs::CellLists::cells_more))]
     pub fn push(&mut self, item: Cell) -> Result<(), AllocError>
         requires cell { IsCell item.k item.b }

@@ -1,5 +1,6 @@
 //! The fraction x at which class values are taken.
-ghost use Rattle.std.specs.Prelude.{◌≡◌, ℕ, ◌≤◌, ◌<◌, ◌≢◌, ◌∷◌, ◌++◌, length, slice_index, IfSome, IsNone};
+ghost use Rattle.std.specs.Prelude.{◌≡◌, ℕ, ◌≤◌, ◌<◌, ◌≢◌, ◌∷◌, ◌++◌, length, slice_index, IfSome};
+ghost use Rattle.std.specs.Prelude.{IsNone};
 ghost use Rattle.bz_model.specs.Number.{IsPart, IsNumber, HasFractionForm, number_value};
 
 use crate::number::{is_number, read_number};
@@ -50,7 +51,8 @@ impl Fraction {
 
 /// The two numbers of a text that has the form of a fraction.
 fn split(text: &[u8]) -> Option<(&[u8], &[u8])>
-    ensures parts { IfSome result (λ p. (text.now ≡ p.0.now ++ 47 ∷ p.1.now) × IsNumber p.0.now × IsNumber p.1.now) }
+    ensures parts { IfSome result (λ p. (text.now ≡ p.0.now ++ 47 ∷ p.1.now) × IsNumber p.0.now
+        × IsNumber p.1.now) }
     ensures none { IsNone result → ¬ (HasFractionForm text.now) }
 {
     let Some(stroke) = first_stroke(text) else {

@@ -1,5 +1,6 @@
 //! Whole numbers read from text.
-ghost use Rattle.std.specs.Prelude.{◌≡◌, ℕ, ◌≤◌, ◌<◌, ◌↔◌, length, slice_index, EachIndex, IsTrue, IsNone, IfSome};
+ghost use Rattle.std.specs.Prelude.{◌≡◌, ℕ, ◌≤◌, ◌<◌, ◌↔◌, length, slice_index, EachIndex, IsTrue};
+ghost use Rattle.std.specs.Prelude.{IsNone, IfSome};
 ghost use Rattle.std.specs.Str.Parse.{AllDigits};
 ghost use Rattle.bz_model.specs.Number.{IsNumber, number_value};
 
@@ -21,7 +22,8 @@ pub fn is_number(text: &[u8]) -> bool
 
 /// Whether each byte is a digit.
 fn has_digits_alone(text: &[u8]) -> bool
-    ensures { IsTrue result ↔ EachIndex text.now (λ i. (48 ≤ slice_index text.now i) × (slice_index text.now i ≤ 57)) }
+    ensures { IsTrue result ↔ EachIndex text.now (λ i. (48 ≤ slice_index text.now i)
+        × (slice_index text.now i ≤ 57)) }
 {
     text.iter().all(|b| b'0' <= *b && *b <= b'9')
 }
@@ -29,7 +31,8 @@ fn has_digits_alone(text: &[u8]) -> bool
 /// The number that the text stands for, where it is a decimal number without leading zeros and at
 /// most `most`; `None` exactly where it isn't. Takes no memory.
 pub fn read_number(text: &[u8], most: u64) -> Option<u64>
-    ensures value { IfSome result (λ n. IsNumber text.now × (number_value text.now ≡ n) × (n ≤ most)) }
+    ensures value { IfSome result (λ n. IsNumber text.now × (number_value text.now ≡ n)
+        × (n ≤ most)) }
     ensures none { IsNone result → IsNumber text.now → most < number_value text.now }
 {
     if is_number(text) {

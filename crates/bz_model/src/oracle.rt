@@ -1,5 +1,6 @@
 //! What the drawers know of class values.
-ghost use Rattle.std.specs.Prelude.{◌≡◌, ℕ, ◌+◌, ◌<◌, ◌≤◌, ◌⊎◌, ◌↔◌, max, List, length, IfSome, IsNone};
+ghost use Rattle.std.specs.Prelude.{◌≡◌, ℕ, ◌+◌, ◌<◌, ◌≤◌, ◌⊎◌, ◌↔◌, max, List, length, IfSome};
+ghost use Rattle.std.specs.Prelude.{IsNone};
 ghost use Rattle.bz_model.specs.Fraction.{Fraction};
 ghost use Rattle.bz_model.specs.Spec.{Spec};
 ghost use Rattle.bz_model.specs.declared.cell.Bounds.{Bounds};
@@ -37,7 +38,8 @@ pub trait Oracle<const F: u32> {
         ensures table { table self.new ≡ table self.old }
         ensures cost { cost self.new ≡ cost self.old }
         ensures raised { raised self.new ≡ max (raised self.old) level }
-        ensures ticks { steps.new ≤ steps.old + cost_between (cost self.old) (raised self.old) (raised self.new) };
+        ensures ticks { steps.new ≤ steps.old + cost_between (cost self.old) (raised self.old)
+            (raised self.new) };
 
     /// The bounds of a node at a raised level; None exactly at level 0 and above the highest raised
     /// one. Takes no memory.

@@ -1,5 +1,6 @@
 //! A shelf over memory, whose reads fail where they are told to.
-ghost use Rattle.std.specs.Prelude.{◌≡◌, ℕ, ◌<◌, ◌≤◌, List, [], ◌∷◌, ◌++◌, length, All, IfSome, IsNone, IfOk, OnOk, OnErr, is_err, option_map};
+ghost use Rattle.std.specs.Prelude.{◌≡◌, ℕ, ◌<◌, ◌≤◌, List, [], ◌∷◌, ◌++◌, length, All, IfSome};
+ghost use Rattle.std.specs.Prelude.{IsNone, IfOk, OnOk, OnErr, is_err, option_map};
 ghost use Rattle.bz_outside.specs.Outside.{IsPiece, RoseOnce};
 ghost use Rattle.bz_outside.specs.Memory.{after_call, content_of, read_fails, piece_length};
 
@@ -51,7 +52,12 @@ impl MemoryShelf {
     /// The shelf with no names, of which one read gives at most `most` bytes.
     pub fn new(alloc: Global, most: usize) -> MemoryShelf
         requires { 1 ≤ most }
-        ensures { result ≡ record { files = []; most = most; calls = record { made = 0; failing = []; failed = 0 } } }
+        ensures { result ≡ record {
+          files = [];
+          most = most;
+          calls =
+              record { made = 0; failing = []; failed = 0 };
+        } }
     {
         MemoryShelf {
             files: Vec::new(alloc),
@@ -63,7 +69,10 @@ impl MemoryShelf {
     /// Stores bytes under a new name.
     pub fn add(&mut self, name: Word, bytes: Vec<u8>) -> Result<(), AllocError>
         requires new { IsNone (content_of self.old.files name) }
-        ensures ok { OnOk result (self.new ≡ record self.old { files = self.old.files ++ record { name = name; bytes = bytes.items } ∷ [] }) }
+        ensures ok { OnOk result (self.new ≡ record self.old {
+          files =
+              self.old.files ++ record { name = name; bytes = bytes.items } ∷ [];
+        }) }
         ensures err { OnErr result (self.new ≡ self.old) }
     {
         self.files.push(NamedBytes { name, bytes })?;
@@ -73,7 +82,10 @@ impl MemoryShelf {
     /// Lets the read with this number fail, too. The numbers are given in rising order.
     pub fn fail_at(&mut self, call: u64) -> Result<(), AllocError>
         requires rising { All (λ number. number < call) self.old.calls.failing }
-        ensures ok { OnOk result (self.new ≡ record self.old { calls = record self.old.calls { failing = self.old.calls.failing ++ call ∷ [] } }) }
+        ensures ok { OnOk result (self.new ≡ record self.old {
+          calls =
+              record self.old.calls { failing = self.old.calls.failing ++ call ∷ [] };
+        }) }
         ensures err { OnErr result (self.new ≡ self.old) }
     {
         self.calls.fail_at(call)
@@ -93,13 +105,20 @@ impl Shelf for MemoryShelf {
     ghost faults = { λ shelf _. shelf.calls.failed };
 
     fn piece(&mut self, name: &Word, place: u64, buf: &mut [u8]) -> Result<usize, Failed>
-        ensures piece { IfOk result (λ n. IfSome (content_of self.old.files name.now) (λ bytes. IsPiece bytes place n buf.new)) }
+        ensures piece { IfOk result
+            (λ n. IfSome (content_of self.old.files name.now)
+            (λ bytes. IsPiece bytes place n buf.new)) }
         ensures cause { OnErr result (RoseOnce self.old.calls.failed self.new.calls.failed) }
 
         // Exactly which reads fail, how many bytes the others give, and what stays.
         ensures fails { is_err result ≡ read_fails self.old name.now }
-        ensures exact { IfOk result (λ n. IfSome (content_of self.old.files name.now) (λ bytes. n ≡ piece_length self.old bytes place (length buf.old))) }
-        ensures after { self.new ≡ record self.old { calls = after_call (is_err result) self.old.calls } }
+        ensures exact { IfOk result
+            (λ n. IfSome (content_of self.old.files name.now)
+            (λ bytes. n ≡ piece_length self.old bytes place (length buf.old))) }
+        ensures after { self.new ≡ record self.old {
+          calls =
+              after_call (is_err result) self.old.calls;
+        } }
     {
         if self.calls.fails_next() {
             return Err(self.calls.failure());

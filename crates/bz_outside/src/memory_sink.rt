@@ -1,5 +1,6 @@
 //! A sink over memory, whose writes fail where they are told to.
-ghost use Rattle.std.specs.Prelude.{◌≡◌, ◌<◌, ◌≤◌, [], ◌∷◌, ◌++◌, length, take, All, Some, IfOk, OnOk, OnErr, is_err, true, false};
+ghost use Rattle.std.specs.Prelude.{◌≡◌, ◌<◌, ◌≤◌, [], ◌∷◌, ◌++◌, length, take, All, Some, IfOk};
+ghost use Rattle.std.specs.Prelude.{OnOk, OnErr, is_err, true, false};
 ghost use Rattle.bz_outside.specs.Outside.{Appends, RoseOnce};
 ghost use Rattle.bz_outside.specs.Memory.{after_call, write_fails, taken_length};
 
@@ -39,7 +40,13 @@ impl MemorySink {
     /// The memory for `room` bytes is taken here at once.
     pub fn new(alloc: Global, most: usize, room: usize) -> Result<MemorySink, AllocError>
         requires { 1 ≤ most }
-        ensures { IfOk result (λ s. s ≡ record { written = []; most = most; room = room; calls = record { made = 0; failing = []; failed = 0 } }) }
+        ensures { IfOk result (λ s. s ≡ record {
+          written = [];
+          most = most;
+          room = room;
+          calls =
+              record { made = 0; failing = []; failed = 0 };
+        }) }
     {
         Ok(MemorySink {
             kept: Vec::with_capacity(alloc, room)?,
@@ -59,7 +66,10 @@ impl MemorySink {
     /// Lets the write with this number fail, too. The numbers are given in rising order.
     pub fn fail_at(&mut self, call: u64) -> Result<(), AllocError>
         requires rising { All (λ number. number < call) self.old.calls.failing }
-        ensures ok { OnOk result (self.new ≡ record self.old { calls = record self.old.calls { failing = self.old.calls.failing ++ call ∷ [] } }) }
+        ensures ok { OnOk result (self.new ≡ record self.old {
+          calls =
+              record self.old.calls { failing = self.old.calls.failing ++ call ∷ [] };
+        }) }
         ensures err { OnErr result (self.new ≡ self.old) }
     {
         self.calls.fail_at(call)
@@ -79,7 +89,11 @@ impl Sink for MemorySink {
         // Exactly which writes fail, how many bytes the others take, and what stays.
         ensures fails { is_err result ≡ write_fails self.old bytes.now }
         ensures exact { IfOk result (λ n. n ≡ taken_length self.old bytes.now) }
-        ensures after_ok { IfOk result (λ n. self.new ≡ record self.old { written = self.old.written ++ take n bytes.now; calls = after_call false self.old.calls }) }
+        ensures after_ok { IfOk result (λ n. self.new ≡ record self.old {
+          written = self.old.written
+              ++ take n bytes.now;
+          calls = after_call false self.old.calls;
+        }) }
         ensures after_err { OnErr result (self.new ≡ record self.old { calls = after_call true self.old.calls }) }
     {
         let left = self.room - self.kept.len();

@@ -5,3 +5,4 @@ pub mod Held
 pub mod LinesBelow
 pub mod OneRefusal
 pub mod OneReading
+pub mod Completing

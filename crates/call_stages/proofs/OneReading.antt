@@ -66,8 +66,8 @@ one-read f name most next calm ones = record {
       (ones (take most calm.bytes)).one status other text others ticks more m n (read-only f name most next calm status text ticks m p) (read-only f name most next calm other others more n q);
 }
 
--- a text's tables are sound
-sound : (bytes : List ℕ) (s : Spec) → Grammar bytes s → IsSound s
+-- A text's tables are sound.
+pub sound : (bytes : List ℕ) (s : Spec) → Grammar bytes s → IsSound s
 sound bytes s g = stands_sound (tokens_of bytes) s (are_lexical bytes) g.stand_for
 
 -- an accepted text is not refused

@@ -1,5 +1,6 @@
 -- The lines that the program writes, as lists of bytes.
-use Rattle.std.specs.Prelude.{ℕ, zero, suc, List, [], ◌∷◌, ◌++◌, length, flat_map, decimal, codes, slice_get, slice_index, unwrap_or}
+use Rattle.std.specs.Prelude.{ℕ, zero, suc, List, [], ◌∷◌, ◌++◌, length, flat_map, decimal, codes}
+use Rattle.std.specs.Prelude.{slice_get, slice_index, unwrap_or}
 use Rattle.bz_model.specs.Spec.{Spec}
 use Rattle.bz_model.specs.declared.cell.Cell.{Cell}
 use Rattle.bz_model.specs.declared.cell.Bounds.{Bounds}
@@ -13,7 +14,10 @@ feed = 10 ∷ []
 
 -- The first line of a kept object: its number, the place of its first bit and its size.
 abbrev pub object_line : (number place size : ℕ) → List ℕ
-object_line number place size = codes "object " ++ (decimal number ++ (codes " at " ++ (decimal place ++ (codes " size " ++ (decimal size ++ feed)))))
+object_line number place size =
+    codes "object "
+    ++ (decimal number
+    ++ (codes " at " ++ (decimal place ++ (codes " size " ++ (decimal size ++ feed)))))
 
 -- A cell, after a space.
 abbrev pub cell_field : Cell → List ℕ
@@ -25,29 +29,48 @@ cells_line cells = codes "cells" ++ (flat_map cell_field cells ++ feed)
 
 -- The three lines of a kept object.
 abbrev pub entry_lines : (number place size : ℕ) → (text : List ℕ) → List Cell → List ℕ
-entry_lines number place size text cells = object_line number place size ++ (codes "text " ++ (text ++ (feed ++ cells_line cells)))
+entry_lines number place size text cells = object_line number place size
+    ++ (codes "text " ++ (text ++ (feed ++ cells_line cells)))
 
 -- The line of a number that 60 bits leave open at a node, with the node's bounds.
 abbrev pub open_line : (node : ℕ) → Cell → Bounds → List ℕ
-open_line node cell bounds = codes "undecided node " ++ (decimal node ++ (codes " cell " ++ (decimal cell.k ++ (codes "/" ++ (decimal cell.b ++ (codes " within " ++ (decimal bounds.lo ++ (codes " " ++ (decimal bounds.hi ++ feed)))))))))
+open_line node cell bounds = codes "undecided node "
+    ++ (decimal node
+    ++ (codes " cell "
+    ++ (decimal cell.k
+    ++ (codes "/"
+    ++ (decimal cell.b
+    ++ (codes " within " ++ (decimal bounds.lo ++ (codes " " ++ (decimal bounds.hi ++ feed)))))))))
 
 -- The line of a whole number below m that 60 bits leave open, for a label.
 abbrev pub open_label_line : (m : ℕ) → Cell → List ℕ
-open_label_line m cell = codes "undecided label " ++ (decimal m ++ (codes " cell " ++ (decimal cell.k ++ (codes "/" ++ (decimal cell.b ++ feed)))))
+open_label_line m cell = codes "undecided label "
+    ++ (decimal m
+    ++ (codes " cell " ++ (decimal cell.k ++ (codes "/" ++ (decimal cell.b ++ feed)))))
 
--- The last line of a drawing: why it ended, how many objects were kept and attempts thrown away, the bits used and the turns made.
+-- The last line of a drawing: why it ended, how many objects were kept and attempts thrown away,
+-- the bits used and the turns made.
 abbrev pub end_line : (word : List ℕ) → (kept thrown bits turns : ℕ) → List ℕ
-end_line word kept thrown bits turns = codes "end " ++ (word ++ (codes " kept " ++ (decimal kept ++ (codes " thrown " ++ (decimal thrown ++ (codes " bits " ++ (decimal bits ++ (codes " turns " ++ (decimal turns ++ feed)))))))))
+end_line word kept thrown bits turns =
+    codes "end "
+    ++ (word
+    ++ (codes " kept "
+    ++ (decimal kept
+    ++ (codes " thrown "
+    ++ (decimal thrown
+    ++ (codes " bits " ++ (decimal bits ++ (codes " turns " ++ (decimal turns ++ feed)))))))))
 
 -- The last line after a specification's canonical text.
 abbrev pub spec_end_line : (classes nodes : ℕ) → List ℕ
-spec_end_line classes nodes = codes "end done classes " ++ (decimal classes ++ (codes " nodes " ++ (decimal nodes ++ feed)))
+spec_end_line classes nodes = codes "end done classes "
+    ++ (decimal classes ++ (codes " nodes " ++ (decimal nodes ++ feed)))
 
 -- The name of a class, and no bytes where there is no such class.
 abbrev pub class_name : Spec → ℕ → List ℕ
 class_name s c = unwrap_or (slice_get s.names c) []
 
--- The lines before the base, or before the window of a drawing: the format, the mode, the SHA-256 digest of the canonical text in hex digits, x as it was given, and the fraction bits.
+-- The lines before the base, or before the window of a drawing: the format, the mode, the SHA-256
+-- digest of the canonical text in hex digits, x as it was given, and the fraction bits.
 abbrev pub header_lines : (format : List ℕ) → Spec → (num den F : ℕ) → List ℕ
 header_lines format s num den F =
     format ++ ((feed ++ codes "mode ")
@@ -56,7 +79,8 @@ header_lines format s num den F =
     ++ (decimal num ++ (codes "/" ++ (decimal den
     ++ ((feed ++ codes "fraction ") ++ (decimal F ++ feed))))))))))
 
--- The format of what `verify` accepts, and that of a drawing whose lower sweeps start from a fast vector.
+-- The format of what `verify` accepts, and that of a drawing whose lower sweeps start from a fast
+-- vector.
 abbrev pub certified_format : List ℕ
 certified_format = codes "boltzmann 2"
 
@@ -81,7 +105,10 @@ window_line min max = codes "window " ++ (decimal min ++ (codes " " ++ (decimal 
 
 -- The line of a class's lower and upper entry at a level.
 abbrev pub level_line : (level : ℕ) → (name : List ℕ) → (lo hi : ℕ) → List ℕ
-level_line level name lo hi = codes "level " ++ (decimal level ++ (codes " " ++ (name ++ (codes " " ++ (decimal lo ++ (codes " " ++ (decimal hi ++ feed)))))))
+level_line level name lo hi =
+    codes "level "
+    ++ (decimal level
+    ++ (codes " " ++ (name ++ (codes " " ++ (decimal lo ++ (codes " " ++ (decimal hi ++ feed)))))))
 
 -- The lines of the first so many things, in order, where each has its own.
 unfoldable pub lines_below : (line : ℕ → List ℕ) → ℕ → List ℕ
@@ -92,6 +119,6 @@ lines_below line (suc n) = lines_below line n ++ line n
 abbrev pub base_lines : Spec → (base : List ℕ) → List ℕ
 base_lines s base = lines_below (class_base s base) (length s.bodies)
 
--- The last line after the levels.
-abbrev pub levels_end_line : List ℕ
-levels_end_line = codes "end done" ++ feed
+-- The last line of an answer that is done, where it tells nothing more.
+abbrev pub end_done_line : List ℕ
+end_done_line = codes "end done" ++ feed

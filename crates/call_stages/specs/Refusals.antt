@@ -1,5 +1,6 @@
 -- The lines that tell why a command is refused.
-use Rattle.std.specs.Prelude.{ℕ, ◌<◌, ◌*◌, List, [], ◌++◌, length, decimal, codes, flat_map, Option, Some, None}
+use Rattle.std.specs.Prelude.{ℕ, ◌<◌, ◌*◌, List, [], ◌++◌, length, decimal, codes, flat_map, Option}
+use Rattle.std.specs.Prelude.{Some, None}
 use Rattle.bz_model.specs.Spec.{Spec}
 use Rattle.class_system.specs.declared.limits.BuildFault.{BuildFault}
 use Rattle.spec_reader.specs.declared.fault.SpecFault.{SpecFault}
@@ -29,25 +30,28 @@ words_line WordsFault.NotACommand = codes "refused words" ++ feed
 words_line (WordsFault.BadValue name) = codes "refused value " ++ (value_name name ++ feed)
 words_line WordsFault.OutOfMemory = []
 
--- The command isn't built yet.
-abbrev pub not_yet_line : List ℕ
-not_yet_line = codes "refused not yet" ++ feed
-
 -- A file wasn't read.
 abbrev pub read_line : List ℕ
 read_line = codes "refused read" ++ feed
 
 -- A place in a text.
 abbrev pub at_place : (line column : ℕ) → List ℕ
-at_place line column = codes " line " ++ (decimal line ++ (codes " column " ++ (decimal column ++ feed)))
+at_place line column =
+    codes " line " ++ (decimal line ++ (codes " column " ++ (decimal column ++ feed)))
 
--- The limit that is broken, with the number that breaks it; none is told of want of memory.
-abbrev pub limit_line : BuildFault → List ℕ
-limit_line (BuildFault.TooManyClasses count) = codes "refused spec too many classes " ++ (decimal count ++ feed)
-limit_line (BuildFault.TooManyParts count) = codes "refused spec too many parts " ++ (decimal count ++ feed)
-limit_line (BuildFault.TooDeep depth) = codes "refused spec too deep " ++ (decimal depth ++ feed)
-limit_line (BuildFault.TooManyNodes count) = codes "refused spec too many nodes " ++ (decimal count ++ feed)
-limit_line BuildFault.OutOfMemory = []
+-- The limit that is broken, with the number that breaks it, to the end of the line; none is named
+-- where memory ran out.
+abbrev pub limit_words : BuildFault → List ℕ
+limit_words (BuildFault.TooManyClasses count) = codes " too many classes "
+    ++ (decimal count ++ feed)
+limit_words (BuildFault.TooManyParts count) = codes " too many parts " ++ (decimal count ++ feed)
+limit_words (BuildFault.TooDeep depth) = codes " too deep " ++ (decimal depth ++ feed)
+limit_words (BuildFault.TooManyNodes count) = codes " too many nodes " ++ (decimal count ++ feed)
+limit_words BuildFault.OutOfMemory = feed
+
+-- A specification of one kind, as `spec` or `point`, breaks a limit.
+abbrev pub limit_line : (kind : List ℕ) → BuildFault → List ℕ
+limit_line kind fault = codes "refused " ++ (kind ++ limit_words fault)
 
 -- Why a text is no specification; nothing is told of want of memory.
 abbrev pub text_line : SpecFault → List ℕ
@@ -56,15 +60,19 @@ text_line (SpecFault.NotText place) = codes "refused spec not text at " ++ (deci
 text_line (SpecFault.Syntax line column) = codes "refused spec syntax" ++ at_place line column
 text_line (SpecFault.Undefined line column) = codes "refused spec undefined" ++ at_place line column
 text_line (SpecFault.Twice line) = codes "refused spec twice line " ++ (decimal line ++ feed)
-text_line (SpecFault.NeedsLabels line column) = codes "refused spec needs labels" ++ at_place line column
-text_line (SpecFault.Limit fault) = limit_line fault
+text_line (SpecFault.NeedsLabels line column) = codes "refused spec needs labels"
+    ++ at_place line column
+text_line (SpecFault.Limit fault) = limit_line (codes "spec") fault
 text_line SpecFault.OutOfMemory = []
 
 -- Why a specification isn't well founded; nothing is told of want of memory.
 abbrev pub cause_line : Spec → UnfoundedCause → List ℕ
-cause_line s (UnfoundedCause.NoObject c) = codes "refused spec no object " ++ (class_name s c.0 ++ feed)
-cause_line s (UnfoundedCause.ZeroPart e) = codes "refused spec zero part node " ++ (decimal e.0 ++ feed)
-cause_line s (UnfoundedCause.ZeroLoop c) = codes "refused spec zero loop " ++ (class_name s c.0 ++ feed)
+cause_line s (UnfoundedCause.NoObject c) = codes "refused spec no object "
+    ++ (class_name s c.0 ++ feed)
+cause_line s (UnfoundedCause.ZeroPart e) = codes "refused spec zero part node "
+    ++ (decimal e.0 ++ feed)
+cause_line s (UnfoundedCause.ZeroLoop c) = codes "refused spec zero loop "
+    ++ (class_name s c.0 ++ feed)
 cause_line s UnfoundedCause.OutOfMemory = []
 
 -- The class that a cause tells of is there.
@@ -82,17 +90,24 @@ abbrev pub value_text : Option ℕ → List ℕ
 value_text (Some n) = decimal n
 value_text None = codes "none"
 
--- A proposal that isn't post-fixed: its entries, the first class that fails, and the upper value of that class's body.
+-- A proposal that isn't post-fixed: its entries, the first class that fails, and the upper value of
+-- that class's body.
 abbrev pub proposal_line : Spec → Trial → List ℕ
-proposal_line s t = codes "proposal" ++ (flat_map number_field t.values ++ (codes " fails " ++ (class_name s t.class_id.0 ++ (codes " got " ++ (value_text t.got ++ feed)))))
+proposal_line s t = codes "proposal"
+    ++ (flat_map number_field t.values
+    ++ (codes " fails "
+    ++ (class_name s t.class_id.0 ++ (codes " got " ++ (value_text t.got ++ feed)))))
 
 -- No base was found: how many candidates and proposals there were.
 abbrev pub no_upper_line : (candidates proposals : ℕ) → List ℕ
-no_upper_line candidates proposals = codes "refused upper candidates " ++ (decimal candidates ++ (codes " proposals " ++ (decimal proposals ++ feed)))
+no_upper_line candidates proposals = codes "refused upper candidates "
+    ++ (decimal candidates ++ (codes " proposals " ++ (decimal proposals ++ feed)))
 
--- No base was found: the number of candidates of all six rounds and of proposals, and a line for each proposal.
+-- No base was found: the number of candidates of all six rounds and of proposals, and a line for
+-- each proposal.
 abbrev pub no_upper_text : Spec → (F : ℕ) → List Trial → List ℕ
-no_upper_text s F trials = no_upper_line (6 * candidate_count F) (length trials) ++ flat_map (proposal_line s) trials
+no_upper_text s F trials = no_upper_line (6 * candidate_count F) (length trials)
+    ++ flat_map (proposal_line s) trials
 
 -- No fast vector was found: how many candidates there were, one for each fraction bit.
 abbrev pub no_fast_line : (candidates : ℕ) → List ℕ

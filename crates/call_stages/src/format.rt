@@ -1,6 +1,10 @@
 //! The lines that the program writes.
 ghost use Rattle.std.specs.Prelude.{◌≡◌, ◌++◌, length, IfOk, OnOk, string_bytes};
-ghost use Rattle.call_stages.specs.Lines.{object_line, entry_lines, cells_line, cell_field, open_line, open_label_line, end_line, spec_end_line, class_name, header_lines, certified_header, window_line, base_line, base_lines, class_base, lines_below, level_line, feed};
+ghost use Rattle.call_stages.specs.Lines.{object_line, entry_lines, cells_line, cell_field};
+ghost use Rattle.call_stages.specs.Lines.{open_line, open_label_line, end_line, spec_end_line};
+ghost use Rattle.call_stages.specs.Lines.{class_name, header_lines, certified_header, window_line};
+ghost use Rattle.call_stages.specs.Lines.{base_line, base_lines, class_base, lines_below};
+ghost use Rattle.call_stages.specs.Lines.{level_line, feed};
 ghost use Rattle.class_system.specs.CanonicalText.{mode_word};
 ghost use Rattle.class_system.specs.Views.{spec_mode};
 
@@ -182,7 +186,8 @@ pub fn level_of_class(
     class: u32,
     bounds: Bounds,
 ) -> Result<Vec<u8>, AllocError>
-    ensures { IfOk result (λ line. line.items ≡ level_line level (class_name system.now class) bounds.lo bounds.hi) }
+    ensures { IfOk result (λ line. line.items ≡ level_line level (class_name system.now class)
+        bounds.lo bounds.hi) }
 {
     let lo = bounds.lo;
     let hi = bounds.hi;

@@ -1,9 +1,14 @@
-//! The stages of a call, and what it writes: a file is read, its bytes are judged, a base is searched.
+//! The stages of a call, and what it writes: a file is read, its bytes are judged, a base is
+//! searched.
 //!
-//! An outcome is a status, a text and the most steps that it may take (`specs/Outcomes.antt`). A stage is
-//! an outcome with what comes next as a parameter (`specs/Stages.antt`): it ends the call with its refusal,
-//! or goes on. How a call ends, with what part of its text written, is `specs/Ends.antt`; every printed
-//! byte is in `specs/Lines.antt` and `specs/Refusals.antt`. Each command stands on these. No clause says
+//! An outcome is a status, a text and the most steps that it may take (`specs/Outcomes.antt`). A
+//! stage is
+//! an outcome with what comes next as a parameter (`specs/Stages.antt`): it ends the call with its
+//! refusal,
+//! or goes on. How a call ends, with what part of its text written, is `specs/Ends.antt`; every
+//! printed
+//! byte is in `specs/Lines.antt` and `specs/Refusals.antt`. Each command stands on these. No clause
+//! says
 //! that memory suffices.
 #![tactic(auto)]
 

@@ -12,8 +12,12 @@ const PIECE: usize = 32_768;
 /// Writes what is held back where it is enough, and keeps it otherwise.
 #[tactic(auto, using(crate::proofs::Held::held_sent, crate::proofs::Held::held_cut))]
 pub fn send_enough<K: Sink>(out: &mut K, page: &mut Vec<u8>) -> Result<(), Failed>
-    ensures held { OnOk result ((start : Option (List ℕ)) (text : List ℕ) → IsHeld start (K.written out.old) page.old.items text → IsHeld start (K.written out.new) page.new.items text) }
-    ensures cut { OnErr result ((start : Option (List ℕ)) (text : List ℕ) → IsHeld start (K.written out.old) page.old.items text → AppendsFront start (K.written out.new) text) }
+    ensures held { OnOk result ((start : Option (List ℕ)) (text : List ℕ)
+        → IsHeld start (K.written out.old) page.old.items text
+        → IsHeld start (K.written out.new) page.new.items text) }
+    ensures cut { OnErr result ((start : Option (List ℕ)) (text : List ℕ)
+        → IsHeld start (K.written out.old) page.old.items text
+        → AppendsFront start (K.written out.new) text) }
     ensures cause { OnErr result (Rose (K.faults out.old) (K.faults out.new)) }
     ensures counts { K.faults out.old ≤ K.faults out.new }
 {

@@ -1,15 +1,19 @@
 //! What is reported where a command is refused: a status, and the lines that say why.
 ghost use Rattle.std.specs.Prelude.{◌≡◌, ◌≢◌, ◌≤◌, ◌++◌, codes, flat_map, IfOk, OnOk, string_bytes};
+ghost use Rattle.bz_model.specs.Fraction.{IsFractionBits};
 ghost use Rattle.command_words.specs.declared.fault.WordsFault.{WordsFault};
 ghost use Rattle.spec_reader.specs.declared.fault.SpecFault.{SpecFault};
 ghost use Rattle.well_founded.specs.declared.cause.UnfoundedCause.{UnfoundedCause};
 ghost use Rattle.call_stages.specs.Lines.{feed};
 ghost use Rattle.call_stages.specs.Outcomes.{Says};
 ghost use Rattle.call_stages.specs.declared.status.Status.{Status};
-ghost use Rattle.call_stages.specs.Refusals.{value_name, words_line, not_yet_line, read_line, limit_line, text_line, cause_line, IsNamed, number_field, value_text, proposal_line, no_upper_line, no_upper_text, no_fast_line};
+ghost use Rattle.call_stages.specs.Refusals.{value_name, words_line, read_line, limit_line};
+ghost use Rattle.call_stages.specs.Refusals.{text_line, cause_line, IsNamed, number_field};
+ghost use Rattle.call_stages.specs.Refusals.{value_text, proposal_line, no_upper_line};
+ghost use Rattle.call_stages.specs.Refusals.{no_upper_text, no_fast_line};
 
 use crate::format::name_of;
-use crate::report::Report;
+use crate::report::{Report, reported};
 use crate::status::Status;
 use bz_outside::word::Word;
 use class_system::limits::BuildFault;
@@ -26,33 +30,16 @@ pub fn words_refusal(alloc: Global, fault: WordsFault) -> Result<Report, AllocEr
     ensures says { IfOk result (λ r. Says Status.WordsRefused (words_line fault) 0 r.status r.text.items 0) }
     ensures memory { OnOk result (fault ≢ WordsFault.OutOfMemory) }
 {
-    let text = line_for_words(alloc, fault)?.into_bytes();
-    Ok(Report {
-        status: Status::WordsRefused,
-        text,
-    })
-}
-
-/// The command isn't built yet.
-pub fn not_yet_refusal(alloc: Global) -> Result<Report, AllocError>
-    ensures { IfOk result (λ r. Says Status.WordsRefused not_yet_line 0 r.status r.text.items 0) }
-{
-    let text = line(alloc, "refused not yet\n")?;
-    Ok(Report {
-        status: Status::WordsRefused,
-        text,
-    })
+    let line = line_for_words(alloc, fault)?;
+    Ok(reported(Status::WordsRefused, line))
 }
 
 /// A read of a file failed.
 pub fn read_refusal(alloc: Global) -> Result<Report, AllocError>
     ensures { IfOk result (λ r. Says Status.ReadFault read_line 0 r.status r.text.items 0) }
 {
-    let text = line(alloc, "refused read\n")?;
-    Ok(Report {
-        status: Status::ReadFault,
-        text,
-    })
+    let line = format!(in alloc; "refused read\n")?;
+    Ok(reported(Status::ReadFault, line))
 }
 
 /// A text is no specification, or breaks a limit; `Err` where that is want of memory.
@@ -60,11 +47,8 @@ pub fn text_refusal(alloc: Global, fault: SpecFault) -> Result<Report, AllocErro
     ensures says { IfOk result (λ r. Says Status.SpecRefused (text_line fault) 0 r.status r.text.items 0) }
     ensures memory { OnOk result (fault ≢ SpecFault.OutOfMemory) }
 {
-    let text = line_for_text(alloc, fault)?.into_bytes();
-    Ok(Report {
-        status: Status::SpecRefused,
-        text,
-    })
+    let line = line_for_text(alloc, fault)?;
+    Ok(reported(Status::SpecRefused, line))
 }
 
 /// A specification isn't well founded; `Err` where that is want of memory.
@@ -74,7 +58,8 @@ pub fn cause_refusal(
     cause: UnfoundedCause,
 ) -> Result<Report, AllocError>
     requires in_range { IsNamed system.now cause }
-    ensures says { IfOk result (λ r. Says Status.SpecRefused (cause_line system.now cause) 0 r.status r.text.items 0) }
+    ensures says { IfOk result (λ r. Says Status.SpecRefused (cause_line system.now cause) 0 r.status
+        r.text.items 0) }
     ensures memory { OnOk result (cause ≢ UnfoundedCause.OutOfMemory) }
 {
     let text = line_for_cause(alloc, system, cause)?;
@@ -90,8 +75,9 @@ pub fn upper_refusal<const F: u32>(
     system: &System,
     proposals: &[Trial],
 ) -> Result<Report, AllocError>
-    requires fraction_bits { (24 ≤ F) × (F ≤ 56) }
-    ensures { IfOk result (λ r. Says Status.NoUpper (no_upper_text system.now F proposals.now) 0 r.status r.text.items 0) }
+    requires fraction_bits { IsFractionBits F }
+    ensures { IfOk result (λ r. Says Status.NoUpper (no_upper_text system.now F proposals.now) 0
+        r.status r.text.items 0) }
 {
     let text = no_upper::<F>(alloc, system, proposals)?;
     Ok(Report {
@@ -104,18 +90,8 @@ pub fn upper_refusal<const F: u32>(
 pub fn fast_refusal<const F: u32>(alloc: Global) -> Result<Report, AllocError>
     ensures { IfOk result (λ r. Says Status.NoFast (no_fast_line F) 0 r.status r.text.items 0) }
 {
-    let text = format!(in alloc; "refused fast candidates {F}\n")?.into_bytes();
-    Ok(Report {
-        status: Status::NoFast,
-        text,
-    })
-}
-
-/// A line as bytes.
-fn line(alloc: Global, line: &str) -> Result<Vec<u8>, AllocError>
-    ensures { IfOk result (λ text. text.items ≡ line.now) }
-{
-    Vec::from_slice(alloc, line.as_bytes())
+    let line = format!(in alloc; "refused fast candidates {F}\n")?;
+    Ok(reported(Status::NoFast, line))
 }
 
 /// Why words stand for no command; `Err` where that is want of memory.
@@ -168,25 +144,25 @@ fn line_for_text(alloc: Global, fault: SpecFault) -> Result<String, AllocError>
         SpecFault::NeedsLabels { line, column } => {
             format!(in alloc; "refused spec needs labels line {line} column {column}\n")
         }
-        SpecFault::Limit(fault) => limit_refusal(alloc, fault),
+        SpecFault::Limit(fault) => limit_refusal(alloc, "spec", fault),
         SpecFault::OutOfMemory => Err(AllocError),
     }
 }
 
-/// Which limit is broken.
-fn limit_refusal(alloc: Global, fault: BuildFault) -> Result<String, AllocError>
-    ensures { IfOk result (λ text. string_bytes text ≡ limit_line fault) }
+/// Which limit a specification of one kind breaks; `Err` also where memory ran out.
+pub fn limit_refusal(alloc: Global, kind: &str, fault: BuildFault) -> Result<String, AllocError>
+    ensures { IfOk result (λ text. string_bytes text ≡ limit_line kind.now fault) }
 {
     match fault {
         BuildFault::TooManyClasses { count } => {
-            format!(in alloc; "refused spec too many classes {count}\n")
+            format!(in alloc; "refused {kind} too many classes {count}\n")
         }
         BuildFault::TooManyParts { count } => {
-            format!(in alloc; "refused spec too many parts {count}\n")
+            format!(in alloc; "refused {kind} too many parts {count}\n")
         }
-        BuildFault::TooDeep { depth } => format!(in alloc; "refused spec too deep {depth}\n"),
+        BuildFault::TooDeep { depth } => format!(in alloc; "refused {kind} too deep {depth}\n"),
         BuildFault::TooManyNodes { count } => {
-            format!(in alloc; "refused spec too many nodes {count}\n")
+            format!(in alloc; "refused {kind} too many nodes {count}\n")
         }
         BuildFault::OutOfMemory => Err(AllocError),
     }
@@ -216,7 +192,8 @@ fn line_for_cause(
 
 /// A refusal with the name of a class.
 fn named(alloc: Global, why: &str, name: &Word) -> Result<Vec<u8>, AllocError>
-    ensures { IfOk result (λ text. text.items ≡ (codes "refused spec " ++ (why.now ++ codes " ")) ++ (name.now ++ feed)) }
+    ensures { IfOk result (λ text. text.items ≡ (codes "refused spec " ++ (why.now ++ codes " "))
+        ++ (name.now ++ feed)) }
 {
     let head = format!(in alloc; "refused spec {why} ")?;
     let mut line = Vec::new(alloc);
@@ -232,7 +209,7 @@ fn no_upper<const F: u32>(
     system: &System,
     proposals: &[Trial],
 ) -> Result<Vec<u8>, AllocError>
-    requires fraction_bits { (24 ≤ F) × (F ≤ 56) }
+    requires fraction_bits { IsFractionBits F }
     ensures { IfOk result (λ text. text.items ≡ no_upper_text system.now F proposals.now) }
 {
     let candidates = 6 * ((F - 8) / 2 + 1);
@@ -267,7 +244,8 @@ fn proposal_of(alloc: Global, system: &System, proposal: &Trial) -> Result<Vec<u
 
 /// The part of a proposal's line before the class's name.
 fn values_of(alloc: Global, values: &[u64]) -> Result<String, AllocError>
-    ensures { IfOk result (λ text. string_bytes text ≡ (codes "proposal" ++ flat_map number_field values.now) ++ codes " fails ") }
+    ensures { IfOk result (λ text. string_bytes text ≡ (codes "proposal"
+        ++ flat_map number_field values.now) ++ codes " fails ") }
 {
     let mut text = format!(in alloc; "proposal")?;
     for value in values {

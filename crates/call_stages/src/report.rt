@@ -1,5 +1,5 @@
 //! What a call reports, and how that is written.
-ghost use Rattle.std.specs.Prelude.{◌≡◌, ◌≤◌};
+ghost use Rattle.std.specs.Prelude.{◌≡◌, ◌≤◌, string_bytes};
 ghost use Rattle.call_stages.specs.Ends.{EndsBy, output};
 ghost use Rattle.call_stages.specs.Outcomes.{Says};
 ghost use Rattle.call_stages.specs.Reports.{refusal_status, refusal_text, stop_status};
@@ -14,6 +14,15 @@ use std::alloc::AllocError;
 pub struct Report {
     pub status: Status,
     pub text: Vec<u8>,
+}
+
+/// A status with a line.
+pub fn reported(status: Status, line: String) -> Report
+    ensures status { result.status ≡ status }
+    ensures text { result.text.items ≡ string_bytes line }
+{
+    let text = line.into_bytes();
+    Report { status, text }
 }
 
 /// Why a call ends before its command is carried out.
@@ -82,7 +91,9 @@ impl From<Failed> for Stop {
 /// Writes a whole text, and answers its status; or WriteFault where a write fails.
 #[tactic(auto, using(crate::proofs::Endings::was_written, crate::proofs::Endings::write_failed))]
 pub fn written<K: Sink>(out: &mut K, status: Status, text: &[u8]) -> Status
-    ensures ends { EndsBy (Says status text.now 0) (output (K.written out.old) (K.written out.new) (K.faults out.old) (K.faults out.new) 0 0) result }
+    ensures ends { EndsBy (Says status text.now 0)
+        (output (K.written out.old) (K.written out.new) (K.faults out.old) (K.faults out.new) 0 0)
+        result }
     ensures counts { K.faults out.old ≤ K.faults out.new }
 {
     match put_all(out, text) {
@@ -94,7 +105,9 @@ pub fn written<K: Sink>(out: &mut K, status: Status, text: &[u8]) -> Status
 /// Writes what a refusal reports; nothing where memory ran out.
 #[tactic(auto, using(crate::proofs::Endings::nothing_written))]
 pub fn refused<K: Sink>(out: &mut K, refusal: &Refusal) -> Status
-    ensures ends { EndsBy (Says (refusal_status refusal.now) (refusal_text refusal.now) 0) (output (K.written out.old) (K.written out.new) (K.faults out.old) (K.faults out.new) 0 0) result }
+    ensures ends { EndsBy (Says (refusal_status refusal.now) (refusal_text refusal.now) 0)
+        (output (K.written out.old) (K.written out.new) (K.faults out.old) (K.faults out.new) 0 0)
+        result }
     ensures counts { K.faults out.old ≤ K.faults out.new }
 {
     match refusal {

@@ -1,11 +1,13 @@
 //! The stages of a call: a file is read, its bytes are judged, a base is searched.
-ghost use Rattle.std.specs.Prelude.{◌≡◌, ℕ, ◌≤◌, List, Some, IfOk, IfErr, ◌+◌};
+ghost use Rattle.std.specs.Prelude.{◌≡◌, ℕ, ◌≤◌, List, Some, IfOk, IfErr, OnOk, ◌+◌};
+ghost use Rattle.bz_model.specs.Fraction.{IsFractionBits};
 ghost use Rattle.bz_model.specs.WellFounded.{IsWellFounded};
 ghost use Rattle.newton_upper.specs.BaseRule.{base_of, most_ticks};
 ghost use Rattle.rounded_map.specs.RoundedMap.{setting, IsPostFixed};
 ghost use Rattle.call_stages.specs.Outcomes.{Never, IsWithin};
 ghost use Rattle.call_stages.specs.Reports.{refusal_status, refusal_text};
-ghost use Rattle.call_stages.specs.Stages.{files, AreRead, FileRead, IsAccepted, Judged, Specified, IsSpecified, Based};
+ghost use Rattle.call_stages.specs.Stages.{files, AreRead, FileRead, IsAccepted, Judged, Specified};
+ghost use Rattle.call_stages.specs.Stages.{IsSpecified, Based};
 
 use crate::refusals::{cause_refusal, read_refusal, text_refusal, upper_refusal};
 use crate::report::Refusal;
@@ -15,7 +17,7 @@ use bz_outside::shelf::{ReadStop, Shelf, read_up_to};
 use bz_outside::word::Word;
 use class_system::system::System;
 use newton_upper::{Base, UpperFault, propose};
-use spec_reader::reading::read_spec;
+use spec_reader::read_spec::read_spec;
 use std::alloc::Global;
 use std::sync::ledger::Ledger;
 use well_founded::examination::{Founded, Unfounded, examine};
@@ -23,13 +25,16 @@ use well_founded::examination::{Founded, Unfounded, examine};
 /// The most bytes that are read of a specification: one more than it may have.
 const MOST_READ: u64 = 65_537;
 
-/// Reads a specification from a file, and judges it.
+/// Reads a specification from a file, and judges it. Where there is one no read has failed.
 #[tactic(auto, using(crate::proofs::Staging::is_specified, crate::proofs::Staging::ended_by_reading))]
 pub fn specified<S: Shelf>(alloc: Global, file: &Word, shelf: &mut S) -> Result<Founded, Refusal>
     ensures ok { IfOk result (λ founded. IsSpecified (S.content shelf.old) file.now founded) }
-    ensures err { IfErr result (λ e. Specified (files (S.content shelf.old) (S.faults shelf.old) (S.faults shelf.new)) file.now (λ s. Never) (refusal_status e) (refusal_text e) 0) }
+    ensures err { IfErr result
+        (λ e. Specified (files (S.content shelf.old) (S.faults shelf.old) (S.faults shelf.new))
+        file.now (λ s. Never) (refusal_status e) (refusal_text e) 0) }
     ensures content { S.content shelf.new ≡ S.content shelf.old }
     ensures counts { (name : List ℕ) → S.faults shelf.old name ≤ S.faults shelf.new name }
+    ensures steady { OnOk result (S.faults shelf.new ≡ S.faults shelf.old) }
 {
     match read_file(alloc, file, MOST_READ, shelf) {
         Ok(bytes) => judged(alloc, bytes.as_slice()),
@@ -37,7 +42,7 @@ pub fn specified<S: Shelf>(alloc: Global, file: &Word, shelf: &mut S) -> Result<
     }
 }
 
-/// The first bytes of a file, at most `most` of them.
+/// The first bytes of a file, at most `most` of them. Where there are any no read has failed.
 #[tactic(auto, using(crate::proofs::Staging::read_failed, crate::proofs::Staging::read_lacks_memory))]
 pub fn read_file<S: Shelf>(
     alloc: Global,
@@ -46,9 +51,12 @@ pub fn read_file<S: Shelf>(
     shelf: &mut S,
 ) -> Result<Vec<u8>, Refusal>
     ensures ok { IfOk result (λ bytes. AreRead (S.content shelf.old) name.now most bytes.items) }
-    ensures err { IfErr result (λ e. FileRead (files (S.content shelf.old) (S.faults shelf.old) (S.faults shelf.new)) name.now most (λ bytes. Never) (refusal_status e) (refusal_text e) 0) }
+    ensures err { IfErr result
+        (λ e. FileRead (files (S.content shelf.old) (S.faults shelf.old) (S.faults shelf.new))
+        name.now most (λ bytes. Never) (refusal_status e) (refusal_text e) 0) }
     ensures content { S.content shelf.new ≡ S.content shelf.old }
     ensures counts { (name : List ℕ) → S.faults shelf.old name ≤ S.faults shelf.new name }
+    ensures steady { OnOk result (S.faults shelf.new ≡ S.faults shelf.old) }
 {
     match read_up_to(alloc, shelf, name, most) {
         Ok(bytes) => Ok(bytes),
@@ -98,10 +106,11 @@ pub fn based<const F: u32, L: Ledger>(
     x: Fraction,
     steps: &mut Steps<L>,
 ) -> Result<Base<F>, Refusal>
-    requires fraction_bits { (24 ≤ F) × (F ≤ 56) }
+    requires fraction_bits { IsFractionBits F }
     ensures base { IfOk result (λ base. base_of (setting founded.now x.num x.den F) ≡ Some base) }
     ensures post_fixed { IfOk result (λ base. IsPostFixed (setting founded.now x.num x.den F) base) }
-    ensures err { IfErr result (λ e. Based (setting founded.now x.num x.den F) (λ base. Never) (refusal_status e) (refusal_text e) (most_ticks (setting founded.now x.num x.den F))) }
+    ensures err { IfErr result (λ e. Based (setting founded.now x.num x.den F) (λ base. Never)
+        (refusal_status e) (refusal_text e) (most_ticks (setting founded.now x.num x.den F))) }
     ensures ticks { steps.new ≤ steps.old + most_ticks (setting founded.now x.num x.den F) }
 {
     match propose::<F, L>(alloc, founded, x, steps) {

@@ -21,3 +21,6 @@ pub mod HeaderTests
 pub mod Tests
 pub mod Complete
 pub mod Costs
+pub mod OneMeaning
+pub mod AlikeTests
+pub mod DigestBytes

@@ -30,11 +30,13 @@ base_lines _ _ = []
 abbrev pub header_lines : Header → List Line
 header_lines h =
     Line.Version h.version ∷ Line.InMode h.mode ∷ (spec_lines h.digest
-    ++ (Line.X h.x.num h.x.den ∷ Line.Fraction h.fraction ∷ Line.Window h.min h.max ∷ base_lines h.names h.base))
+    ++ (Line.X h.x.num h.x.den ∷ Line.Fraction h.fraction ∷ Line.Window h.min h.max
+    ∷ base_lines h.names h.base))
 
 -- The lines of an entry.
 abbrev pub entry_lines : CertEntry → List Line
-entry_lines e = Line.Object e.number e.place e.size ∷ Line.Text e.text ∷ Line.Cells e.cells.items ∷ []
+entry_lines e = Line.Object e.number e.place e.size ∷ Line.Text e.text ∷ Line.Cells e.cells.items
+    ∷ []
 
 -- The line of a number that was left open, where there is one.
 abbrev pub open_lines : Option Straddle → List Line
@@ -47,14 +49,16 @@ closing_lines c = open_lines c.straddle ++ Line.End c.word c.kept c.thrown c.bit
 
 -- The lines of a certificate.
 abbrev pub certificate_lines : Certificate → List Line
-certificate_lines c = header_lines c.header ++ (flat_map entry_lines c.entries ++ closing_lines c.closing)
+certificate_lines c = header_lines c.header
+    ++ (flat_map entry_lines c.entries ++ closing_lines c.closing)
 
 -- A header has a digest exactly in version 2.
 abbrev pub FitsVersion : (version : ℕ) → Option (List ℕ) → Type 0
 FitsVersion version None = version ≡ 1
 FitsVersion version (Some digest) = (version ≡ 2) × IsDigest digest
 
--- A header fits where it has a digest exactly in version 2, and one value of the base for each name.
+-- A header fits where it has a digest exactly in version 2, and one value of the base for each
+-- name.
 pub record FitsHeader (h : Header) : Type 0 where
   pub version : FitsVersion h.version h.digest
   pub one_each : length h.base ≡ length h.names
@@ -79,7 +83,8 @@ pub record FitsEntry (e : CertEntry) : Type 0 where
   pub text : IsPrinted e.text
   pub cells : AreCells e.cells.items
 
--- A certificate as texts have it: x within its limits, names of the form of class names and none of them twice, texts that are printed, and cells that are cells.
+-- A certificate as texts have it: x within its limits, names of the form of class names and none of
+-- them twice, texts that are printed, and cells that are cells.
 pub record IsCertificate (c : Certificate) : Type 0 where
   pub header : FitsHeader c.header
   pub num : IsPart c.header.x.num

@@ -10,3 +10,4 @@ pub mod Verdicts
 pub mod Checks
 pub mod Soundness
 pub mod Completeness
+pub mod Alike

@@ -7,7 +7,8 @@ use Rattle.class_system.specs.Views.{spec_mode}
 use Rattle.size_window.specs.declared.ending.Straddle.{Straddle}
 use Rattle.size_window.specs.declared.ending.Straddle.TheVariants as straddle
 use Rattle.certificate.specs.declared.closing.ClosingWord.{ClosingWord}
-use Rattle.certificate.specs.declared.closing.ClosingWord.TheVariants.{Done, TapeEnded, Undecided, TurnLimit, ReadFault}
+use Rattle.certificate.specs.declared.closing.ClosingWord.TheVariants.{Done, TapeEnded, Undecided}
+use Rattle.certificate.specs.declared.closing.ClosingWord.TheVariants.{TurnLimit, ReadFault}
 use Rattle.certificate.specs.Patterns.{filled}
 use Rattle.certificate.specs.Fields.{base_line, cells_text, spec_line}
 
@@ -56,8 +57,10 @@ text_line text = codes "text " ++ text
 
 -- The line of a number that 60 bits leave open, at a node with its bounds, or for a label.
 abbrev pub open_line : Straddle → List ℕ
-open_line (straddle.Node node cell lo hi) = filled (codes "undecided node # cell #/# within # #") (node.0 ∷ cell.k ∷ cell.b ∷ lo ∷ hi ∷ [])
-open_line (straddle.Label m cell) = filled (codes "undecided label # cell #/#") (m ∷ cell.k ∷ cell.b ∷ [])
+open_line (straddle.Node node cell lo hi) =
+    filled (codes "undecided node # cell #/# within # #") (node.0 ∷ cell.k ∷ cell.b ∷ lo ∷ hi ∷ [])
+open_line (straddle.Label m cell) =
+    filled (codes "undecided label # cell #/#") (m ∷ cell.k ∷ cell.b ∷ [])
 
 -- The last line's pattern, by why the drawing ended.
 abbrev pub end_pattern : ClosingWord → List ℕ
@@ -67,7 +70,8 @@ end_pattern Undecided = codes "end undecided kept # thrown # bits # turns #"
 end_pattern TurnLimit = codes "end turn-limit kept # thrown # bits # turns #"
 end_pattern ReadFault = codes "end read-fault kept # thrown # bits # turns #"
 
--- The last line: why the drawing ended, how many objects were kept and attempts thrown away, the bits used and the turns made.
+-- The last line: why the drawing ended, how many objects were kept and attempts thrown away, the
+-- bits used and the turns made.
 abbrev pub end_line : ClosingWord → (kept thrown bits turns : ℕ) → List ℕ
 end_line word kept thrown bits turns = filled (end_pattern word) (kept ∷ thrown ∷ bits ∷ turns ∷ [])
 

@@ -1,10 +1,13 @@
 -- Lines as patterns of words and numbers.
-use Rattle.std.specs.Prelude.{◌≡◌, ℕ, suc, ◌^◌, ◌<◌, ◌≤◌, Bool, true, ◌&&◌, not, nat_eq, nat_le, if◌then◌else◌, List, [], ◌∷◌, ◌++◌, slice_index, decimal}
+use Rattle.std.specs.Prelude.{◌≡◌, ℕ, suc, ◌^◌, ◌<◌, ◌≤◌, Bool, true, ◌&&◌, not, nat_eq, nat_le}
+use Rattle.std.specs.Prelude.{if◌then◌else◌, List, [], ◌∷◌, ◌++◌, slice_index, decimal}
 
--- A pattern with numbers put in: each number sign of it is replaced by the next number in decimal digits, without leading zeros. The first of them stands at the place `next`.
+-- A pattern with numbers put in: each number sign of it is replaced by the next number in decimal
+-- digits, without leading zeros. The first of them stands at the place `next`.
 unfoldable pub filled_from : (pattern numbers : List ℕ) → (next : ℕ) → List ℕ
 filled_from [] numbers next = []
-filled_from (b ∷ pattern) numbers next = if nat_eq b 35 then decimal (slice_index numbers next) ++ filled_from pattern numbers (suc next) else b ∷ filled_from pattern numbers next
+filled_from (b ∷ pattern) numbers next = if nat_eq b 35 then decimal (slice_index numbers next)
+    ++ filled_from pattern numbers (suc next) else b ∷ filled_from pattern numbers next
 
 -- A pattern with all numbers put in, in order.
 abbrev pub filled : (pattern numbers : List ℕ) → List ℕ
@@ -30,7 +33,8 @@ abbrev pub HasNoDigit : List ℕ → Type 0
 HasNoDigit [] = Unit {0}
 HasNoDigit (b ∷ text) = ¬ ((48 ≤ b) × (b ≤ 57))
 
--- A text begins with a number of 64 bits, in decimal digits without leading zeros, and this follows, which begins with no digit.
+-- A text begins with a number of 64 bits, in decimal digits without leading zeros, and this
+-- follows, which begins with no digit.
 pub record BeginsNumber (text : List ℕ) (n : ℕ) (rest : List ℕ) : Type 0 where
   pub small : n < 2 ^ 64
   pub split : text ≡ decimal n ++ rest
@@ -40,7 +44,8 @@ pub record BeginsNumber (text : List ℕ) (n : ℕ) (rest : List ℕ) : Type 0 w
 pub record AreSmall (numbers : List ℕ) : Type 0 where
   pub each : (k : ℕ) → slice_index numbers k < 2 ^ 64
 
--- A text begins with the pattern filled with these numbers, and this follows, which begins with no digit.
+-- A text begins with the pattern filled with these numbers, and this follows, which begins with no
+-- digit.
 pub record BeginsFilled (pattern text numbers rest : List ℕ) : Type 0 where
   pub small : AreSmall numbers
   pub split : text ≡ filled pattern numbers ++ rest

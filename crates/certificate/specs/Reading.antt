@@ -28,7 +28,9 @@ HasNoFeed text = AllByRecursion (λ b. b ≢ 10) text
 abbrev pub ended : List (List ℕ) → List ℕ
 ended lines = flat_map (λ line. line ++ 10 ∷ []) lines
 
--- The first bad line of a text, counted from 1: the text is no certificate's, the lines before it begin one, and together with it they begin none. Where lines are missing it is the one after the last.
+-- The first bad line of a text, counted from 1: the text is no certificate's, the lines before it
+-- begin one, and together with it they begin none. Where lines are missing it is the one after the
+-- last.
 pub record IsFirstBad (bytes : List ℕ) (line : ℕ) : Type 0 where
   pub before : List (List ℕ)
   pub rest : List ℕ
@@ -36,7 +38,8 @@ pub record IsFirstBad (bytes : List ℕ) (line : ℕ) : Type 0 where
   pub lines : AllByRecursion HasNoFeed before
   pub place : line ≡ suc (length before)
   pub begins : BeginsOne (ended before)
-  pub bad : (here after : List ℕ) → HasNoFeed here → rest ≡ here ++ 10 ∷ after → ¬ (BeginsOne (ended before ++ (here ++ 10 ∷ [])))
+  pub bad : (here after : List ℕ) → HasNoFeed here → rest ≡ here ++ 10 ∷ after
+      → ¬ (BeginsOne (ended before ++ (here ++ 10 ∷ [])))
   pub none : (c : Certificate) → ¬ (IsTextOf bytes c)
 
 -- A refusal tells the first bad line; want of memory says nothing of the text.

@@ -1,5 +1,6 @@
 -- Which line may stand next in a certificate's text.
-use Rattle.std.specs.Prelude.{◌≡◌, ◌≢◌, ℕ, ◌^◌, ◌<◌, if◌then◌else◌, nat_eq, ◌⊎◌, List, [], ◌∷◌, ◌++◌}
+use Rattle.std.specs.Prelude.{◌≡◌, ◌≢◌, ℕ, ◌^◌, ◌<◌, if◌then◌else◌, nat_eq, ◌⊎◌, List, [], ◌∷◌}
+use Rattle.std.specs.Prelude.{◌++◌}
 use Rattle.bz_model.specs.declared.cell.Cell.{Cell}
 use Rattle.bz_model.specs.Number.{IsPart}
 use Rattle.class_system.specs.declared.draft.Mode.{Mode}
@@ -39,32 +40,44 @@ pub data May : Stage → Line → Stage → Type 0 where
   digest : {d : List ℕ} → IsDigest d → May AtDigest (Line.Spec d) AtX
   x : {n d : ℕ} → IsPart n → IsPart d → May AtX (Line.X n d) AtFraction
   fraction : {f : ℕ} → f < 2 ^ 32 → May AtFraction (Line.Fraction f) AtWindow
-  window : {min max : ℕ} → IsSmall min → IsSmall max → May AtWindow (Line.Window min max) (AtBase [])
-  base : {names : List (List ℕ)} {name : List ℕ} {value : ℕ} → IsName name → IsMissing name names → IsSmall value → May (AtBase names) (Line.Base name value) (AtBase (names ++ name ∷ []))
-  last_base : {names : List (List ℕ)} {line : Line} {next : Stage} → May AtObject line next → May (AtBase names) line next
-  object : {number place size : ℕ} → IsSmall number → IsSmall place → IsSmall size → May AtObject (Line.Object number place size) AtText
-  left_open : {straddle : Straddle} → IsOpen straddle → OpenInRange straddle → May AtObject (Line.Open straddle) AtEnd
-  end : {word : ClosingWord} {kept thrown bits turns : ℕ} → word ≢ Undecided → IsSmall kept → IsSmall thrown → IsSmall bits → IsSmall turns → May AtObject (Line.End word kept thrown bits turns) Over
+  window : {min max : ℕ} → IsSmall min → IsSmall max
+      → May AtWindow (Line.Window min max) (AtBase [])
+  base : {names : List (List ℕ)} {name : List ℕ} {value : ℕ} → IsName name → IsMissing name names
+      → IsSmall value → May (AtBase names) (Line.Base name value) (AtBase (names ++ name ∷ []))
+  last_base : {names : List (List ℕ)} {line : Line} {next : Stage} → May AtObject line next
+      → May (AtBase names) line next
+  object : {number place size : ℕ} → IsSmall number → IsSmall place → IsSmall size
+      → May AtObject (Line.Object number place size) AtText
+  left_open : {straddle : Straddle} → IsOpen straddle → OpenInRange straddle
+      → May AtObject (Line.Open straddle) AtEnd
+  end : {word : ClosingWord} {kept thrown bits turns : ℕ} → word ≢ Undecided → IsSmall kept
+      → IsSmall thrown → IsSmall bits → IsSmall turns
+      → May AtObject (Line.End word kept thrown bits turns) Over
   text : {text : List ℕ} → IsPrinted text → May AtText (Line.Text text) AtCells
   cells : {cells : List Cell} → AreCells cells → May AtCells (Line.Cells cells) AtObject
-  undecided : {kept thrown bits turns : ℕ} → IsSmall kept → IsSmall thrown → IsSmall bits → IsSmall turns → May AtEnd (Line.End Undecided kept thrown bits turns) Over
+  undecided : {kept thrown bits turns : ℕ} → IsSmall kept → IsSmall thrown → IsSmall bits
+      → IsSmall turns → May AtEnd (Line.End Undecided kept thrown bits turns) Over
 
 -- Lines may stand one after the other.
 pub data Way : Stage → List Line → Stage → Type 0 where
   stay : {at : Stage} → Way at [] at
-  go : {at next last : Stage} {line : Line} {lines : List Line} → May at line next → Way next lines last → Way at (line ∷ lines) last
+  go : {at next last : Stage} {line : Line} {lines : List Line} → May at line next
+      → Way next lines last → Way at (line ∷ lines) last
 
 -- A text begins with these lines, and this is left.
-pub record Passes (at : Stage) (text : List ℕ) (lines : List Line) (next : Stage) (rest : List ℕ) : Type 0 where
+pub record Passes (at : Stage) (text : List ℕ) (lines : List Line) (next : Stage) (rest : List ℕ)
+    : Type 0 where
   pub way : Way at lines next
   pub split : text ≡ text_of lines ++ rest
 
 -- No line that may stand next stands in front.
 pub record IsStuck (at : Stage) (text : List ℕ) : Type 0 where
-  pub line : (line : Line) (next : Stage) (rest : List ℕ) → May at line next → text ≢ whole_line line ++ rest
+  pub line : (line : Line) (next : Stage) (rest : List ℕ) → May at line next
+      → text ≢ whole_line line ++ rest
   pub unfinished : at ≡ Over → text ≢ []
 
--- A text begins with lines that may stand one after the other, and there no further line may stand in front of what is left.
+-- A text begins with lines that may stand one after the other, and there no further line may stand
+-- in front of what is left.
 pub record Fails (at : Stage) (text left : List ℕ) : Type 0 where
   pub lines : List Line
   pub stage : Stage
@@ -73,12 +86,15 @@ pub record Fails (at : Stage) (text left : List ℕ) : Type 0 where
 
 -- In front stands no line of the base with a new name.
 pub record HasNoBase (names : List (List ℕ)) (text : List ℕ) : Type 0 where
-  pub none : (name : List ℕ) (value : ℕ) (rest : List ℕ) → IsName name → IsMissing name names → IsSmall value → text ≢ whole_line (Line.Base name value) ++ rest
+  pub none : (name : List ℕ) (value : ℕ) (rest : List ℕ) → IsName name → IsMissing name names
+      → IsSmall value → text ≢ whole_line (Line.Base name value) ++ rest
 
 -- In front stands no first line of an object.
 pub record HasNoObject (text : List ℕ) : Type 0 where
-  pub none : (number place size : ℕ) (rest : List ℕ) → IsSmall number → IsSmall place → IsSmall size → text ≢ whole_line (Line.Object number place size) ++ rest
+  pub none : (number place size : ℕ) (rest : List ℕ) → IsSmall number → IsSmall place → IsSmall size
+      → text ≢ whole_line (Line.Object number place size) ++ rest
 
 -- In front stands no line of a number that was left open.
 pub record HasNoOpen (text : List ℕ) : Type 0 where
-  pub none : (s : Straddle) (rest : List ℕ) → IsOpen s → OpenInRange s → text ≢ whole_line (Line.Open s) ++ rest
+  pub none : (s : Straddle) (rest : List ℕ) → IsOpen s → OpenInRange s
+      → text ≢ whole_line (Line.Open s) ++ rest

@@ -13,4 +13,5 @@ pub record Check : Type 1 where
 -- The verdict on tests in order tells the first that fails; where each passes it is Valid.
 abbrev pub FirstFails : List Check → Verdict → Type 0
 FirstFails [] verdict = verdict ≡ Valid
-FirstFails (check ∷ checks) verdict = (check.passes × FirstFails checks verdict) ⊎ ((¬ check.passes) × (verdict ≡ Invalid check.line check.reason))
+FirstFails (check ∷ checks) verdict = (check.passes × FirstFails checks verdict)
+    ⊎ ((¬ check.passes) × (verdict ≡ Invalid check.line check.reason))

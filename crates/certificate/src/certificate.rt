@@ -65,7 +65,8 @@ impl CertEntries {
         }
     }
 
-    /// Appends an entry. A refusal, which comes for want of memory alone, leaves the list unchanged.
+    /// Appends an entry. A refusal, which comes for want of memory alone, leaves the list
+    /// unchanged.
     pub fn push(&mut self, item: CertEntry) -> Result<(), AllocError>
         ensures ok { OnOk result (self.new ≡ self.old ++ item ∷ []) }
         ensures err { OnErr result (self.new ≡ self.old) }

@@ -1,13 +1,16 @@
 //! Testing the entries of a certificate, each made again from its own cells.
-ghost use Rattle.std.specs.Prelude.{◌≡◌, ◌≢◌, true, false, ◌+◌, ◌*◌, ◌^◌, ◌<◌, ◌≤◌, ◌↔◌, suc, length, IsTrue, Some, IfOk};
+ghost use Rattle.std.specs.Prelude.{◌≡◌, ◌≢◌, true, false, ◌+◌, ◌*◌, ◌^◌, ◌<◌, ◌≤◌, ◌↔◌, suc};
+ghost use Rattle.std.specs.Prelude.{length, IsTrue, Some, IfOk};
 ghost use Rattle.std.specs.List.{AllByRecursion};
+ghost use Rattle.bz_model.specs.Fraction.{IsFractionBits};
 ghost use Rattle.bz_model.specs.Cell.{AreCells};
 ghost use Rattle.bz_model.specs.Oracle.{LeavesOracle};
 ghost use Rattle.labelling.specs.LabelsByBits.{bits_in};
 ghost use Rattle.object_store.specs.Tokens.{IsOf};
 ghost use Rattle.object_text.specs.Labels.{HasOneForEach};
 ghost use Rattle.shape_sampler.specs.State.{SessionBelongs};
-ghost use Rattle.certificate.specs.Checks.{entry_checks, entries_checks, made_checks, IsNext, IsSized};
+ghost use Rattle.certificate.specs.Checks.{entry_checks, entries_checks, made_checks, IsNext};
+ghost use Rattle.certificate.specs.Checks.{IsSized};
 ghost use Rattle.certificate.specs.Soundness.{IsSoundEntry};
 ghost use Rattle.certificate.specs.Verdicts.{FirstFails};
 ghost use Rattle.certificate.specs.declared.reason.Verdict.TheVariants as verdict;
@@ -53,7 +56,7 @@ pub(crate) fn test_entries<const F: u32, O: Oracle<F>, L: Ledger>(
     line: u64,
     steps: &mut Steps<L>,
 ) -> Result<Verdict, AllocError>
-    requires fraction { (24 ≤ F) × (F ≤ 56) }
+    requires fraction_bits { IsFractionBits F }
     requires spec { O.spec oracle.old ≡ founded.now }
     requires session { SessionBelongs founded.now (O.x oracle.old) session.old }
     requires room { session.old.whole ≡ window.greatest }
@@ -126,7 +129,7 @@ fn test_entry<const F: u32, O: Oracle<F>, L: Ledger>(
     before: Before,
     steps: &mut Steps<L>,
 ) -> Result<Verdict, AllocError>
-    requires fraction { (24 ≤ F) × (F ≤ 56) }
+    requires fraction_bits { IsFractionBits F }
     requires spec { O.spec oracle.old ≡ founded.now }
     requires session { SessionBelongs founded.now (O.x oracle.old) session.old }
     requires room { session.old.whole ≡ window.greatest }
@@ -161,7 +164,8 @@ fn test_entry<const F: u32, O: Oracle<F>, L: Ledger>(
     test_made(alloc, founded, &made, window, entry, before.line)
 }
 
-/// Tests that what was made of an entry's cells has the entry's size, within the window, and its text.
+/// Tests that what was made of an entry's cells has the entry's size, within the window, and its
+/// text.
 fn test_made(
     alloc: Global,
     founded: &Founded,

@@ -1,12 +1,14 @@
 //! The fields of a certificate's lines, read exactly.
-ghost use Rattle.std.specs.Prelude.{◌≡◌, ◌≢◌, ◌∷◌, ◌++◌, [], ℕ, List, true, false, ◌^◌, ◌<◌, ◌≤◌, ◌↔◌, length, codes, slice_index, IsTrue, IfSome, IfNone, IfOk};
+ghost use Rattle.std.specs.Prelude.{◌≡◌, ◌≢◌, ◌∷◌, ◌++◌, [], ℕ, List, true, false, ◌^◌, ◌<◌, ◌≤◌};
+ghost use Rattle.std.specs.Prelude.{◌↔◌, length, codes, slice_index, IsTrue, IfSome, IfNone, IfOk};
 ghost use Rattle.std.specs.Char.{is_ascii_alphabetic};
 ghost use Rattle.std.specs.List.{AllPass, AllByRecursion};
 ghost use Rattle.bz_model.specs.declared.cell.Cell.{Cell};
 ghost use Rattle.bz_model.specs.Cell.{IsCell};
 ghost use Rattle.class_system.specs.Words.{IsName, is_run_byte, kept_words};
 ghost use Rattle.certificate.specs.Patterns.{filled, HasNoDigit};
-ghost use Rattle.certificate.specs.Fields.{IsPrinted, IsDigest, AreCells, cell_field, cells_text, base_line};
+ghost use Rattle.certificate.specs.Fields.{IsPrinted, IsDigest, AreCells, cell_field, cells_text};
+ghost use Rattle.certificate.specs.Fields.{base_line};
 
 use crate::pattern::{read_front, read_whole};
 use bz_model::cell::Cell;
@@ -37,8 +39,10 @@ pub(crate) fn is_cell(k: u64, b: u64) -> bool
 
 /// The cell at the front of a text, after a space, and what follows it.
 fn cell_at(text: &[u8]) -> Option<(Cell, &[u8])>
-    ensures found { IfSome result (λ found. IsCell found.0.k found.0.b × (text.now ≡ cell_field found.0 ++ found.1.now) × HasNoDigit found.1.now) }
-    ensures none { IfNone result ((cell : Cell) (rest : List ℕ) → IsCell cell.k cell.b → HasNoDigit rest → text.now ≢ cell_field cell ++ rest) }
+    ensures found { IfSome result (λ found. IsCell found.0.k found.0.b
+        × (text.now ≡ cell_field found.0 ++ found.1.now) × HasNoDigit found.1.now) }
+    ensures none { IfNone result ((cell : Cell) (rest : List ℕ) → IsCell cell.k cell.b
+        → HasNoDigit rest → text.now ≢ cell_field cell ++ rest) }
 {
     let mut numbers = [0; 2];
     let rest = read_front(b" #/#", text, &mut numbers)?;
@@ -52,8 +56,10 @@ fn cell_at(text: &[u8]) -> Option<(Cell, &[u8])>
 
 /// The cells of a line; `None` where it is no line of cells.
 pub(crate) fn cells_of(alloc: Global, line: &[u8]) -> Result<Option<Cells>, AllocError>
-    ensures found { IfOk result (λ found. IfSome found (λ cells. AreCells cells.items × (line.now ≡ cells_text cells.items))) }
-    ensures none { IfOk result (λ found. IfNone found ((cells : List Cell) → AreCells cells → line.now ≢ cells_text cells)) }
+    ensures found { IfOk result (λ found. IfSome found (λ cells. AreCells cells.items
+        × (line.now ≡ cells_text cells.items))) }
+    ensures none { IfOk result (λ found. IfNone found ((cells : List Cell) → AreCells cells
+        → line.now ≢ cells_text cells)) }
 {
     let mut cells = Cells::new(alloc);
     let Some(mut rest) = behind_word(b"cells", line) else {
@@ -120,8 +126,10 @@ fn before_space(text: &[u8]) -> usize
 
 /// The name and the value of a line of the base; `None` where it is no such line.
 pub(crate) fn base_of(line: &[u8]) -> Option<(&[u8], u64)>
-    ensures found { IfSome result (λ found. IsName found.0.now × (found.1 < 2 ^ 64) × (line.now ≡ base_line found.0.now found.1)) }
-    ensures none { IfNone result ((name : List ℕ) (value : ℕ) → IsName name → value < 2 ^ 64 → line.now ≢ base_line name value) }
+    ensures found { IfSome result (λ found. IsName found.0.now × (found.1 < 2 ^ 64)
+        × (line.now ≡ base_line found.0.now found.1)) }
+    ensures none { IfNone result ((name : List ℕ) (value : ℕ) → IsName name → value < 2 ^ 64
+        → line.now ≢ base_line name value) }
 {
     let rest = behind_word(b"base ", line)?;
     let end = before_space(rest);

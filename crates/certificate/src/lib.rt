@@ -1,17 +1,21 @@
 //! Certificates: what a drawing prints, as values and as text.
 //!
-//! `certificate` and `closing` have the values, `write` gives their lines, `read` reads them. The lines
+//! `certificate` and `closing` have the values, `write` gives their lines, `read` reads them. The
+//! lines
 //! and their texts are defined in `specs/Lines.antt`, a certificate's lines in
 //! `specs/Certificates.antt`. A line of words and numbers is a pattern with numbers put in
 //! (`specs/Patterns.antt`).
 //!
 //! A text is read exactly: what is read has this text, and a refusal names the first bad line
-//! (`specs/Reading.antt`). `specs/Stages.antt` says which line may stand next; `stages` reads the line in
-//! front of a text, by the readers of lines in `lines` and of fields in `fields`. `laws` says that one
+//! (`specs/Reading.antt`). `specs/Stages.antt` says which line may stand next; `stages` reads the
+//! line in
+//! front of a text, by the readers of lines in `lines` and of fields in `fields`. `laws` says that
+//! one
 //! text has one certificate and at most one first bad line, and that what is written is read.
 //!
 //! `verify` makes the tests of `specs/Checks.antt` in order, those of entries by `entry_tests`. Its
-//! verdict (`reason`) tells the first that fails (`specs/Verdicts.antt`); a valid certificate is sound
+//! verdict (`reason`) tells the first that fails (`specs/Verdicts.antt`); a valid certificate is
+//! sound
 //! (`specs/Soundness.antt`). No clause says that memory suffices.
 #![tactic(auto)]
 

@@ -1,5 +1,6 @@
 //! The lines of a certificate, read exactly.
-ghost use Rattle.std.specs.Prelude.{◌≡◌, ◌≢◌, ◌⊎◌, ◌^◌, ◌<◌, ◌≤◌, ◌↔◌, ℕ, List, None, IsTrue, IfSome, IfNone};
+ghost use Rattle.std.specs.Prelude.{◌≡◌, ◌≢◌, ◌⊎◌, ◌^◌, ◌<◌, ◌≤◌, ◌↔◌, ℕ, List, None, IsTrue};
+ghost use Rattle.std.specs.Prelude.{IfSome, IfNone};
 ghost use Rattle.hex.specs.Hex.{encode_lower};
 ghost use Rattle.bz_model.specs.declared.cell.Cell.{Cell};
 ghost use Rattle.bz_model.specs.Cell.{IsCell};
@@ -11,7 +12,8 @@ ghost use Rattle.size_window.specs.declared.ending.Straddle.TheVariants as strad
 ghost use Rattle.certificate.specs.declared.closing.ClosingWord.{ClosingWord};
 ghost use Rattle.certificate.specs.Certificates.{IsOpen};
 ghost use Rattle.certificate.specs.Fields.{IsPrinted, IsDigest, spec_line};
-ghost use Rattle.certificate.specs.Lines.{version_line, mode_line, x_line, fraction_line, window_line, object_line, text_line, open_line, end_line};
+ghost use Rattle.certificate.specs.Lines.{version_line, mode_line, x_line, fraction_line};
+ghost use Rattle.certificate.specs.Lines.{window_line, object_line, text_line, open_line, end_line};
 ghost use Rattle.certificate.specs.Ranges.{IsSmall, OpenInRange, ClosingInRange};
 
 use crate::closing::{Closing, ClosingWord};
@@ -62,7 +64,8 @@ pub(crate) fn mode_of(line: &[u8]) -> Option<Mode>
 /// The digest of the digest's line; `None` where it is no such line.
 pub(crate) fn digest_of(line: &[u8]) -> Option<SpecDigest>
     ensures found { IfSome result (λ digest. IsDigest digest × (line.now ≡ spec_line digest)) }
-    ensures none { IfNone result ((digest : List ℕ) → IsDigest digest → line.now ≢ spec_line digest) }
+    ensures none { IfNone result ((digest : List ℕ) → IsDigest digest
+        → line.now ≢ spec_line digest) }
 {
     let text = behind_word(b"spec ", line)?;
     match <[u8; 32] as FromHex>::from_hex(text) {
@@ -82,7 +85,8 @@ fn is_hex_of(bytes: &[u8; 32], text: &[u8]) -> bool
 /// The fraction of x's line; `None` where it is no such line.
 pub(crate) fn x_of(line: &[u8]) -> Option<Fraction>
     ensures found { IfSome result (λ x. line.now ≡ x_line x.num x.den) }
-    ensures none { IfNone result ((num den : ℕ) → IsPart num → IsPart den → line.now ≢ x_line num den) }
+    ensures none { IfNone result ((num den : ℕ) → IsPart num → IsPart den
+        → line.now ≢ x_line num den) }
 {
     let mut numbers = [0; 2];
     if !read_whole(b"x #/#", line, &mut numbers) {
@@ -121,8 +125,10 @@ pub(crate) fn fraction_of(line: &[u8]) -> Option<u32>
 
 /// The least and the greatest size of the window's line; `None` where it is no such line.
 pub(crate) fn window_of(line: &[u8]) -> Option<(u64, u64)>
-    ensures found { IfSome result (λ w. IsSmall w.0 × IsSmall w.1 × (line.now ≡ window_line w.0 w.1)) }
-    ensures none { IfNone result ((min max : ℕ) → IsSmall min → IsSmall max → line.now ≢ window_line min max) }
+    ensures found { IfSome result (λ w. IsSmall w.0 × IsSmall w.1
+        × (line.now ≡ window_line w.0 w.1)) }
+    ensures none { IfNone result ((min max : ℕ) → IsSmall min → IsSmall max
+        → line.now ≢ window_line min max) }
 {
     let mut numbers = [0; 2];
     if !read_whole(b"window # #", line, &mut numbers) {
@@ -133,8 +139,10 @@ pub(crate) fn window_of(line: &[u8]) -> Option<(u64, u64)>
 
 /// The number, the place and the size of an object's first line; `None` where it is no such line.
 pub(crate) fn object_of(line: &[u8]) -> Option<(u64, u64, u64)>
-    ensures found { IfSome result (λ o. IsSmall o.0 × IsSmall o.1 × IsSmall o.2 × (line.now ≡ object_line o.0 o.1 o.2)) }
-    ensures none { IfNone result ((number place size : ℕ) → IsSmall number → IsSmall place → IsSmall size → line.now ≢ object_line number place size) }
+    ensures found { IfSome result (λ o. IsSmall o.0 × IsSmall o.1 × IsSmall o.2
+        × (line.now ≡ object_line o.0 o.1 o.2)) }
+    ensures none { IfNone result ((number place size : ℕ) → IsSmall number → IsSmall place
+        → IsSmall size → line.now ≢ object_line number place size) }
 {
     let mut numbers = [0; 3];
     if !read_whole(b"object # at # size #", line, &mut numbers) {
@@ -165,7 +173,9 @@ fn is_full_cell(k: u64, b: u64) -> bool
 /// The number left open at a node of such a line; `None` where it is no such line.
 fn node_of(line: &[u8]) -> Option<Straddle>
     ensures found { IfSome result (λ s. IsOpen s × OpenInRange s × (line.now ≡ open_line s)) }
-    ensures none { IfNone result ((node : ExprId) (cell : Cell) (lo hi : ℕ) → IsOpen (straddle.Node node cell lo hi) → OpenInRange (straddle.Node node cell lo hi) → line.now ≢ open_line (straddle.Node node cell lo hi)) }
+    ensures none { IfNone result ((node : ExprId) (cell : Cell) (lo hi : ℕ)
+        → IsOpen (straddle.Node node cell lo hi) → OpenInRange (straddle.Node node cell lo hi)
+        → line.now ≢ open_line (straddle.Node node cell lo hi)) }
 {
     let mut numbers = [0; 5];
     if !read_whole(b"undecided node # cell #/# within # #", line, &mut numbers) {
@@ -188,7 +198,8 @@ fn node_of(line: &[u8]) -> Option<Straddle>
 /// The number left open for a label of such a line; `None` where it is no such line.
 fn label_of(line: &[u8]) -> Option<Straddle>
     ensures found { IfSome result (λ s. IsOpen s × OpenInRange s × (line.now ≡ open_line s)) }
-    ensures none { IfNone result ((m : ℕ) (cell : Cell) → IsOpen (straddle.Label m cell) → OpenInRange (straddle.Label m cell) → line.now ≢ open_line (straddle.Label m cell)) }
+    ensures none { IfNone result ((m : ℕ) (cell : Cell) → IsOpen (straddle.Label m cell)
+        → OpenInRange (straddle.Label m cell) → line.now ≢ open_line (straddle.Label m cell)) }
 {
     let mut numbers = [0; 3];
     if !read_whole(b"undecided label # cell #/#", line, &mut numbers) {
@@ -208,7 +219,8 @@ fn label_of(line: &[u8]) -> Option<Straddle>
 /// The number left open of such a line; `None` where it is no such line.
 pub(crate) fn open_of(line: &[u8]) -> Option<Straddle>
     ensures found { IfSome result (λ s. IsOpen s × OpenInRange s × (line.now ≡ open_line s)) }
-    ensures none { IfNone result ((s : Straddle) → IsOpen s → OpenInRange s → line.now ≢ open_line s) }
+    ensures none { IfNone result ((s : Straddle) → IsOpen s → OpenInRange s
+        → line.now ≢ open_line s) }
 {
     match node_of(line) {
         Some(straddle) => Some(straddle),
@@ -220,8 +232,10 @@ pub(crate) fn open_of(line: &[u8]) -> Option<Straddle>
 /// such line.
 fn closing_of(word: ClosingWord, line: &[u8]) -> Option<Closing>
     ensures word { IfSome result (λ c. (c.word ≡ word) × (c.straddle ≡ None)) }
-    ensures found { IfSome result (λ c. ClosingInRange c × (line.now ≡ end_line c.word c.kept c.thrown c.bits c.turns)) }
-    ensures none { IfNone result ((kept thrown bits turns : ℕ) → IsSmall kept → IsSmall thrown → IsSmall bits → IsSmall turns → line.now ≢ end_line word kept thrown bits turns) }
+    ensures found { IfSome result (λ c. ClosingInRange c
+        × (line.now ≡ end_line c.word c.kept c.thrown c.bits c.turns)) }
+    ensures none { IfNone result ((kept thrown bits turns : ℕ) → IsSmall kept → IsSmall thrown
+        → IsSmall bits → IsSmall turns → line.now ≢ end_line word kept thrown bits turns) }
 {
     let mut numbers = [0; 4];
     if !read_whole(pattern_of(word), line, &mut numbers) {
@@ -240,8 +254,11 @@ fn closing_of(word: ClosingWord, line: &[u8]) -> Option<Closing>
 /// The closing of the last line, without a number left open; `None` where it is no such line.
 pub(crate) fn end_of(line: &[u8]) -> Option<Closing>
     ensures open { IfSome result (λ c. c.straddle ≡ None) }
-    ensures found { IfSome result (λ c. ClosingInRange c × (line.now ≡ end_line c.word c.kept c.thrown c.bits c.turns)) }
-    ensures none { IfNone result ((word : ClosingWord) (kept thrown bits turns : ℕ) → IsSmall kept → IsSmall thrown → IsSmall bits → IsSmall turns → line.now ≢ end_line word kept thrown bits turns) }
+    ensures found { IfSome result (λ c. ClosingInRange c
+        × (line.now ≡ end_line c.word c.kept c.thrown c.bits c.turns)) }
+    ensures none { IfNone result ((word : ClosingWord) (kept thrown bits turns : ℕ) → IsSmall kept
+        → IsSmall thrown → IsSmall bits → IsSmall turns
+        → line.now ≢ end_line word kept thrown bits turns) }
 {
     if let Some(closing) = closing_of(ClosingWord::Done, line) {
         return Some(closing);

@@ -1,7 +1,10 @@
 //! Lines of words and numbers, written and read by their patterns.
-ghost use Rattle.std.specs.Prelude.{◌≡◌, ◌≢◌, ℕ, ◌+◌, ◌^◌, ◌<◌, ◌≤◌, ◌↔◌, ◌∷◌, ◌++◌, [], List, true, length, decimal, slice_index, IsTrue, IfSome, IfNone, OnOk};
+ghost use Rattle.std.specs.Prelude.{◌≡◌, ◌≢◌, ℕ, ◌+◌, ◌^◌, ◌<◌, ◌≤◌, ◌↔◌, ◌∷◌, ◌++◌, [], List};
+ghost use Rattle.std.specs.Prelude.{true, length, decimal, slice_index, IsTrue, IfSome, IfNone};
+ghost use Rattle.std.specs.Prelude.{OnOk};
 ghost use Rattle.std.specs.Bool.{OnTrue};
-ghost use Rattle.certificate.specs.Patterns.{filled, places, is_apart, HasNoDigit, AreSmall, BeginsNumber, BeginsFilled};
+ghost use Rattle.certificate.specs.Patterns.{filled, places, is_apart, HasNoDigit, AreSmall};
+ghost use Rattle.certificate.specs.Patterns.{BeginsNumber, BeginsFilled};
 
 use bz_model::number::read_number;
 use itoa::Buffer;
@@ -39,8 +42,10 @@ pub(crate) fn push_filled(
 /// How many digits a text begins with.
 fn digits(text: &[u8]) -> usize
     ensures within { result ≤ length text.now }
-    ensures digits { (k : ℕ) → k < result → (48 ≤ slice_index text.now k) × (slice_index text.now k ≤ 57) }
-    ensures ends { result < length text.now → ¬ ((48 ≤ slice_index text.now result) × (slice_index text.now result ≤ 57)) }
+    ensures digits { (k : ℕ) → k < result → (48 ≤ slice_index text.now k)
+        × (slice_index text.now k ≤ 57) }
+    ensures ends { result < length text.now
+        → ¬ ((48 ≤ slice_index text.now result) × (slice_index text.now result ≤ 57)) }
 {
     for (i, byte) in text.iter().enumerate() {
         if *byte < b'0' || *byte > b'9' {
@@ -82,7 +87,8 @@ pub(crate) fn read_front<'a>(
     requires apart { is_apart pattern.now ≡ true }
     requires room { places pattern.now ≤ length numbers.old }
     ensures found { IfSome result (λ rest. BeginsFilled pattern.now text.now numbers.new rest.now) }
-    ensures none { IfNone result ((others rest : List ℕ) → ¬ BeginsFilled pattern.now text.now others rest) }
+    ensures none { IfNone result ((others rest : List ℕ)
+        → ¬ BeginsFilled pattern.now text.now others rest) }
 {
     let mut next = 0;
     let mut rest = text;
@@ -103,8 +109,10 @@ pub(crate) fn read_front<'a>(
 pub(crate) fn read_whole(pattern: &[u8], line: &[u8], numbers: &mut [u64]) -> bool
     requires apart { is_apart pattern.now ≡ true }
     requires room { places pattern.now ≤ length numbers.old }
-    ensures found { OnTrue result (AreSmall numbers.new × (line.now ≡ filled pattern.now numbers.new)) }
-    ensures none { (others : List ℕ) → AreSmall others → line.now ≡ filled pattern.now others → IsTrue result }
+    ensures found { OnTrue result (AreSmall numbers.new
+        × (line.now ≡ filled pattern.now numbers.new)) }
+    ensures none { (others : List ℕ) → AreSmall others → line.now ≡ filled pattern.now others
+        → IsTrue result }
 {
     match read_front(pattern, line, numbers) {
         Some(rest) => rest.is_empty(),

@@ -1,6 +1,9 @@
 //! Certificates read from their texts.
-ghost use Rattle.std.specs.Prelude.{◌≡◌, ◌<◌, ◌≤◌, ◌-◌, ◌++◌, [], ℕ, suc, take, length, flat_map, nat_eq, count_by, IfOk, IfErr, IfSome, IfNone};
-ghost use Rattle.certificate.specs.Certificates.{IsCertificate, spec_lines, base_lines, header_lines, entry_lines, closing_lines, certificate_lines};
+ghost use Rattle.std.specs.Prelude.{◌≡◌, ◌<◌, ◌≤◌, ◌-◌, ◌++◌, [], ℕ, suc, take, length, flat_map};
+ghost use Rattle.std.specs.Prelude.{nat_eq, count_by, IfOk, IfErr, IfSome, IfNone};
+ghost use Rattle.certificate.specs.Certificates.{IsCertificate, spec_lines, base_lines};
+ghost use Rattle.certificate.specs.Certificates.{header_lines, entry_lines, closing_lines};
+ghost use Rattle.certificate.specs.Certificates.{certificate_lines};
 ghost use Rattle.certificate.specs.Reading.{IsTextOf, IsRefusal};
 ghost use Rattle.certificate.specs.Stages.{Stage, after_mode, Passes, HasNoBase, HasNoObject};
 ghost use Rattle.certificate.specs.Stops.{StopsAt};
@@ -49,7 +52,8 @@ impl From<AllocError> for Stop {
 
 /// The certificate that a text is, to the last byte.
 ///
-/// `BadLine` comes exactly where the text is no certificate's, `OutOfMemory` for want of memory alone.
+/// `BadLine` comes exactly where the text is no certificate's, `OutOfMemory` for want of memory
+/// alone.
 /// The specification isn't looked at.
 pub fn read(alloc: Global, bytes: &[u8]) -> Result<Certificate, CertFault>
     ensures ok { IfOk result (IsTextOf bytes.now) }
@@ -93,7 +97,8 @@ fn read_certificate(alloc: Global, bytes: &[u8]) -> Result<Certificate, Stop>
 
 /// The header in front of a text, and what follows it.
 fn read_header(alloc: Global, text: &[u8]) -> Result<(Header, &[u8]), Stop>
-    ensures ok { IfOk result (λ p. Passes Stage.AtVersion text.now (header_lines p.0) (Stage.AtBase p.0.names) p.1.now) }
+    ensures ok { IfOk result (λ p. Passes Stage.AtVersion text.now (header_lines p.0)
+        (Stage.AtBase p.0.names) p.1.now) }
     ensures one_each { IfOk result (λ p. length p.0.base ≡ length p.0.names) }
     ensures last { IfOk result (λ p. HasNoBase p.0.names p.1.now) }
     ensures err { IfErr result (StopsAt Stage.AtVersion text.now) }
@@ -145,7 +150,8 @@ fn read_digest(version: u8, text: &[u8]) -> Result<(Option<SpecDigest>, &[u8]), 
 
 /// The names and the values of the base in front of a text, and what follows its lines.
 fn read_bases(alloc: Global, text: &[u8]) -> Result<(Names, Values, &[u8]), AllocError>
-    ensures passes { IfOk result (λ p. Passes (Stage.AtBase []) text.now (base_lines p.0 p.1) (Stage.AtBase p.0) p.2.now) }
+    ensures passes { IfOk result (λ p. Passes (Stage.AtBase []) text.now (base_lines p.0 p.1)
+        (Stage.AtBase p.0) p.2.now) }
     ensures one_each { IfOk result (λ p. length p.1 ≡ length p.0) }
     ensures last { IfOk result (λ p. HasNoBase p.0 p.2.now) }
 {
@@ -162,7 +168,8 @@ fn read_bases(alloc: Global, text: &[u8]) -> Result<(Names, Values, &[u8]), Allo
 
 /// The entries in front of a text, and what follows them.
 fn read_entries(alloc: Global, text: &[u8]) -> Result<(CertEntries, &[u8]), Stop>
-    ensures ok { IfOk result (λ p. Passes Stage.AtObject text.now (flat_map entry_lines p.0) Stage.AtObject p.1.now) }
+    ensures ok { IfOk result (λ p. Passes Stage.AtObject text.now (flat_map entry_lines p.0) Stage.AtObject
+        p.1.now) }
     ensures last { IfOk result (λ p. HasNoObject p.1.now) }
     ensures err { IfErr result (StopsAt Stage.AtObject text.now) }
 {
@@ -177,7 +184,9 @@ fn read_entries(alloc: Global, text: &[u8]) -> Result<(CertEntries, &[u8]), Stop
 
 /// The entry in front of a text, where its first line stands there, and what follows it.
 fn read_entry(alloc: Global, text: &[u8]) -> Result<Option<(CertEntry, &[u8])>, Stop>
-    ensures ok { IfOk result (λ o. IfSome o (λ p. Passes Stage.AtObject text.now (entry_lines p.0) Stage.AtObject p.1.now)) }
+    ensures ok { IfOk result
+        (λ o. IfSome o (λ p. Passes Stage.AtObject text.now (entry_lines p.0) Stage.AtObject
+        p.1.now)) }
     ensures none { IfOk result (λ o. IfNone o (HasNoObject text.now)) }
     ensures err { IfErr result (StopsAt Stage.AtObject text.now) }
 {

@@ -13,7 +13,8 @@ pub enum Reason {
     Window,
     /// The names aren't the classes in order, or the base isn't post-fixed.
     Base,
-    /// An entry's number isn't the next, its place is too early, or its size isn't that of its object
+    /// An entry's number isn't the next, its place is too early, or its size isn't that of its
+    /// object
     /// or not within the window.
     Object,
     /// No object is made of an entry's cells.
@@ -24,7 +25,8 @@ pub enum Reason {
     Closing,
 }
 
-/// Whether each test passes, or the first that fails, with the line where its field is, counted from 1.
+/// Whether each test passes, or the first that fails, with the line where its field is, counted
+/// from 1.
 #[derive(Clone, Copy, Debug, PartialEq, Eq)]
 pub enum Verdict {
     Valid,

@@ -1,10 +1,12 @@
 //! The line in front of a text, where it may stand next in a certificate.
-ghost use Rattle.std.specs.Prelude.{◌≡◌, ◌≢◌, ◌+◌, ◌<◌, ◌≤◌, ◌∷◌, ◌++◌, [], ℕ, List, None, Some, length, slice_index, IfSome, IfNone, IfOk};
+ghost use Rattle.std.specs.Prelude.{◌≡◌, ◌≢◌, ◌+◌, ◌<◌, ◌≤◌, ◌∷◌, ◌++◌, [], ℕ, List, None, Some};
+ghost use Rattle.std.specs.Prelude.{length, slice_index, IfSome, IfNone, IfOk};
 ghost use Rattle.class_system.specs.Distinct.{IsMissing};
 ghost use Rattle.certificate.specs.Certificates.{closing_lines};
 ghost use Rattle.certificate.specs.Lines.{Line};
 ghost use Rattle.certificate.specs.Reading.{HasNoFeed};
-ghost use Rattle.certificate.specs.Stages.{Stage, after_mode, Passes, IsStuck, HasNoBase, HasNoObject, HasNoOpen};
+ghost use Rattle.certificate.specs.Stages.{Stage, after_mode, Passes, IsStuck, HasNoBase};
+ghost use Rattle.certificate.specs.Stages.{HasNoObject, HasNoOpen};
 
 use crate::closing::{Closing, ClosingWord};
 use crate::digest::SpecDigest;
@@ -50,7 +52,8 @@ fn line_end(text: &[u8]) -> usize
 
 /// The version of the first line in front, and what follows the line.
 pub(crate) fn version_at(text: &[u8]) -> Option<(u8, &[u8])>
-    ensures found { IfSome result (λ p. Passes Stage.AtVersion text.now (Line.Version p.0 ∷ []) (Stage.AtMode p.0) p.1.now) }
+    ensures found { IfSome result (λ p. Passes Stage.AtVersion text.now (Line.Version p.0
+        ∷ []) (Stage.AtMode p.0) p.1.now) }
     ensures none { IfNone result (IsStuck Stage.AtVersion text.now) }
 {
     let (line, rest) = next_line(text)?;
@@ -60,7 +63,8 @@ pub(crate) fn version_at(text: &[u8]) -> Option<(u8, &[u8])>
 
 /// The mode of the line in front, and what follows the line.
 pub(crate) fn mode_at(version: u8, text: &[u8]) -> Option<(Mode, &[u8])>
-    ensures found { IfSome result (λ p. Passes (Stage.AtMode version) text.now (Line.InMode p.0 ∷ []) (after_mode version) p.1.now) }
+    ensures found { IfSome result (λ p. Passes (Stage.AtMode version) text.now (Line.InMode p.0
+        ∷ []) (after_mode version) p.1.now) }
     ensures none { IfNone result (IsStuck (Stage.AtMode version) text.now) }
 {
     let (line, rest) = next_line(text)?;
@@ -80,7 +84,8 @@ pub(crate) fn digest_at(text: &[u8]) -> Option<(SpecDigest, &[u8])>
 
 /// The fraction of x's line in front, and what follows the line.
 pub(crate) fn x_at(text: &[u8]) -> Option<(Fraction, &[u8])>
-    ensures found { IfSome result (λ p. Passes Stage.AtX text.now (Line.X p.0.num p.0.den ∷ []) Stage.AtFraction p.1.now) }
+    ensures found { IfSome result (λ p. Passes Stage.AtX text.now (Line.X p.0.num p.0.den
+        ∷ []) Stage.AtFraction p.1.now) }
     ensures none { IfNone result (IsStuck Stage.AtX text.now) }
 {
     let (line, rest) = next_line(text)?;
@@ -90,7 +95,8 @@ pub(crate) fn x_at(text: &[u8]) -> Option<(Fraction, &[u8])>
 
 /// The fraction bits of the line in front, and what follows the line.
 pub(crate) fn fraction_at(text: &[u8]) -> Option<(u32, &[u8])>
-    ensures found { IfSome result (λ p. Passes Stage.AtFraction text.now (Line.Fraction p.0 ∷ []) Stage.AtWindow p.1.now) }
+    ensures found { IfSome result (λ p. Passes Stage.AtFraction text.now (Line.Fraction p.0
+        ∷ []) Stage.AtWindow p.1.now) }
     ensures none { IfNone result (IsStuck Stage.AtFraction text.now) }
 {
     let (line, rest) = next_line(text)?;
@@ -100,7 +106,8 @@ pub(crate) fn fraction_at(text: &[u8]) -> Option<(u32, &[u8])>
 
 /// The least and the greatest size of the window's line in front, and what follows the line.
 pub(crate) fn window_at(text: &[u8]) -> Option<((u64, u64), &[u8])>
-    ensures found { IfSome result (λ p. Passes Stage.AtWindow text.now (Line.Window p.0.0 p.0.1 ∷ []) (Stage.AtBase []) p.1.now) }
+    ensures found { IfSome result (λ p. Passes Stage.AtWindow text.now (Line.Window p.0.0 p.0.1
+        ∷ []) (Stage.AtBase []) p.1.now) }
     ensures none { IfNone result (IsStuck Stage.AtWindow text.now) }
 {
     let (line, rest) = next_line(text)?;
@@ -111,7 +118,8 @@ pub(crate) fn window_at(text: &[u8]) -> Option<((u64, u64), &[u8])>
 /// The number, the place and the size of an object's first line in front, and what follows the
 /// line.
 pub(crate) fn object_at(text: &[u8]) -> Option<((u64, u64, u64), &[u8])>
-    ensures found { IfSome result (λ p. Passes Stage.AtObject text.now (Line.Object p.0.0 p.0.1 p.0.2 ∷ []) Stage.AtText p.1.now) }
+    ensures found { IfSome result (λ p. Passes Stage.AtObject text.now (Line.Object p.0.0 p.0.1 p.0.2
+        ∷ []) Stage.AtText p.1.now) }
     ensures none { IfNone result (HasNoObject text.now) }
 {
     let (line, rest) = next_line(text)?;
@@ -121,7 +129,8 @@ pub(crate) fn object_at(text: &[u8]) -> Option<((u64, u64, u64), &[u8])>
 
 /// The text of an object's text line in front, and what follows the line.
 pub(crate) fn text_at(text: &[u8]) -> Option<(&[u8], &[u8])>
-    ensures found { IfSome result (λ p. Passes Stage.AtText text.now (Line.Text p.0.now ∷ []) Stage.AtCells p.1.now) }
+    ensures found { IfSome result (λ p. Passes Stage.AtText text.now (Line.Text p.0.now ∷ []) Stage.AtCells
+        p.1.now) }
     ensures none { IfNone result (IsStuck Stage.AtText text.now) }
 {
     let (line, rest) = next_line(text)?;
@@ -131,7 +140,8 @@ pub(crate) fn text_at(text: &[u8]) -> Option<(&[u8], &[u8])>
 
 /// The number left open of the line in front, and what follows the line.
 pub(crate) fn open_at(text: &[u8]) -> Option<(Straddle, &[u8])>
-    ensures found { IfSome result (λ p. Passes Stage.AtObject text.now (Line.Open p.0 ∷ []) Stage.AtEnd p.1.now) }
+    ensures found { IfSome result (λ p. Passes Stage.AtObject text.now (Line.Open p.0 ∷ []) Stage.AtEnd
+        p.1.now) }
     ensures none { IfNone result (HasNoOpen text.now) }
 {
     let (line, rest) = next_line(text)?;
@@ -146,7 +156,9 @@ pub(crate) fn base_at<'a>(
     names: &Names,
     text: &'a [u8],
 ) -> Result<Option<(Word, u64, &'a [u8])>, AllocError>
-    ensures found { IfOk result (λ o. IfSome o (λ p. IsMissing p.0 names.now × Passes (Stage.AtBase names.now) text.now (Line.Base p.0 p.1 ∷ []) (Stage.AtBase (names.now ++ p.0 ∷ [])) p.2.now)) }
+    ensures found { IfOk result (λ o. IfSome o (λ p. IsMissing p.0 names.now
+        × Passes (Stage.AtBase names.now) text.now (Line.Base p.0 p.1
+        ∷ []) (Stage.AtBase (names.now ++ p.0 ∷ [])) p.2.now)) }
     ensures none { IfOk result (λ o. IfNone o (HasNoBase names.now text.now)) }
 {
     let Some((line, rest)) = next_line(text) else {
@@ -164,7 +176,9 @@ pub(crate) fn base_at<'a>(
 
 /// The cells of the line in front, and what follows the line.
 pub(crate) fn cells_at(alloc: Global, text: &[u8]) -> Result<Option<(Cells, &[u8])>, AllocError>
-    ensures found { IfOk result (λ o. IfSome o (λ p. Passes Stage.AtCells text.now (Line.Cells p.0.items ∷ []) Stage.AtObject p.1.now)) }
+    ensures found { IfOk result
+        (λ o. IfSome o (λ p. Passes Stage.AtCells text.now (Line.Cells p.0.items
+        ∷ []) Stage.AtObject p.1.now)) }
     ensures none { IfOk result (λ o. IfNone o (IsStuck Stage.AtCells text.now)) }
 {
     let Some((line, rest)) = next_line(text) else {
@@ -180,7 +194,8 @@ pub(crate) fn cells_at(alloc: Global, text: &[u8]) -> Result<Option<(Cells, &[u8
 /// the line.
 pub(crate) fn end_at(text: &[u8]) -> Option<(Closing, &[u8])>
     ensures found { IfSome result (λ p. Passes Stage.AtObject text.now (closing_lines p.0) Stage.Over p.1.now) }
-    ensures none { IfNone result (HasNoObject text.now → HasNoOpen text.now → IsStuck Stage.AtObject text.now) }
+    ensures none { IfNone result (HasNoObject text.now → HasNoOpen text.now
+        → IsStuck Stage.AtObject text.now) }
 {
     let (line, rest) = next_line(text)?;
     let closing = end_of(line)?;
@@ -193,7 +208,9 @@ pub(crate) fn end_at(text: &[u8]) -> Option<(Closing, &[u8])>
 /// The closing of a last line in front whose word is that of an open number, and what follows the
 /// line.
 pub(crate) fn undecided_at(text: &[u8]) -> Option<(Closing, &[u8])>
-    ensures found { IfSome result (λ p. Passes Stage.AtEnd text.now (Line.End p.0.word p.0.kept p.0.thrown p.0.bits p.0.turns ∷ []) Stage.Over p.1.now) }
+    ensures found { IfSome result
+        (λ p. Passes Stage.AtEnd text.now (Line.End p.0.word p.0.kept p.0.thrown p.0.bits p.0.turns
+        ∷ []) Stage.Over p.1.now) }
     ensures none { IfNone result (IsStuck Stage.AtEnd text.now) }
 {
     let (line, rest) = next_line(text)?;

@@ -1,13 +1,18 @@
 //! Testing a certificate against a specification.
-ghost use Rattle.std.specs.Prelude.{◌≡◌, ◌≢◌, ◌↔◌, IsTrue, true, false, slice_get, ◌^◌, ◌+◌, ◌*◌, ◌<◌, ◌≤◌, ◌∷◌, [], map, length, Option, Some, IfOk, IfErr, unwrap_or};
+ghost use Rattle.std.specs.Prelude.{◌≡◌, ◌≢◌, ◌↔◌, IsTrue, true, false, slice_get, ◌^◌, ◌+◌, ◌*◌};
+ghost use Rattle.std.specs.Prelude.{◌<◌, ◌≤◌, ◌∷◌, [], map, length, Option, Some, IfOk, IfErr};
+ghost use Rattle.std.specs.Prelude.{unwrap_or};
 ghost use Rattle.std.specs.List.{AllByRecursion};
-ghost use Rattle.bz_model.specs.Fraction.{ratio};
+ghost use Rattle.bz_model.specs.Fraction.{ratio, IsFractionBits};
 ghost use Rattle.class_system.specs.Views.{spec_mode};
 ghost use Rattle.oracle_memo.specs.Levels.{cost_at};
 ghost use Rattle.rounded_map.specs.Bounding.{AreAbove};
 ghost use Rattle.rounded_map.specs.RoundedMap.{IsPostFixed, values_up, bodies_up};
 ghost use Rattle.certificate.specs.Certificates.{FitsHeader, open_lines};
-ghost use Rattle.certificate.specs.Checks.{checks, rest_checks, header_checks, digest_checks, digest_count, name_checks, value_checks, first_base_line, first_entry_line, setting_of, last_line, HasFraction, HasWindow, check};
+ghost use Rattle.certificate.specs.Checks.{checks, rest_checks, header_checks, digest_checks};
+ghost use Rattle.certificate.specs.Checks.{digest_count, name_checks, value_checks};
+ghost use Rattle.certificate.specs.Checks.{first_base_line, first_entry_line, setting_of};
+ghost use Rattle.certificate.specs.Checks.{last_line, HasFraction, HasWindow, check};
 ghost use Rattle.certificate.specs.Soundness.{IsSoundEntry, IsSoundCertificate};
 ghost use Rattle.certificate.specs.Verdicts.{FirstFails};
 ghost use Rattle.certificate.specs.declared.reason.Reason.TheVariants as reason;
@@ -35,10 +40,14 @@ use well_founded::examination::Founded;
 /// Tests a certificate against a specification, with `F` fraction bits.
 ///
 /// The verdict is that of the tests in order (`specs/Checks.antt`): `Invalid` tells the first that
-/// fails, with the line where its field is and the reason. Where it is `Valid`, the base is above the
-/// classes' totals, and each entry's object and labels are those that ideal making makes of every list
-/// of numbers in the entry's cells, whoever made the certificate. One tick for the base, and those of
-/// the levels raised. Takes memory for the canonical text, the base's levels, and for each entry its
+/// fails, with the line where its field is and the reason. Where it is `Valid`, the base is above
+/// the
+/// classes' totals, and each entry's object and labels are those that ideal making makes of every
+/// list
+/// of numbers in the entry's cells, whoever made the certificate. One tick for the base, and those
+/// of
+/// the levels raised. Takes memory for the canonical text, the base's levels, and for each entry
+/// its
 /// bits, object and text.
 pub fn verify<const F: u32, L: Ledger>(
     alloc: Global,
@@ -46,7 +55,7 @@ pub fn verify<const F: u32, L: Ledger>(
     cert: &Certificate,
     steps: &mut Steps<L>,
 ) -> Result<Verdict, AllocError>
-    requires fraction { (24 ≤ F) × (F ≤ 56) }
+    requires fraction_bits { IsFractionBits F }
     requires header { FitsHeader cert.now.header }
     ensures verdict { IfOk result (FirstFails (checks founded.now F cert.now)) }
     ensures sound { IfOk result (λ told. told ≡ verdict.Valid
@@ -79,7 +88,8 @@ pub fn verify<const F: u32, L: Ledger>(
     }
 }
 
-/// Tests the entries, the first of which is on this line, and the closing, over the levels of a base.
+/// Tests the entries, the first of which is on this line, and the closing, over the levels of a
+/// base.
 fn test_from_base<const F: u32, L: Ledger>(
     alloc: Global,
     founded: &Founded,
@@ -88,14 +98,16 @@ fn test_from_base<const F: u32, L: Ledger>(
     first: u64,
     steps: &mut Steps<L>,
 ) -> Result<Verdict, AllocError>
-    requires fraction { (24 ≤ F) × (F ≤ 56) }
+    requires fraction_bits { IsFractionBits F }
     requires window { cert.now.header.max ≤ 1000000 }
     requires small { first ≤ 71 }
     requires base { base ≡ cert.now.header.base }
-    requires post_fixed { IsPostFixed (setting_of founded.now F cert.now.header) cert.now.header.base }
+    requires post_fixed { IsPostFixed (setting_of founded.now F cert.now.header)
+        cert.now.header.base }
     ensures verdict { IfOk result (FirstFails (rest_checks founded.now F first cert.now)) }
     ensures sound { IfOk result (λ told. told ≡ verdict.Valid
-        → AllByRecursion (IsSoundEntry founded.now (ratio cert.now.header.x.num cert.now.header.x.den)
+        → AllByRecursion
+        (IsSoundEntry founded.now (ratio cert.now.header.x.num cert.now.header.x.den)
         cert.now.header.min cert.now.header.max) cert.now.entries) }
     ensures ticks { steps.new ≤ steps.old + cost_at 6 }
 {
@@ -178,7 +190,8 @@ fn is_digest_of(digest: &Option<SpecDigest>, system: &System) -> Result<bool, Al
 
 /// Tests the fraction bits and the window.
 fn test_limits<const F: u32>(header: &Header) -> Verdict
-    ensures { FirstFails (check (HasFraction F header.now) (4 + digest_count header.now.digest) reason.Fraction
+    ensures { FirstFails (check (HasFraction F header.now) (4 + digest_count header.now.digest)
+        reason.Fraction
         ∷ check (HasWindow header.now) (5 + digest_count header.now.digest) reason.Window ∷ []) result }
 {
     let line = first_base_line(&header.digest);

@@ -6,7 +6,9 @@ ghost use Rattle.class_system.specs.Views.{spec_mode};
 ghost use Rattle.certificate.specs.Patterns.{filled, places};
 ghost use Rattle.certificate.specs.Fields.{cells_text};
 ghost use Rattle.certificate.specs.Lines.{Line, text_of, whole_line, end_pattern, open_line};
-ghost use Rattle.certificate.specs.Certificates.{spec_lines, base_lines, header_lines, entry_lines, open_lines, closing_lines, FitsHeader, FitsClosing};
+ghost use Rattle.certificate.specs.Certificates.{spec_lines, base_lines, header_lines, entry_lines};
+ghost use Rattle.certificate.specs.Certificates.{open_lines, closing_lines, FitsHeader};
+ghost use Rattle.certificate.specs.Certificates.{FitsClosing};
 
 use crate::certificate::{CertEntry, Header};
 use crate::closing::{Closing, ClosingWord};
@@ -66,7 +68,8 @@ pub fn write_closing(alloc: Global, c: &Closing) -> Result<Vec<u8>, AllocError>
 /// Appends a line: a pattern filled with these numbers.
 fn push_line(text: &mut Vec<u8>, pattern: &[u8], numbers: &[u64]) -> Result<(), AllocError>
     requires { places pattern.now ≤ length numbers.now }
-    ensures { OnOk result (text.new.items ≡ text.old.items ++ (filled pattern.now numbers.now ++ 10 ∷ [])) }
+    ensures { OnOk result (text.new.items ≡ text.old.items
+        ++ (filled pattern.now numbers.now ++ 10 ∷ [])) }
 {
     push_filled(text, pattern, numbers)?;
     text.push(b'\n')?;
@@ -75,7 +78,8 @@ fn push_line(text: &mut Vec<u8>, pattern: &[u8], numbers: &[u64]) -> Result<(), 
 
 /// Appends a line of two words.
 fn push_words(text: &mut Vec<u8>, first: &[u8], second: &[u8]) -> Result<(), AllocError>
-    ensures { OnOk result (text.new.items ≡ text.old.items ++ ((first.now ++ second.now) ++ 10 ∷ [])) }
+    ensures { OnOk result (text.new.items ≡ text.old.items
+        ++ ((first.now ++ second.now) ++ 10 ∷ [])) }
 {
     text.extend_from_slice(first)?;
     text.extend_from_slice(second)?;
@@ -113,7 +117,8 @@ fn push_digest(
 /// Appends the lines of the base.
 fn push_base(text: &mut Vec<u8>, h: &Header) -> Result<(), AllocError>
     requires { length h.now.base ≡ length h.now.names }
-    ensures { OnOk result (text.new.items ≡ text.old.items ++ text_of (base_lines h.now.names h.now.base)) }
+    ensures { OnOk result (text.new.items ≡ text.old.items
+        ++ text_of (base_lines h.now.names h.now.base)) }
 {
     let values = h.base.items();
     for class in 0..values.len() {

@@ -1,14 +1,11 @@
 -- What the command prints, and when its answer is certain.
-use Rattle.std.proofs.Common.{◌≡◌, ◌≢◌, ℕ, zero, suc, ◌<◌, ◌≤◌, List, [], ◌∷◌, length, take, refl, sym, ap, subst, ◌∙◌, arith}
+use Rattle.std.proofs.Common.{◌≡◌, ◌≢◌, ℕ, zero, suc, ◌<◌, ◌≤◌, List, [], ◌∷◌, length, take, refl, ap, subst, ◌∙◌, arith}
 use Rattle.std.specs.Prelude.{Option, Some, None}
 use Rattle.bz_model.specs.Fraction.{ratio}
 use Rattle.bz_model.specs.Spec.{Spec}
 use Rattle.bz_model.specs.declared.fraction.Fraction.{Fraction}
 use Rattle.class_system.specs.Limits.{IsWithinLimits}
 use Rattle.class_system.specs.Sound.{IsSound}
-use Rattle.spec_reader.specs.Tokens.{tokens_of}
-use Rattle.spec_reader.proofs.Lexical.{are_lexical}
-use Rattle.spec_reader.proofs.Sounds.{stands_sound}
 use Rattle.newton_upper.specs.BaseRule.{base_of, HasNoUpper}
 use Rattle.newton_upper.specs.declared.trials.Trial.{Trial}
 use Rattle.object_store.specs.declared.token.Token.{Token}
@@ -23,40 +20,20 @@ use Rattle.object_stage.proofs.OneObject.{object-only}
 use Rattle.rounded_map.specs.RoundedMap.{Setting, setting}
 use Rattle.chance_law.specs.declared.scaled.ChanceBounds.{ChanceBounds}
 use Rattle.chance_law.specs.Chance.{IsEnclosed}
-use Rattle.call_stages.specs.Outcomes.{Outcome, Says}
+use Rattle.call_stages.specs.Outcomes.{Outcome}
 use Rattle.call_stages.specs.Refusals.{no_upper_text}
-use Rattle.call_stages.specs.Stages.{Files, IsCalm, AreRead, IsAccepted, FileRead, Judged, Specified, IsSpecified, Based}
+use Rattle.call_stages.specs.Stages.{Files, IsCalm, AreRead, HasSpecification}
 use Rattle.call_stages.specs.Stages as stages
 use Rattle.call_stages.specs.declared.status.Status.{Status}
-use Rattle.call_stages.proofs.OneReading.{read-only, judged-only, based-only, baseless-only}
+use Rattle.call_stages.proofs.Completing.{accepted-sound, says-other, whole-only, specified-only, done-read, done-specified}
+use Rattle.call_stages.proofs.OneReading.{read-only, based-only, baseless-only}
 use Rattle.chance_command.specs.ChanceCommand.{chance_text, AreBoundsOver, Weighed, WeighedAt, ReadAndWeighed, CarriesChance}
 use Rattle.chance_command.specs.ChanceCommand as chance
-use Rattle.chance_command.specs.Completeness.{HasSpecification, HasObjectText, LacksObjectText, EnclosesChance}
-
--- the first bytes of a short list are all of it
-take-all : (n : ℕ) (xs : List ℕ) → length xs ≤ n → take n xs ≡ xs
-take-all zero [] h = refl
-take-all (suc n) [] h = refl
-take-all zero (x ∷ xs) h = absurd (omega arith)
-take-all (suc n) (x ∷ xs) h = ap (λ ys. x ∷ ys) (take-all n xs (omega arith))
-
--- a specification that is in the file goes on
-specified-only : (f : Files) (file : List ℕ) (s : Spec) (has : HasSpecification f file s) (next : Spec → Outcome) (status : Status) (text : List ℕ) (ticks : ℕ) → status ≢ Status.OutOfMemory → Specified f file next status text ticks → next s status text ticks
-specified-only f file s has next status text ticks memory p =
-    let read = read-only f file 65537 (Judged next) has.calm status text ticks memory p in
-    let all : take 65537 has.calm.bytes ≡ has.calm.bytes = take-all 65537 has.calm.bytes (let few = has.accepted.few in omega (arith, few)) in
-    judged-only next has.calm.bytes s has.accepted has.founded status text ticks memory (subst (λ b. Judged next b status text ticks) all read)
-
--- the tables of an accepted text are sound
-accepted-sound : (bytes : List ℕ) (s : Spec) → IsAccepted bytes s → IsSound s
-accepted-sound bytes s a = stands_sound (tokens_of bytes) s (are_lexical bytes) a.stands.stand_for
+use Rattle.chance_command.specs.Completeness.{HasObjectText, LacksObjectText, EnclosesChance}
 
 -- the bytes of a short file are judged
 judged-file : (f : Files) (file : List ℕ) (s : Spec) (next : List Token → Option (List ℕ) → Outcome) (calm : IsCalm f file) → length calm.bytes ≤ 16777216 → (status : Status) (text : List ℕ) (ticks : ℕ) → status ≢ Status.OutOfMemory → ObjectRead f s file next status text ticks → ObjectJudged s next calm.bytes status text ticks
-judged-file f file s next calm few status text ticks memory h =
-    let read = read-only f file 16777217 (ObjectJudged s next) calm status text ticks memory h in
-    let all : take 16777217 calm.bytes ≡ calm.bytes = take-all 16777217 calm.bytes (omega (arith, few)) in
-    subst (λ b. ObjectJudged s next b status text ticks) all read
+judged-file f file s next calm few status text ticks memory h = whole-only f file 16777217 (ObjectJudged s next) calm status text ticks (omega (arith, few)) memory h
 
 -- an object that is in the file goes on
 object-in-only : (f : Files) (file : List ℕ) (s : Spec) (next : List Token → Option (List ℕ) → Outcome) (tokens : List Token) (labels : Option (List ℕ)) → IsSound s → IsWithinLimits s → HasObjectText f file s tokens labels → (status : Status) (text : List ℕ) (ticks : ℕ) → status ≢ Status.OutOfMemory → ObjectRead f s file next status text ticks → next tokens labels status text ticks
@@ -71,7 +48,7 @@ searched-only : (f : Files) (file : List ℕ) (x : Fraction) (object : List ℕ)
 searched-only f file x object F s tokens labels status text ticks has found memory h =
     let sound = accepted-sound has.calm.bytes s has.accepted in
     object-in-only f object s (λ others told. WeighedAt (setting s x.num x.den F) others) tokens labels sound has.accepted.within found status text ticks memory
-    (specified-only f file s has (λ (r : Spec). ReadAndWeighed f object (setting r x.num x.den F)) status text ticks memory h)
+    (specified-only f file s (λ (r : Spec). ReadAndWeighed f object (setting r x.num x.den F)) status text ticks has memory h)
 
 pub weighed : (f : Files) (file : List ℕ) (x : Fraction) (object : List ℕ) (F : ℕ) (s : Spec) (tokens : List Token) (labels : Option (List ℕ)) (base : List ℕ) (status : Status) (text : List ℕ) (ticks : ℕ) → HasSpecification f file s → HasObjectText f object s tokens labels → base_of (setting s x.num x.den F) ≡ Some base → status ≢ Status.OutOfMemory → CarriesChance f file x object F status text ticks → (b : ChanceBounds) × AreBoundsOver (setting s x.num x.den F) base tokens b × (status ≡ Status.Done) × (text ≡ chance_text b)
 weighed f file x object F s tokens labels base status text ticks has found is memory h =
@@ -95,7 +72,7 @@ pub refused : (f : Files) (file : List ℕ) (x : Fraction) (object : List ℕ) (
 refused f file x object F s fault status text ticks has lacks n memory h =
     let next = λ (others : List Token) (told : Option (List ℕ)). WeighedAt (setting s x.num x.den F) others in
     fault-only s next lacks.calm.bytes fault (accepted-sound has.calm.bytes s has.accepted) has.accepted.within lacks.few n lacks.tells status text ticks memory
-    (judged-file f object s next lacks.calm lacks.few status text ticks memory (specified-only f file s has (λ (r : Spec). ReadAndWeighed f object (setting r x.num x.den F)) status text ticks memory h))
+    (judged-file f object s next lacks.calm lacks.few status text ticks memory (specified-only f file s (λ (r : Spec). ReadAndWeighed f object (setting r x.num x.den F)) status text ticks has memory h))
 
 -- the first bytes of a long list are as many
 length-taken : (n : ℕ) (xs : List ℕ) → n ≤ length xs → length (take n xs) ≡ n
@@ -113,44 +90,28 @@ long-only s next bytes long status text ticks memory (stage.refused fault few m 
 pub refused-long : (f : Files) (file : List ℕ) (x : Fraction) (object : List ℕ) (F : ℕ) (s : Spec) (calm : IsCalm f object) (status : Status) (text : List ℕ) (ticks : ℕ) → HasSpecification f file s → 16777216 < length calm.bytes → status ≢ Status.OutOfMemory → CarriesChance f file x object F status text ticks → (status ≡ Status.ObjectRefused) × (text ≡ too_long_line)
 refused-long f file x object F s calm status text ticks has long memory h =
     let next = λ (others : List Token) (told : Option (List ℕ)). WeighedAt (setting s x.num x.den F) others in
-    let read = read-only f object 16777217 (ObjectJudged s next) calm status text ticks memory (specified-only f file s has (λ (r : Spec). ReadAndWeighed f object (setting r x.num x.den F)) status text ticks memory h) in
+    let read = read-only f object 16777217 (ObjectJudged s next) calm status text ticks memory (specified-only f file s (λ (r : Spec). ReadAndWeighed f object (setting r x.num x.den F)) status text ticks has memory h) in
     let taken : length (take 16777217 calm.bytes) ≡ 16777217 = length-taken 16777217 calm.bytes (omega (arith, long)) in
     long-only s next (take 16777217 calm.bytes) (omega (arith, taken)) status text ticks memory read
 
--- a call that is done read a specification and an object, and found a base
-not-done : {P : Type 0} (said status : Status) (line text : List ℕ) (most ticks : ℕ) → said ≢ Status.Done → status ≡ Status.Done → Says said line most status text ticks → P
-not-done said status line text most ticks other done says = absurd (other (sym says.status_is ∙ done))
-
-done-specified : (f : Files) (file : List ℕ) (next : Spec → Outcome) (status : Status) (text : List ℕ) (ticks : ℕ) → status ≡ Status.Done → Specified f file next status text ticks → (s : Spec) × IsSpecified f.content file s × next s status text ticks
-done-specified f file next status text ticks done (stages.failed rose says) = not-done Status.ReadFault status _ text _ ticks (λ e. absurd (cc)) done says
-done-specified f file next status text ticks done (stages.no_memory says) = not-done Status.OutOfMemory status _ text _ ticks (λ e. absurd (cc)) done says
-done-specified f file next status text ticks done (stages.read bytes are p) = go p
-  where
-    go : Judged next bytes status text ticks → (s : Spec) × IsSpecified f.content file s × next s status text ticks
-    go (stages.refused fault m refuses says) = not-done Status.SpecRefused status _ text _ ticks (λ e. absurd (cc)) done says
-    go (stages.unfounded s cause a m tells says) = not-done Status.SpecRefused status _ text _ ticks (λ e. absurd (cc)) done says
-    go (stages.no_memory says) = not-done Status.OutOfMemory status _ text _ ticks (λ e. absurd (cc)) done says
-    go (stages.founded s a g q) = (s, record { bytes = bytes; read = are; accepted = a; founded = g }, q)
-
+-- a call that is done read an object, and found a base
 done-object : (f : Files) (s : Spec) (file : List ℕ) (next : List Token → Option (List ℕ) → Outcome) (status : Status) (text : List ℕ) (ticks : ℕ) → status ≡ Status.Done → ObjectRead f s file next status text ticks → (tokens : List Token) × (labels : Option (List ℕ)) × IsObjectIn f.content s file tokens labels × next tokens labels status text ticks
-done-object f s file next status text ticks done (stages.failed rose says) = not-done Status.ReadFault status _ text _ ticks (λ e. absurd (cc)) done says
-done-object f s file next status text ticks done (stages.no_memory says) = not-done Status.OutOfMemory status _ text _ ticks (λ e. absurd (cc)) done says
-done-object f s file next status text ticks done (stages.read bytes are p) = go p
+done-object f s file next status text ticks done h = let r = done-read f file 16777217 (ObjectJudged s next) status text ticks done h in go r.0 r.1 r.2
   where
-    go : ObjectJudged s next bytes status text ticks → (tokens : List Token) × (labels : Option (List ℕ)) × IsObjectIn f.content s file tokens labels × next tokens labels status text ticks
-    go (stage.too_long long says) = not-done Status.ObjectRefused status _ text _ ticks (λ e. absurd (cc)) done says
-    go (stage.refused fault few m tells says) = not-done Status.ObjectRefused status _ text _ ticks (λ e. absurd (cc)) done says
-    go (stage.no_memory says) = not-done Status.OutOfMemory status _ text _ ticks (λ e. absurd (cc)) done says
-    go (stage.read tokens labels few is q) = (tokens, labels, record { bytes = bytes; read = are; few = few; is_read = is }, q)
+    go : (bytes : List ℕ) → AreRead f.content file 16777217 bytes → ObjectJudged s next bytes status text ticks → (tokens : List Token) × (labels : Option (List ℕ)) × IsObjectIn f.content s file tokens labels × next tokens labels status text ticks
+    go bytes are (stage.too_long long says) = says-other Status.ObjectRefused Status.Done status _ text _ ticks (λ e. absurd (cc)) done says
+    go bytes are (stage.refused fault few m tells says) = says-other Status.ObjectRefused Status.Done status _ text _ ticks (λ e. absurd (cc)) done says
+    go bytes are (stage.no_memory says) = says-other Status.OutOfMemory Status.Done status _ text _ ticks (λ e. absurd (cc)) done says
+    go bytes are (stage.read tokens labels few is q) = (tokens, labels, record { bytes = bytes; read = are; few = few; is_read = is }, q)
 
 done-weighed : (t : Setting) (tokens : List Token) (status : Status) (text : List ℕ) (ticks : ℕ) → status ≡ Status.Done → WeighedAt t tokens status text ticks → (base : List ℕ) × (b : ChanceBounds) × AreBoundsOver t base tokens b × (text ≡ chance_text b)
-done-weighed t tokens status text ticks done (stages.no_base trials lacks says) = not-done Status.NoUpper status _ text _ ticks (λ e. absurd (cc)) done says
-done-weighed t tokens status text ticks done (stages.no_memory says) = not-done Status.OutOfMemory status _ text _ ticks (λ e. absurd (cc)) done says
+done-weighed t tokens status text ticks done (stages.no_base trials lacks says) = says-other Status.NoUpper Status.Done status _ text _ ticks (λ e. absurd (cc)) done says
+done-weighed t tokens status text ticks done (stages.no_memory says) = says-other Status.OutOfMemory Status.Done status _ text _ ticks (λ e. absurd (cc)) done says
 done-weighed t tokens status text ticks done (stages.based base more is p sum) = go p
   where
     go : Weighed t tokens base status text more → (base : List ℕ) × (b : ChanceBounds) × AreBoundsOver t base tokens b × (text ≡ chance_text b)
     go (chance.bounded b over says) = (base, b, over, says.text_is)
-    go (chance.no_memory says) = not-done Status.OutOfMemory status _ text _ more (λ e. absurd (cc)) done says
+    go (chance.no_memory says) = says-other Status.OutOfMemory Status.Done status _ text _ more (λ e. absurd (cc)) done says
 
 -- bounds of the object with some tokens enclose the chance of the object that was read
 read-enclosed : (t : Setting) (base : List ℕ) (bytes : List ℕ) (tokens : List Token) (labels : Option (List ℕ)) (b : ChanceBounds) → AreBoundsOver t base tokens b → (is : IsRead t.spec 0 bytes tokens labels) → IsEnclosed t.spec (ratio t.num t.den) is.body is.object b

@@ -1,5 +1,5 @@
 -- The command `chance`.
-use Rattle.std.specs.Prelude.{ℕ, List, [], ◌++◌, codes}
+use Rattle.std.specs.Prelude.{ℕ, List, [], ◌++◌}
 use Rattle.bz_model.specs.Fraction.{ratio}
 use Rattle.bz_model.specs.declared.fraction.Fraction.{Fraction}
 use Rattle.object_store.specs.declared.token.Token.{Token}
@@ -9,7 +9,7 @@ use Rattle.rounded_map.specs.RoundedMap.{Setting, setting}
 use Rattle.chance_law.specs.declared.scaled.ChanceBounds.{ChanceBounds}
 use Rattle.chance_law.specs.Chance.{AreChanceBounds, IsEnclosed}
 use Rattle.chance_law.specs.Line.{chance_line}
-use Rattle.call_stages.specs.Lines.{feed}
+use Rattle.call_stages.specs.Lines.{end_done_line}
 use Rattle.call_stages.specs.Outcomes.{Outcome, Says}
 use Rattle.call_stages.specs.Stages.{Files, Specified, Based}
 use Rattle.call_stages.specs.declared.status.Status.{Status}
@@ -17,7 +17,7 @@ use Rattle.object_stage.specs.ObjectStage.{ObjectRead}
 
 -- The two lines: the bounds of the chance, and the end.
 abbrev pub chance_text : ChanceBounds → List ℕ
-chance_text b = chance_line b ++ (codes "end done" ++ feed)
+chance_text b = chance_line b ++ end_done_line
 
 -- These are the bounds of the chance of the object of class 0 with these tokens, where the class's
 -- body has the bounds of level 6 over the base; and they enclose it.

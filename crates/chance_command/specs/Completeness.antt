@@ -2,23 +2,15 @@
 use Rattle.std.specs.Prelude.{◌≡◌, ℕ, ◌≤◌, List, length, Option}
 use Rattle.bz_model.specs.Fraction.{ratio}
 use Rattle.bz_model.specs.Spec.{Spec}
-use Rattle.bz_model.specs.WellFounded.{IsWellFounded}
 use Rattle.bz_model.specs.declared.fraction.Fraction.{Fraction}
 use Rattle.object_store.specs.declared.token.Token.{Token}
 use Rattle.object_text.specs.Reading.{IsRead, TellsFault}
 use Rattle.object_text.specs.declared.fault.TextFault.{TextFault}
 use Rattle.chance_law.specs.declared.scaled.ChanceBounds.{ChanceBounds}
 use Rattle.chance_law.specs.Chance.{IsEnclosed}
-use Rattle.call_stages.specs.Stages.{Files, IsCalm, IsAccepted, IsSpecified}
+use Rattle.call_stages.specs.Stages.{Files, IsCalm, IsSpecified}
 use Rattle.object_stage.specs.ObjectStage.{without_feed, IsObjectIn}
 use Rattle.chance_command.specs.ChanceCommand.{chance_text}
-
--- The file's bytes are known and no read of it failed; they stand for this specification, which is
--- within the limits and well founded.
-pub record HasSpecification (f : Files) (file : List ℕ) (s : Spec) : Type 0 where
-  pub calm : IsCalm f file
-  pub accepted : IsAccepted calm.bytes s
-  pub founded : IsWellFounded s
 
 -- The file's bytes are known and no read of it failed; with or without a line feed at their end
 -- they are the canonical text of an object of the first class, with these tokens and labels.

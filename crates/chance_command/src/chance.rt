@@ -1,6 +1,7 @@
 //! The command `chance`: bounds of the chance of an object.
-ghost use Rattle.std.specs.Prelude.{◌≡◌, ◌≢◌, ℕ, ◌+◌, ◌^◌, ◌<◌, ◌≤◌, ◌⊎◌, List, [], ◌∷◌, length, Some, IfOk, string_bytes};
-ghost use Rattle.bz_model.specs.Fraction.{ratio};
+ghost use Rattle.std.specs.Prelude.{◌≡◌, ◌≢◌, ℕ, ◌+◌, ◌^◌, ◌<◌, ◌≤◌, ◌⊎◌, List, [], ◌∷◌, length};
+ghost use Rattle.std.specs.Prelude.{Some, IfOk, string_bytes};
+ghost use Rattle.bz_model.specs.Fraction.{ratio, IsFractionBits};
 ghost use Rattle.bz_model.specs.Oracle.{Encloses};
 ghost use Rattle.bz_model.specs.Spec.{body_of};
 ghost use Rattle.bz_outside.specs.Outside.{Rose, Appends};
@@ -12,7 +13,8 @@ ghost use Rattle.call_stages.specs.Ends.{EndsBy, output};
 ghost use Rattle.call_stages.specs.Outcomes.{MaySay};
 ghost use Rattle.call_stages.specs.Stages.{files, AreCalm};
 ghost use Rattle.call_stages.specs.declared.status.Status.{Status};
-ghost use Rattle.chance_command.specs.ChanceCommand.{chance_text, AreBoundsOver, Weighed, WeighedAt, ReadAndWeighed, CarriesChance};
+ghost use Rattle.chance_command.specs.ChanceCommand.{chance_text, AreBoundsOver, Weighed};
+ghost use Rattle.chance_command.specs.ChanceCommand.{WeighedAt, ReadAndWeighed, CarriesChance};
 
 use bz_model::cell::Bounds;
 use bz_model::fraction::Fraction;
@@ -134,7 +136,7 @@ fn weighed<const F: u32, K: Sink, L: Ledger>(
     out: &mut K,
     steps: &mut Steps<L>,
 ) -> Status
-    requires fraction_bits { (24 ≤ F) × (F ≤ 56) }
+    requires fraction_bits { IsFractionBits F }
     requires is_of { IsOf founded.now 0 shape.now.items }
     requires few { length shape.now.items < 2 ^ 32 }
     ensures ends { EndsBy (WeighedAt (setting founded.now x.num x.den F) shape.now.items)
@@ -158,7 +160,7 @@ fn weighed_over<const F: u32, K: Sink, L: Ledger>(
     out: &mut K,
     steps: &mut Steps<L>,
 ) -> Status
-    requires fraction_bits { (24 ≤ F) × (F ≤ 56) }
+    requires fraction_bits { IsFractionBits F }
     requires post_fixed { IsPostFixed (setting founded.now x.num x.den F) base }
     requires is_of { IsOf founded.now 0 shape.now.items }
     requires few { length shape.now.items < 2 ^ 32 }
@@ -182,7 +184,7 @@ fn bounds_over<const F: u32, L: Ledger>(
     shape: &Shape,
     steps: &mut Steps<L>,
 ) -> Result<ChanceBounds, AllocError>
-    requires fraction_bits { (24 ≤ F) × (F ≤ 56) }
+    requires fraction_bits { IsFractionBits F }
     requires post_fixed { IsPostFixed (setting founded.now x.num x.den F) base }
     requires is_of { IsOf founded.now 0 shape.now.items }
     requires few { length shape.now.items < 2 ^ 32 }
@@ -202,7 +204,7 @@ fn root_bounds<const F: u32, L: Ledger>(
     base: Base<F>,
     steps: &mut Steps<L>,
 ) -> Result<Bounds, AllocError>
-    requires fraction_bits { (24 ≤ F) × (F ≤ 56) }
+    requires fraction_bits { IsFractionBits F }
     requires post_fixed { IsPostFixed (setting founded.now x.num x.den F) base }
     ensures bounds { IfOk result (λ root. (body : ℕ) → body_of founded.now 0 ≡ Some body
         → root ≡ level_bounds (setting founded.now x.num x.den F) base.entry 6 body) }

@@ -1,5 +1,6 @@
 //! Laws of the command's outcomes. Each function's contract is the law; none does anything.
-ghost use Rattle.std.specs.Prelude.{◌≡◌, ◌≢◌, ℕ, ◌<◌, List, [], ◌∷◌, ◌++◌, length, codes, Option, Some, None};
+ghost use Rattle.std.specs.Prelude.{◌≡◌, ◌≢◌, ℕ, ◌<◌, List, [], ◌∷◌, ◌++◌, length, codes, Option};
+ghost use Rattle.std.specs.Prelude.{Some, None};
 ghost use Rattle.bz_model.specs.Spec.{Spec};
 ghost use Rattle.bz_model.specs.declared.fraction.Fraction.{Fraction};
 ghost use Rattle.newton_upper.specs.BaseRule.{base_of, HasNoUpper};
@@ -11,11 +12,11 @@ ghost use Rattle.chance_law.specs.declared.scaled.ChanceBounds.{ChanceBounds};
 ghost use Rattle.chance_law.specs.WorkedChances.{one_half, certain};
 ghost use Rattle.call_stages.specs.Outcomes.{IsOne};
 ghost use Rattle.call_stages.specs.Refusals.{no_upper_text};
-ghost use Rattle.call_stages.specs.Stages.{Files, IsCalm, AreCalm};
+ghost use Rattle.call_stages.specs.Stages.{Files, IsCalm, AreCalm, HasSpecification};
 ghost use Rattle.call_stages.specs.declared.status.Status.{Status};
 ghost use Rattle.object_stage.specs.ObjectStage.{too_long_line, object_line};
 ghost use Rattle.chance_command.specs.ChanceCommand.{chance_text, AreBoundsOver, CarriesChance};
-ghost use Rattle.chance_command.specs.Completeness.{HasSpecification, HasObjectText, LacksObjectText, EnclosesChance};
+ghost use Rattle.chance_command.specs.Completeness.{HasObjectText, LacksObjectText, EnclosesChance};
 
 /// But for want of memory the command has one status with one text, where its files are known and
 /// no read of them failed.
@@ -55,7 +56,8 @@ pub fn what_can_be_weighed_is_weighed()
         × (status ≡ Status.NoUpper) × (text ≡ no_upper_text s F trials) }
 {}
 
-/// A file with more than 16,777,216 bytes has no other answer than the line that says so, and a text
+/// A file with more than 16,777,216 bytes has no other answer than the line that says so, and a
+/// text
 /// that is no canonical text of an object of the first class no other than the line of its fault.
 pub fn what_is_no_object_is_refused()
     ensures too_long { (f : Files) (file : List ℕ) (x : Fraction) (object : List ℕ) (F : ℕ)
@@ -71,7 +73,8 @@ pub fn what_is_no_object_is_refused()
         → (status ≡ Status.ObjectRefused) × (text ≡ object_line fault) }
 {}
 
-/// What is printed of the worked chances: 1/2 for `1.Z` of `C = Z + Z` at 1/2, and 1 for the cycle of
+/// What is printed of the worked chances: 1/2 for `1.Z` of `C = Z + Z` at 1/2, and 1 for the cycle
+/// of
 /// two atoms of `C = Cyc=2(Z)`.
 pub fn worked_chances_are_printed()
     ensures second { chance_text one_half

@@ -1,6 +1,6 @@
 //! The chance of an object, by a walk over its tokens.
 ghost use Rattle.std.specs.Prelude.{◌≡◌, ℕ, ◌<◌, ◌≤◌, ◌^◌, length, IfOk};
-ghost use Rattle.bz_model.specs.Fraction.{ratio};
+ghost use Rattle.bz_model.specs.Fraction.{ratio, IsFractionBits};
 ghost use Rattle.bz_model.specs.Oracle.{Encloses};
 ghost use Rattle.object_store.specs.Tokens.{IsOf};
 ghost use Rattle.chance_law.specs.Chance.{divided_by_units, AreChanceBounds, IsEnclosed};
@@ -29,7 +29,7 @@ pub fn chance<const F: u32>(
     root: Bounds,
     shape: &Shape,
 ) -> Result<ChanceBounds, AllocError>
-    requires fraction_bits { (24 ≤ F) × (F ≤ 56) }
+    requires fraction_bits { IsFractionBits F }
     requires is_of { IsOf founded.now 0 shape.now.items }
     requires few { length shape.now.items < 2 ^ 32 }
     requires some { 0 < root.hi }
@@ -68,7 +68,7 @@ fn weights_of(system: &System, x: Weights, shape: &Shape) -> Result<Weights, All
 /// The weights divided by the bounds of the class's value; the upper chance is 1 where the lower
 /// bound is 0.
 fn over_root<const F: u32>(weights: Weights, root: Bounds) -> ChanceBounds
-    requires fraction_bits { (24 ≤ F) × (F ≤ 56) }
+    requires fraction_bits { IsFractionBits F }
     requires within { AreWithin (2 ^ 50) weights }
     requires some { 0 < root.hi }
     ensures lo { IsRoundedDown (divided_by_units (value weights.lo) F root.hi) result.lo }

@@ -7,7 +7,8 @@ ghost use Rattle.bz_model.specs.Object.{Object, Belongs};
 ghost use Rattle.bz_model.specs.Totals.{Above, Below};
 ghost use Rattle.chance_law.specs.declared.scaled.ChanceBounds.{ChanceBounds};
 ghost use Rattle.chance_law.specs.Chance.{AreChanceBounds, IsEnclosed};
-ghost use Rattle.chance_law.specs.WorkedChances.{half, exactly_one, second_atom, one_half, one_eighth, pair, certain};
+ghost use Rattle.chance_law.specs.WorkedChances.{half, exactly_one, second_atom, one_half};
+ghost use Rattle.chance_law.specs.WorkedChances.{one_eighth, pair, certain};
 
 /// The bounds of a chance enclose it, where `root` bounds the value of the object's class.
 pub fn chances_are_enclosed()

@@ -1,5 +1,6 @@
 -- What is said of a draw of any kind of answer, and which draw a drawer's answer tells.
-use Rattle.std.specs.Prelude.{◌≡◌, ℕ, ◌+◌, ◌<◌, ◌≤◌, Bool, true, false, List, Option, Some, None, IfSome}
+use Rattle.std.specs.Prelude.{◌≡◌, ℕ, ◌+◌, ◌<◌, ◌≤◌, Bool, true, false, List, Option, Some, None}
+use Rattle.std.specs.Prelude.{IfSome}
 use Rattle.bz_model.specs.declared.cell.Cell.{Cell}
 use Rattle.bz_model.specs.Cell.{IsCell}
 use Rattle.bit_tape.specs.Given.{HasBits, Gave}
@@ -23,23 +24,30 @@ HasCell (Draw.Decided answer cell) = IsCell cell.k cell.b
 HasCell (Draw.Straddled cell) = IsCell cell.k cell.b × (cell.b ≡ 60)
 HasCell _ = Unit {0}
 
--- The bits used from the start on are those of the draw's cell; where it has none, they are fewer than 60.
+-- The bits used from the start on are those of the draw's cell; where it has none, they are fewer
+-- than 60.
 abbrev pub UsesBits : {A : Type 0} → Draw A → (start used : ℕ) → Type 0
 UsesBits (Draw.Decided answer cell) start used = used ≡ start + cell.b
 UsesBits (Draw.Straddled cell) start used = used ≡ start + cell.b
 UsesBits (Draw.Ended place) start used = (used ≡ place) × (start ≤ used) × (used < start + 60)
 UsesBits (Draw.Failed place) start used = (used ≡ place) × (start ≤ used) × (used < start + 60)
 
--- A draw of an answer from the start on is the one over the bits that it was given: it was given as many bits as were used, the tape's own where they are told; and over every tape that has these there, and ends where the draw says that it did, it is the draw that the decision fixes, where the shelf fails only if the draw says so.
-pub record IsDraw {A : Type 0} (decide : Cell → Option A) (told : Option (ℕ → Option Bool)) (start used : ℕ) (answer : Draw A) : Type 0 where
+-- A draw of an answer from the start on is the one over the bits that it was given: it was given as
+-- many bits as were used, the tape's own where they are told; and over every tape that has these
+-- there, and ends where the draw says that it did, it is the draw that the decision fixes, where
+-- the shelf fails only if the draw says so.
+pub record IsDraw {A : Type 0} (decide : Cell
+    → Option A) (told : Option (ℕ → Option Bool)) (start used : ℕ) (answer : Draw A) : Type 0 where
   pub given : List Bool
   pub gave : Gave told start used given
   pub ended : IfSome told (EndsThere answer)
-  pub exact : (bits : ℕ → Option Bool) → HasBits bits start given → EndsThere answer bits → answer ≡ draw decide (bit_of bits (fault_of answer)) start
+  pub exact : (bits : ℕ → Option Bool) → HasBits bits start given → EndsThere answer bits
+      → answer ≡ draw decide (bit_of bits (fault_of answer)) start
   pub cell : HasCell answer
   pub uses : UsesBits answer start used
 
--- The draw that a drawer's answer tells, `used` being the number of tape bits used afterwards, and `choice` the choice of a value.
+-- The draw that a drawer's answer tells, `used` being the number of tape bits used afterwards, and
+-- `choice` the choice of a value.
 abbrev pub told_draw : {A : Type 0} → (choice : ℕ → A) → Drawn → (used : ℕ) → Draw A
 told_draw choice (Value value cell) used = Draw.Decided (choice value) cell
 told_draw choice (Straddles cell) used = Draw.Straddled cell

@@ -1,5 +1,7 @@
 -- What a cell decides among the options of a node, and which whole number it decides.
-use Rattle.std.specs.Prelude.{◌≡◌, ℕ, zero, suc, ◌+◌, ◌-◌, ◌*◌, ◌/◌, ◌^◌, min, Bool, false, ◌||◌, nat_le, nat_eq, List, [], ◌∷◌, map, take, length, sum, Option, Some, None, if◌then◌else◌}
+use Rattle.std.specs.Prelude.{◌≡◌, ℕ, zero, suc, ◌+◌, ◌-◌, ◌*◌, ◌/◌, ◌^◌, min, Bool, false, ◌||◌}
+use Rattle.std.specs.Prelude.{nat_le, nat_eq, List, [], ◌∷◌, map, take, length, sum, Option, Some}
+use Rattle.std.specs.Prelude.{None, if◌then◌else◌}
 use Rattle.bz_model.specs.declared.cell.Cell.{Cell}
 use Rattle.bz_model.specs.declared.cell.Bounds.{Bounds}
 use Rattle.bz_model.specs.Spec.{Spec, Node, node_at}
@@ -16,7 +18,9 @@ level_for bits = (bits + 9) / 10
 abbrev pub level_of : Cell → ℕ
 level_of cell = level_for cell.b
 
--- A decision looks at the node's bounds, the options from `first` on that may be taken, the option that is the node's last where it is among these, the bounds of the objects up to an option, and the room where options above it exist.
+-- A decision looks at the node's bounds, the options from `first` on that may be taken, the option
+-- that is the node's last where it is among these, the bounds of the objects up to an option, and
+-- the room where options above it exist.
 pub record Options : Type 0 where
   pub whole : Bounds
   pub first : ℕ
@@ -31,11 +35,13 @@ abbrev pub is_last : Option ℕ → ℕ → Bool
 is_last None i = false
 is_last (Some last) i = nat_eq i last
 
--- Every number of the cell lies before the end of option i: (k + 1) * hi ≤ 2^b * lo, lo being the lower bound of the objects up to i and hi the node's upper bound.
+-- Every number of the cell lies before the end of option i: (k + 1) * hi ≤ 2^b * lo, lo being the
+-- lower bound of the objects up to i and hi the node's upper bound.
 abbrev pub ends_before : Options → Cell → (i : ℕ) → Bool
 ends_before o cell i = nat_le (suc cell.k * o.whole.hi) (2 ^ cell.b * o.upto_down i)
 
--- No number of the cell lies before the end of option i: 2^b * hi ≤ k * lo, hi being the upper bound of the objects up to i and lo the node's lower bound.
+-- No number of the cell lies before the end of option i: 2^b * hi ≤ k * lo, hi being the upper
+-- bound of the objects up to i and lo the node's lower bound.
 abbrev pub begins_after : Options → Cell → (i : ℕ) → Bool
 begins_after o cell i = nat_le (2 ^ cell.b * o.upto_up i) (cell.k * o.whole.lo)
 
@@ -54,7 +60,8 @@ least_option o cell = least_passing (λ i. is_last o.last i || ends_before o cel
 abbrev pub is_reached : Options → Cell → (i : ℕ) → Bool
 is_reached o cell i = nat_eq i o.first || begins_after o cell (i - 1)
 
--- Over is decided where options above the room exist and no number of the cell lies before the end of the room.
+-- Over is decided where options above the room exist and no number of the cell lies before the end
+-- of the room.
 abbrev pub over_from : Options → Cell → (room : Option ℕ) → Option Choice
 over_from o cell None = None
 over_from o cell (Some room) = if begins_after o cell room then Some Choice.Over else None
@@ -76,7 +83,8 @@ abbrev pub added_down : (v : ℕ) → List ℕ → ℕ
 added_down v [] = v
 added_down v (w ∷ ws) = added_down (min (v + w) (2 ^ 64 - 1)) ws
 
--- The options of a union are all its parts, of which the last needs no comparison; the upper bound of the objects up to an option is at most the node's.
+-- The options of a union are all its parts, of which the last needs no comparison; the upper bound
+-- of the objects up to an option is at most the node's.
 abbrev pub union_options : (node : ℕ → Bounds) → (e : ℕ) → (parts : List ℕ) → Options
 union_options node e parts = record {
   whole = node e;
@@ -89,7 +97,8 @@ union_options node e parts = record {
 }
 
 -- What a cell decides at a union, from a table of bounds by level and node.
-abbrev pub union_choice : (table : (level node : ℕ) → Bounds) → (e : ℕ) → (parts : List ℕ) → Cell → Option Choice
+abbrev pub union_choice : (table : (level node : ℕ) → Bounds) → (e : ℕ) → (parts : List ℕ) → Cell
+    → Option Choice
 union_choice table e parts cell = choice_of (union_options (table (level_of cell)) e parts) cell
 
 -- A node of a specification is a union.
@@ -103,7 +112,8 @@ union_parts (Some (Node.Union parts)) = parts
 union_parts _ = []
 
 -- What a cell decides at a union of a specification, from a table of bounds by level and node.
-abbrev pub union_decision : Spec → (table : (level node : ℕ) → Bounds) → (e : ℕ) → Cell → Option Choice
+abbrev pub union_decision : Spec → (table : (level node : ℕ) → Bounds) → (e : ℕ) → Cell
+    → Option Choice
 union_decision s table e cell = union_choice table e (union_parts (node_at s e)) cell
 
 -- The choice of an option, where there is one.
@@ -111,7 +121,8 @@ abbrev pub taken : Option ℕ → Option Choice
 taken None = None
 taken (Some option) = Some (Choice.Take option)
 
--- The whole number i is the floor of u * m for every number u of the cell where the cell ends at or before (i + 1) / m, i being the floor at the cell's begin.
+-- The whole number i is the floor of u * m for every number u of the cell where the cell ends at or
+-- before (i + 1) / m, i being the floor at the cell's begin.
 abbrev pub whole_from : (m i : ℕ) → Cell → Option ℕ
 whole_from m i cell = if nat_le (suc cell.k * m) (suc i * 2 ^ cell.b) then Some i else None
 

@@ -12,4 +12,5 @@ IsIdealOfCell s x e cell i = (u : Fraction) → IsInCell cell.k cell.b u → IsI
 
 -- No option of node e up to the room is the ideal option of any number of the cell.
 abbrev pub IsOverOfCell : Spec → (x : Fraction) → (e : ℕ) → Cell → (room : ℕ) → Type 0
-IsOverOfCell s x e cell room = (u : Fraction) → IsInCell cell.k cell.b u → (i : ℕ) → i ≤ room → ¬ (IsIdealOption s x u e i)
+IsOverOfCell s x e cell room = (u : Fraction) → IsInCell cell.k cell.b u → (i : ℕ) → i ≤ room
+    → ¬ (IsIdealOption s x u e i)

@@ -1,5 +1,6 @@
 -- The cell of the least number of bits that decides, and the bits that a draw spells.
-use Rattle.std.specs.Prelude.{◌≡◌, ℕ, ◌+◌, ◌-◌, ◌/◌, ◌^◌, ◌<◌, ◌≤◌, Bool, List, length, Option, Some, None}
+use Rattle.std.specs.Prelude.{◌≡◌, ℕ, ◌+◌, ◌-◌, ◌/◌, ◌^◌, ◌<◌, ◌≤◌, Bool, List, length, Option}
+use Rattle.std.specs.Prelude.{Some, None}
 use Rattle.bz_model.specs.declared.cell.Cell.{Cell}
 use Rattle.bz_model.specs.Cell.{IsCell, bits_of}
 use Rattle.bit_tape.specs.Given.{HasBits}

@@ -1,5 +1,6 @@
 //! Parts of a union, drawn from bits.
-ghost use Rattle.std.specs.Prelude.{◌≡◌, suc, ◌-◌, ◌*◌, ◌^◌, ◌<◌, ◌≤◌, max, map, length, IfSome, nat_le};
+ghost use Rattle.std.specs.Prelude.{◌≡◌, suc, ◌-◌, ◌*◌, ◌^◌, ◌<◌, ◌≤◌, max, map, length, IfSome};
+ghost use Rattle.std.specs.Prelude.{nat_le};
 ghost use Rattle.bz_model.specs.Fraction.{IsFractionBits};
 ghost use Rattle.bz_model.specs.Spec.{node_at};
 ghost use Rattle.bz_model.specs.Cell.{IsCell};
@@ -7,7 +8,8 @@ ghost use Rattle.bz_model.specs.Oracle.{LeavesOracle};
 ghost use Rattle.class_system.specs.Views.{number};
 ghost use Rattle.class_system.specs.Each.{Each};
 ghost use Rattle.bit_tape.specs.Tape.{Belongs, LeavesTape, bits_of};
-ghost use Rattle.choice_draw.specs.Decision.{Choice, level_for, level_of, IsUnion, union_parts, union_choice, union_decision, taken};
+ghost use Rattle.choice_draw.specs.Decision.{Choice, level_for, level_of, IsUnion, union_parts};
+ghost use Rattle.choice_draw.specs.Decision.{union_choice, union_decision, taken};
 ghost use Rattle.choice_draw.specs.IdealOfCell.{IsIdealOfCell};
 ghost use Rattle.choice_draw.specs.Answer.{IsDraw, OnValue, told_draw, is_fault};
 
@@ -28,7 +30,8 @@ use std::sync::ledger::Ledger;
 /// The number is the ideal option of every number of its cell. At most 60 bits are taken, the least
 /// number that decides. The level of b bits, one for each ten bits begun, is raised before they are
 /// looked at, and no other. The answer is fixed by the bits that were given and the oracle's table,
-/// whether the shelf tells its content or not. `ReadFault` comes exactly where the count of faults of
+/// whether the shelf tells its content or not. `ReadFault` comes exactly where the count of faults
+/// of
 /// the tape's name rose, by one. Takes no memory.
 pub fn draw_union<const F: u32, O: Oracle<F>, S: Shelf, L: Ledger>(
     system: &System,
@@ -52,7 +55,8 @@ pub fn draw_union<const F: u32, O: Oracle<F>, S: Shelf, L: Ledger>(
         ≡ max (O.raised oracle.old) (level_for (tape.new.used - tape.old.used)) }
     ensures oracle { LeavesOracle O.spec O.x O.table O.cost O.raised
         oracle.old oracle.new steps.old steps.new }
-    ensures tape { LeavesTape S.content S.faults (is_fault result) shelf.old shelf.new tape.old tape.new }
+    ensures tape { LeavesTape S.content S.faults (is_fault result) shelf.old shelf.new tape.old
+        tape.new }
 {
     oracle.known();
     let parts = parts_of(system, node);

@@ -14,8 +14,10 @@ use bz_outside::shelf::Shelf;
 
 /// Draws a whole number below `m`: takes bits until their cell decides one.
 ///
-/// The number is `floor(u * m)` for every number u of its cell. At most 60 bits are taken, the least
-/// number that decides. The answer is fixed by the bits that were given, whether the shelf tells its
+/// The number is `floor(u * m)` for every number u of its cell. At most 60 bits are taken, the
+/// least
+/// number that decides. The answer is fixed by the bits that were given, whether the shelf tells
+/// its
 /// content or not. `ReadFault` comes exactly where the count of faults of the tape's name rose, by
 /// one. Takes no memory.
 pub fn draw_whole<S: Shelf>(m: u64, tape: &mut Tape, shelf: &mut S) -> Drawn
@@ -27,7 +29,8 @@ pub fn draw_whole<S: Shelf>(m: u64, tape: &mut Tape, shelf: &mut S) -> Drawn
         tape.old.used tape.new.used (told_draw (λ i. i) result tape.new.used) }
     ensures decided { OnValue result (λ i cell. Decides cell.k cell.b m i) }
     ensures below { OnValue result (λ i cell. i < m) }
-    ensures tape { LeavesTape S.content S.faults (is_fault result) shelf.old shelf.new tape.old tape.new }
+    ensures tape { LeavesTape S.content S.faults (is_fault result) shelf.old shelf.new tape.old
+        tape.new }
 {
     let mut cell = Cell { k: 0, b: 0 };
     'bits: while cell.b < 60 {

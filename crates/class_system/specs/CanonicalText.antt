@@ -1,5 +1,7 @@
 -- The canonical text of a specification.
-use Rattle.std.specs.Prelude.{ℕ, Bool, true, false, nat_eq, List, [], ◌∷◌, ◌++◌, map, flat_map, zip, slice_get, Option, Some, None, unwrap_or, decimal, codes, if◌then◌else◌}
+use Rattle.std.specs.Prelude.{ℕ, Bool, true, false, nat_eq, List, [], ◌∷◌, ◌++◌, map, flat_map, zip}
+use Rattle.std.specs.Prelude.{slice_get, Option, Some, None, unwrap_or, decimal, codes}
+use Rattle.std.specs.Prelude.{if◌then◌else◌}
 use Rattle.bz_model.specs.Spec.{Spec, Mode, Node, Range}
 use Rattle.class_system.specs.NodeResults.{node_results, ranged_nodes}
 use Rattle.class_system.specs.declared.canonical.Form.{Form}
@@ -18,7 +20,8 @@ single text = record { form = form.Single; text = text }
 abbrev pub bracketed : List ℕ → List ℕ
 bracketed text = codes "(" ++ text ++ codes ")"
 
--- Whether a part of a union or a product stands in parentheses: a union always, and a product in a product.
+-- Whether a part of a union or a product stands in parentheses: a union always, and a product in a
+-- product.
 abbrev pub is_bracketed : (within part : Form) → Bool
 is_bracketed within form.Single = false
 is_bracketed within form.Summed = true
@@ -45,18 +48,27 @@ abbrev pub leaf_text : (letter word : List ℕ) → List ℕ
 leaf_text letter [] = letter
 leaf_text letter (b ∷ bs) = letter ++ codes ":" ++ (b ∷ bs)
 
--- The bound of a counted node, whose plain low is given: nothing for a plain range, else `=k` where low and high are equal, else `>=low` where there is no high, else `<=high`.
+-- The bound of a counted node, whose plain low is given: nothing for a plain range, else `=k` where
+-- low and high are equal, else `>=low` where there is no high, else `<=high`.
 abbrev pub bound_text : (plain low : ℕ) → (high : Option ℕ) → List ℕ
 bound_text plain low None = if nat_eq low plain then [] else codes ">=" ++ decimal low
-bound_text plain low (Some high) = if nat_eq low high then codes "=" ++ decimal high else codes "<=" ++ decimal high
+bound_text plain low (Some high) = if nat_eq low high then codes "=" ++ decimal high else codes "<="
+    ++ decimal high
 
 -- A counted node: its operator, its bound, and its part in parentheses.
 abbrev pub counted_text : (operator : List ℕ) → (plain : ℕ) → Range → (part : Shown) → List ℕ
-counted_text operator plain range part = operator ++ bound_text plain range.low range.high ++ bracketed part.text
+counted_text operator plain range part = operator ++ bound_text plain range.low range.high
+    ++ bracketed part.text
 
 -- A union or a product: the texts of its parts with a separator between each two of them.
-abbrev pub joined : (kind : Form) → (separator : List ℕ) → (before : List Shown) → (parts : List ℕ) → Shown
-joined kind separator before parts = record { form = kind; text = separated separator (map (λ part. part_text kind (shown_at before part)) parts) }
+abbrev pub joined : (kind : Form) → (separator : List ℕ) → (before : List Shown) → (parts : List ℕ)
+    → Shown
+joined kind separator before parts =
+    record {
+      form = kind;
+      text =
+          separated separator (map (λ part. part_text kind (shown_at before part)) parts);
+    }
 
 -- What is shown of a node, from what is shown of the nodes before it.
 abbrev pub node_shown : (names : List (List ℕ)) → (before : List Shown) → Node → Range → Shown
@@ -65,9 +77,12 @@ node_shown names before (Node.Atom word) range = single (leaf_text (codes "Z") w
 node_shown names before (Node.Class c) range = single (unwrap_or (slice_get names c) [])
 node_shown names before (Node.Union parts) range = joined form.Summed (codes " + ") before parts
 node_shown names before (Node.Product parts) range = joined form.Multiplied (codes "*") before parts
-node_shown names before (Node.Seq part) range = single (counted_text (codes "Seq") 0 range (shown_at before part))
-node_shown names before (Node.Set part) range = single (counted_text (codes "Set") 0 range (shown_at before part))
-node_shown names before (Node.Cyc part) range = single (counted_text (codes "Cyc") 1 range (shown_at before part))
+node_shown names before (Node.Seq part) range =
+    single (counted_text (codes "Seq") 0 range (shown_at before part))
+node_shown names before (Node.Set part) range =
+    single (counted_text (codes "Set") 0 range (shown_at before part))
+node_shown names before (Node.Cyc part) range =
+    single (counted_text (codes "Cyc") 1 range (shown_at before part))
 
 -- What is shown of all nodes.
 abbrev pub all_shown : Spec → List Shown
@@ -88,4 +103,5 @@ class_line shown p = class_text p.0 (shown_at shown p.1)
 
 -- The canonical text: the mode's line, and a line for each class.
 abbrev pub canonical_text : Spec → List ℕ
-canonical_text s = mode_word s.mode ++ 10 ∷ [] ++ flat_map (class_line (all_shown s)) (zip s.names s.bodies)
+canonical_text s = mode_word s.mode ++ 10 ∷ []
+    ++ flat_map (class_line (all_shown s)) (zip s.names s.bodies)

@@ -7,4 +7,5 @@ pub record IsMissing (name : List ℕ) (names : List (List ℕ)) : Type 0 where
 
 -- No name stands at two places of a list.
 pub record AreDistinct (names : List (List ℕ)) : Type 0 where
-  pub once : (i j : ℕ) (name : List ℕ) → slice_get names i ≡ Some name → slice_get names j ≡ Some name → i ≡ j
+  pub once : (i j : ℕ) (name : List ℕ) → slice_get names i ≡ Some name
+      → slice_get names j ≡ Some name → i ≡ j

@@ -28,7 +28,8 @@ IsCountedNode (Node.Set part) = Unit {0}
 IsCountedNode (Node.Cyc part) = Unit {0}
 IsCountedNode _ = ⊥
 
--- A name is refused as the name of a class that has it, or for want of memory where no class has it.
+-- A name is refused as the name of a class that has it, or for want of memory where no class has
+-- it.
 abbrev pub IsNameFault : List (List ℕ) → List ℕ → ClassFault → Type 0
 IsNameFault names name (Twice c) = slice_get names c.0 ≡ Some name
 IsNameFault names name OutOfMemory = IsMissing name names

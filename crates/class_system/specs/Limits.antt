@@ -1,19 +1,23 @@
 -- The limits of a specification, and which fault tells of a broken one.
-use Rattle.std.specs.Prelude.{◌≡◌, ℕ, suc, ◌<◌, ◌≤◌, max, List, [], ◌∷◌, map, length, Some, slice_get, slice_index}
+use Rattle.std.specs.Prelude.{◌≡◌, ℕ, suc, ◌<◌, ◌≤◌, max, List, [], ◌∷◌, map, length, Some}
+use Rattle.std.specs.Prelude.{slice_get, slice_index}
 use Rattle.bz_model.specs.Spec.{Spec, Node, Range}
 use Rattle.class_system.specs.Each.{Each}
 use Rattle.class_system.specs.NodeOrder.{parts_of}
 use Rattle.class_system.specs.Sound.{IsSound}
 use Rattle.class_system.specs.NodeResults.{node_results, ranged_nodes}
 use Rattle.class_system.specs.declared.limits.BuildFault.{BuildFault}
-use Rattle.class_system.specs.declared.limits.BuildFault.TheVariants.{TooManyClasses, TooManyParts, TooDeep, TooManyNodes, OutOfMemory}
+use Rattle.class_system.specs.declared.limits.BuildFault.TheVariants.{TooManyClasses, TooManyParts}
+use Rattle.class_system.specs.declared.limits.BuildFault.TheVariants.{TooDeep, TooManyNodes}
+use Rattle.class_system.specs.declared.limits.BuildFault.TheVariants.{OutOfMemory}
 
 -- The greatest of some numbers, and 0 of none.
 abbrev pub greatest : List ℕ → ℕ
 greatest [] = 0
 greatest (n ∷ ns) = max n (greatest ns)
 
--- The depth of a node is one more than the greatest depth of its parts, so that a leaf and a reference have depth 1.
+-- The depth of a node is one more than the greatest depth of its parts, so that a leaf and a
+-- reference have depth 1.
 abbrev pub node_depth : (before : List ℕ) → Node → Range → ℕ
 node_depth before n range = suc (greatest (map (slice_index before) (parts_of n)))
 
@@ -29,7 +33,8 @@ depth_of s = greatest (depths s)
 pub record HasFewParts (n : Node) : Type 0 where
   pub few : length (parts_of n) ≤ 64
 
--- A specification is within the limits where it has at most 64 classes, at most 64 parts in each node, depth at most 64 and at most 512 nodes.
+-- A specification is within the limits where it has at most 64 classes, at most 64 parts in each
+-- node, depth at most 64 and at most 512 nodes.
 pub record IsWithinLimits (s : Spec) : Type 0 where
   pub classes : length s.names ≤ 64
   pub parts : Each HasFewParts s.nodes

@@ -33,7 +33,8 @@ pub record IsBound (k : ℕ) : Type 0 where
   pub from_one : 1 ≤ k
   pub to_64 : k ≤ 64
 
--- A range is one that the text gives where the plain low is `low`: the plain one, or that of >=k, <=k or =k.
+-- A range is one that the text gives where the plain low is `low`: the plain one, or that of >=k,
+-- <=k or =k.
 pub data IsTextRange (low : ℕ) (r : Range) : Type 0 where
   plain : r ≡ record { low = low; high = None } → IsTextRange low r
   at_least : (k : ℕ) → IsBound k → r ≡ record { low = k; high = None } → IsTextRange low r
@@ -47,7 +48,11 @@ HasTextRange (Node.Set part) r = IsTextRange 0 r
 HasTextRange (Node.Cyc part) r = IsTextRange 1 r
 HasTextRange _ r = r ≡ record { low = 0; high = None }
 
--- A specification is sound where it has a class, a body for each class, two parts or more in each union and product, references to its classes alone, nodes in order, names and leaves' words of the text, sets and cycles only if it is labelled, and for each node a range of the text. That the nodes are in order says that each class's nodes stand together with the body last, that each part stands before its node, and that each other node is a part of exactly one node.
+-- A specification is sound where it has a class, a body for each class, two parts or more in each
+-- union and product, references to its classes alone, nodes in order, names and leaves' words of
+-- the text, sets and cycles only if it is labelled, and for each node a range of the text. That the
+-- nodes are in order says that each class's nodes stand together with the body last, that each part
+-- stands before its node, and that each other node is a part of exactly one node.
 pub record IsSound (s : Spec) : Type 0 where
   pub a_class : 0 < length s.names
   pub bodies : length s.bodies ≡ length s.names

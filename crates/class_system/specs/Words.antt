@@ -1,5 +1,6 @@
 -- Names of classes and words of leaves, as the text of a specification has them.
-use Rattle.std.specs.Prelude.{◌≡◌, ◌≢◌, ℕ, ◌≤◌, Bool, true, ◌||◌, nat_eq, List, [], ◌∷◌, length, slice_index, codes}
+use Rattle.std.specs.Prelude.{◌≡◌, ◌≢◌, ℕ, ◌≤◌, Bool, true, ◌||◌, nat_eq, List, [], ◌∷◌, length}
+use Rattle.std.specs.Prelude.{slice_index, codes}
 use Rattle.std.specs.List.{AllPass, AllByRecursion}
 use Rattle.std.specs.Char.{is_ascii_alphabetic, is_ascii_alphanumeric}
 

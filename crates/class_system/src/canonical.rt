@@ -4,7 +4,10 @@ ghost use Rattle.class_system.specs.Each.{Each};
 ghost use Rattle.class_system.specs.Views.{spec_node, spec_range, spec_mode, number};
 ghost use Rattle.class_system.specs.NodeOrder.{parts_of};
 ghost use Rattle.class_system.specs.Sound.{IsSound, RefersBelow};
-ghost use Rattle.class_system.specs.CanonicalText.{single, is_bracketed, part_text, joined, leaf_text, bound_text, counted_text, bracketed, node_shown, all_shown, mode_word, class_text, canonical_text};
+ghost use Rattle.class_system.specs.CanonicalText.{single, is_bracketed, part_text, joined};
+ghost use Rattle.class_system.specs.CanonicalText.{leaf_text, bound_text, counted_text, bracketed};
+ghost use Rattle.class_system.specs.CanonicalText.{node_shown, all_shown, mode_word, class_text};
+ghost use Rattle.class_system.specs.CanonicalText.{canonical_text};
 
 use crate::draft::{Draft, Mode};
 use crate::expr::Expr;

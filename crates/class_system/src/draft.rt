@@ -1,9 +1,11 @@
 //! Drafts: what a reader builds, node after node.
-ghost use Rattle.std.specs.Prelude.{◌≡◌, ◌<◌, ◌≤◌, ◌^◌, [], map, length, slice_get, Some, IfOk, OnOk, OnErr, IfErr, IfSome, IfNone};
+ghost use Rattle.std.specs.Prelude.{◌≡◌, ◌<◌, ◌≤◌, ◌^◌, [], map, length, slice_get, Some, IfOk};
+ghost use Rattle.std.specs.Prelude.{OnOk, OnErr, IfErr, IfSome, IfNone};
 ghost use Rattle.bz_model.specs.Spec.{Spec, node_at, range_at, body_of, plain_range};
 ghost use Rattle.class_system.specs.Views.{spec_node, number, spec_range, spec_mode};
 ghost use Rattle.class_system.specs.Distinct.{IsMissing, AreDistinct};
-ghost use Rattle.class_system.specs.Drafting.{empty_draft, with_name, with_node, with_body, IsCountedNode, IsNameFault};
+ghost use Rattle.class_system.specs.Drafting.{empty_draft, with_name, with_node, with_body};
+ghost use Rattle.class_system.specs.Drafting.{IsCountedNode, IsNameFault};
 
 use crate::expr::{Expr, Nodes};
 use crate::ids::{ClassId, ExprId, Parts};
@@ -97,7 +99,8 @@ impl Draft {
     pub fn add_node(&mut self, item: Expr) -> Result<ExprId, AllocError>
         requires few { length self.old.nodes < 2 ^ 32 }
         ensures number { IfOk result (λ e. e.0 ≡ length self.old.nodes) }
-        ensures ok { OnOk result (self.new ≡ with_node self.old (spec_node item) (plain_range (spec_node item))) }
+        ensures ok { OnOk result
+            (self.new ≡ with_node self.old (spec_node item) (plain_range (spec_node item))) }
         ensures err { OnErr result (self.new ≡ self.old) }
     {
         let bounds = plain(&item);

@@ -1,9 +1,11 @@
 //! The limits of a specification.
-ghost use Rattle.std.specs.Prelude.{◌≡◌, suc, ◌<◌, ◌-◌, ◌^◌, map, length, slice_index, OnOk, IfErr, IfOk, IfSome, IfNone};
+ghost use Rattle.std.specs.Prelude.{◌≡◌, suc, ◌<◌, ◌-◌, ◌^◌, map, length, slice_index, OnOk, IfErr};
+ghost use Rattle.std.specs.Prelude.{IfOk, IfSome, IfNone};
 ghost use Rattle.class_system.specs.Each.{Each};
 ghost use Rattle.class_system.specs.Views.{spec_node, number};
 ghost use Rattle.class_system.specs.Sound.{IsSound};
-ghost use Rattle.class_system.specs.Limits.{IsWithinLimits, TellsLimit, IsFirstExcess, HasFewParts, depth_of, greatest};
+ghost use Rattle.class_system.specs.Limits.{IsWithinLimits, TellsLimit, IsFirstExcess, HasFewParts};
+ghost use Rattle.class_system.specs.Limits.{depth_of, greatest};
 
 use crate::draft::Draft;
 use crate::expr::Expr;

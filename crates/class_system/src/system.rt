@@ -1,5 +1,6 @@
 //! Systems: sound specifications within the limits.
-ghost use Rattle.std.specs.Prelude.{◌≡◌, ◌<◌, map, length, slice_get, Some, IfSome, IfNone, IfOk, IfErr, OnOk};
+ghost use Rattle.std.specs.Prelude.{◌≡◌, ◌<◌, map, length, slice_get, Some, IfSome, IfNone, IfOk};
+ghost use Rattle.std.specs.Prelude.{IfErr, OnOk};
 ghost use Rattle.bz_model.specs.Spec.{Spec, node_at, range_at, body_of};
 ghost use Rattle.class_system.specs.Views.{spec_node, number, spec_range, spec_mode};
 ghost use Rattle.class_system.specs.Distinct.{IsMissing, AreDistinct};

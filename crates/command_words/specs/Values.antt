@@ -1,4 +1,5 @@
--- The values in what words give: which text stands for which value, what is accepted, and which value is refused first.
+-- The values in what words give: which text stands for which value, what is accepted, and which
+-- value is refused first.
 use Rattle.std.specs.Prelude.{◌≡◌, ℕ, ◌^◌, ◌<◌, ◌≤◌, ◌⊎◌, List, [], ◌∷◌, Ok}
 use Rattle.bz_model.specs.declared.fraction.Fraction.{Fraction}
 use Rattle.bz_model.specs.FractionRead.{ReadsAs}
@@ -6,11 +7,13 @@ use Rattle.bz_model.specs.Number.{IsNumber, number_value}
 use Rattle.command_words.specs.declared.fault.ValueName.{ValueName}
 use Rattle.command_words.specs.declared.fault.ValueName.TheVariants as value
 use Rattle.command_words.specs.declared.names.CommandName.{CommandName}
-use Rattle.command_words.specs.declared.names.CommandName.TheVariants.{Oracle, Sample, Pool, Bulk, Chance, Count, Unrank}
+use Rattle.command_words.specs.declared.names.CommandName.TheVariants.{Oracle, Sample, Pool, Bulk}
+use Rattle.command_words.specs.declared.names.CommandName.TheVariants.{Chance, Count, Unrank}
 use Rattle.command_words.specs.declared.names.OptionName.TheVariants as option
 use Rattle.command_words.specs.Words.{Given}
 
--- The text of the x among a command's positional words: the second of an oracle, a sample, a pool and a chance.
+-- The text of the x among a command's positional words: the second of an oracle, a sample, a pool
+-- and a chance.
 abbrev pub x_among : CommandName → List (List ℕ) → List (List ℕ)
 x_among Oracle (file ∷ x ∷ _) = x ∷ []
 x_among Sample (file ∷ x ∷ _) = x ∷ []
@@ -18,7 +21,8 @@ x_among Pool (file ∷ x ∷ _) = x ∷ []
 x_among Chance (file ∷ x ∷ _) = x ∷ []
 x_among _ _ = []
 
--- The text of the n among a command's positional words: the first of `bulk`, the second of `count` and `unrank`.
+-- The text of the n among a command's positional words: the first of `bulk`, the second of `count`
+-- and `unrank`.
 abbrev pub n_among : CommandName → List (List ℕ) → List (List ℕ)
 n_among Bulk (n ∷ _) = n ∷ []
 n_among Count (file ∷ n ∷ _) = n ∷ []
@@ -59,13 +63,15 @@ IsWithinLimits name value.Fraction n = (n ≡ 40) ⊎ (n ≡ 48) ⊎ (n ≡ 52)
 IsWithinLimits name value.N n = MayBeN name n
 IsWithinLimits name value.Rank n = n < 2 ^ 128
 
--- A text stands for a number as this value of a command: it is the decimal number n without leading zeros, and n is within the value's limits.
+-- A text stands for a number as this value of a command: it is the decimal number n without leading
+-- zeros, and n is within the value's limits.
 pub record StandsFor (name : CommandName) (asked : ValueName) (text : List ℕ) (n : ℕ) : Type 0 where
   pub is_number : IsNumber text
   pub is_value : number_value text ≡ n
   pub within : IsWithinLimits name asked n
 
--- A text is accepted as a value: as the x where it reads as a fraction, and as another where it stands for a number.
+-- A text is accepted as a value: as the x where it reads as a fraction, and as another where it
+-- stands for a number.
 abbrev pub IsAccepted : CommandName → ValueName → List ℕ → Type 0
 IsAccepted name value.X text = (x : Fraction) × ReadsAs text (Ok x)
 IsAccepted name asked text = (n : ℕ) × StandsFor name asked text n
@@ -75,7 +81,8 @@ abbrev pub IsRefused : CommandName → ValueName → List (List ℕ) → Type 0
 IsRefused name asked [] = ⊥
 IsRefused name asked (text ∷ _) = ¬ (IsAccepted name asked text)
 
--- A number is set where the text that is given stands for it, or where none is given and it is the default.
+-- A number is set where the text that is given stands for it, or where none is given and it is the
+-- default.
 abbrev pub IsSet : CommandName → ValueName → (default : ℕ) → List (List ℕ) → ℕ → Type 0
 IsSet name asked default [] n = n ≡ default
 IsSet name asked default (text ∷ _) n = StandsFor name asked text n
@@ -95,9 +102,11 @@ order value.Rank = 8
 -- A value is the first that is refused.
 pub record IsFirstRefused (name : CommandName) (given : Given) (refused : ValueName) : Type 0 where
   pub here : IsRefused name refused (texts_of name given refused)
-  pub none_before : (other : ValueName) → order other < order refused → ¬ (IsRefused name other (texts_of name given other))
+  pub none_before : (other : ValueName) → order other < order refused
+      → ¬ (IsRefused name other (texts_of name given other))
 
--- No value is refused, and the least size, 0 where none is given, is above the greatest, 1000 where none is given.
+-- No value is refused, and the least size, 0 where none is given, is above the greatest, 1000 where
+-- none is given.
 pub record IsEmptyWindow (name : CommandName) (given : Given) : Type 0 where
   pub none_refused : (any : ValueName) → ¬ (IsRefused name any (texts_of name given any))
   pub min : ℕ
@@ -106,7 +115,8 @@ pub record IsEmptyWindow (name : CommandName) (given : Given) : Type 0 where
   pub is_max : IsSet name value.Max 1000 (given.values option.Max) max
   pub above : max < min
 
--- A value is bad where it is the first that is refused; the least size is bad also where the window is empty.
+-- A value is bad where it is the first that is refused; the least size is bad also where the window
+-- is empty.
 pub data IsBad (name : CommandName) (given : Given) : ValueName → Type 0 where
   refused : (first : ValueName) → IsFirstRefused name given first → IsBad name given first
   empty : IsEmptyWindow name given → IsBad name given value.Min

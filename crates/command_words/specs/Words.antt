@@ -1,7 +1,10 @@
 -- The form of a command's words: its name, and after it positional words and options in any order.
-use Rattle.std.specs.Prelude.{◌≡◌, ◌≢◌, ◌==◌, ℕ, ◌+◌, ◌<◌, ◌≤◌, List, [], ◌∷◌, length, slice_index, codes, All, if◌then◌else◌, ⊤}
+use Rattle.std.specs.Prelude.{◌≡◌, ◌≢◌, ◌==◌, ℕ, ◌+◌, ◌<◌, ◌≤◌, List, [], ◌∷◌, length, slice_index}
+use Rattle.std.specs.Prelude.{codes, All, if◌then◌else◌, ⊤}
 use Rattle.command_words.specs.declared.names.CommandName.{CommandName}
-use Rattle.command_words.specs.declared.names.CommandName.TheVariants.{Spec, Oracle, Sample, Pool, Verify, Migrate, Bulk, Point, Chance, Count, Unrank, Rank}
+use Rattle.command_words.specs.declared.names.CommandName.TheVariants.{Spec, Oracle, Sample, Pool}
+use Rattle.command_words.specs.declared.names.CommandName.TheVariants.{Verify, Migrate, Bulk, Point}
+use Rattle.command_words.specs.declared.names.CommandName.TheVariants.{Chance, Count, Unrank, Rank}
 use Rattle.command_words.specs.declared.names.OptionName.{OptionName}
 use Rattle.command_words.specs.declared.names.OptionName.TheVariants as option
 
@@ -54,7 +57,8 @@ pub data Argument : Type 0 where
 abbrev pub words_of : List Argument → List (List ℕ)
 words_of [] = []
 words_of (Argument.Positional word ∷ arguments) = word ∷ words_of arguments
-words_of (Argument.Setting option value ∷ arguments) = option_word option ∷ value ∷ words_of arguments
+words_of (Argument.Setting option value ∷ arguments) = option_word option ∷ value
+    ∷ words_of arguments
 words_of (Argument.Fast ∷ arguments) = fast_word ∷ words_of arguments
 
 -- The positional words among arguments, in order.
@@ -68,7 +72,8 @@ places_of (Argument.Fast ∷ arguments) = places_of arguments
 abbrev pub values_of : List Argument → OptionName → List (List ℕ)
 values_of [] asked = []
 values_of (Argument.Positional word ∷ arguments) asked = values_of arguments asked
-values_of (Argument.Setting option value ∷ arguments) asked = if option_number option == option_number asked then value ∷ values_of arguments asked else values_of arguments asked
+values_of (Argument.Setting option value ∷ arguments) asked = if option_number option ==
+    option_number asked then value ∷ values_of arguments asked else values_of arguments asked
 values_of (Argument.Fast ∷ arguments) asked = values_of arguments asked
 
 -- How often `--fast` stands among arguments.
@@ -78,7 +83,8 @@ times_fast (Argument.Positional word ∷ arguments) = times_fast arguments
 times_fast (Argument.Setting option value ∷ arguments) = times_fast arguments
 times_fast (Argument.Fast ∷ arguments) = times_fast arguments + 1
 
--- What arguments give: positional words, the values of each option, and how often `--fast` stands there.
+-- What arguments give: positional words, the values of each option, and how often `--fast` stands
+-- there.
 pub record Given : Type 0 where
   pub places : List (List ℕ)
   pub values : OptionName → List (List ℕ)
@@ -86,7 +92,12 @@ pub record Given : Type 0 where
 
 -- What these arguments give.
 abbrev pub given_by : List Argument → Given
-given_by arguments = record { places = places_of arguments; values = values_of arguments; fast = times_fast arguments }
+given_by arguments = record {
+  places = places_of arguments;
+  values = values_of arguments;
+  fast =
+      times_fast arguments;
+}
 
 -- The least number of positional words that a command takes.
 abbrev pub fewest_places : CommandName → ℕ
@@ -103,7 +114,8 @@ fewest_places Count = 2
 fewest_places Unrank = 3
 fewest_places Rank = 2
 
--- The greatest number of positional words that a command takes: a pool has a file, an x, a schedule and up to 64 tapes.
+-- The greatest number of positional words that a command takes: a pool has a file, an x, a schedule
+-- and up to 64 tapes.
 abbrev pub most_places : CommandName → ℕ
 most_places Pool = 67
 most_places name = fewest_places name
@@ -124,13 +136,15 @@ abbrev pub most_fast : CommandName → ℕ
 most_fast Sample = 1
 most_fast _ = 0
 
--- A command takes what is given: not too few and not too many positional words, each option and `--fast` no more often than it takes it, and for `sample` either a tape or a seed.
+-- A command takes what is given: not too few and not too many positional words, each option and
+-- `--fast` no more often than it takes it, and for `sample` either a tape or a seed.
 pub record Takes (name : CommandName) (given : Given) : Type 0 where
   pub not_too_few : fewest_places name ≤ length given.places
   pub not_too_many : length given.places ≤ most_places name
   pub options : (option : OptionName) → length (given.values option) ≤ most_values name option
   pub fast : given.fast ≤ most_fast name
-  pub tape_or_seed : name ≡ Sample → length (given.values option.Tape) + length (given.values option.Seed) ≡ 1
+  pub tape_or_seed : name ≡ Sample
+      → length (given.values option.Tape) + length (given.values option.Seed) ≡ 1
 
 -- A positional word or a value isn't empty and doesn't begin with `-`.
 pub record IsPlain (word : List ℕ) : Type 0 where
@@ -147,12 +161,14 @@ HasPlainText Argument.Fast = ⊤
 pub record IsPrintable (word : List ℕ) : Type 0 where
   pub bytes : All (λ b. (32 ≤ b) × (b ≤ 126)) word
 
--- Words are those of a command with these arguments: its name and their words. Each positional word and each value is plain, the command takes what they give, and every word is printable.
-pub record HasForm (words : List (List ℕ)) (name : CommandName) (arguments : List Argument) : Type 0 where
-  pub spelled : words ≡ command_word name ∷ words_of arguments
-  pub plain : All HasPlainText arguments
-  pub taken : Takes name (given_by arguments)
-  pub printable : All IsPrintable words
+-- Words are those of a command with these arguments: its name and their words. Each positional word
+-- and each value is plain, the command takes what they give, and every word is printable.
+pub record HasForm (words : List (List ℕ)) (name : CommandName) (arguments : List Argument) : Type 0
+  where
+    pub spelled : words ≡ command_word name ∷ words_of arguments
+    pub plain : All HasPlainText arguments
+    pub taken : Takes name (given_by arguments)
+    pub printable : All IsPrintable words
 
 -- No command has these words.
 pub record IsNoCommand (words : List (List ℕ)) : Type 0 where

@@ -1,7 +1,9 @@
 //! Arguments read from the words behind a command's name.
 ghost use Rattle.std.specs.Prelude.{◌≡◌, ◌<◌, ◌↔◌, ◌∷◌, length, IsTrue, OnOk, IfOk, IfErr};
-ghost use Rattle.command_words.specs.Words.{Argument, IsPlain, option_word, fast_word, most_values, most_fast};
-ghost use Rattle.command_words.specs.Reading.{Adds, ReadsArgument, BeginsWithNone, GivesArguments, AreNoArguments, IfNoCommand};
+ghost use Rattle.command_words.specs.Words.{Argument, IsPlain, option_word, fast_word, most_values};
+ghost use Rattle.command_words.specs.Words.{most_fast};
+ghost use Rattle.command_words.specs.Reading.{Adds, ReadsArgument, BeginsWithNone, GivesArguments};
+ghost use Rattle.command_words.specs.Reading.{AreNoArguments, IfNoCommand};
 ghost use Rattle.command_words.specs.Views.{given_of};
 
 use crate::fault::WordsFault;

@@ -2,7 +2,8 @@
 ghost use Rattle.std.specs.Prelude.{◌≡◌, ◌≢◌, ◌↔◌, IfSome, IsNone, IsTrue, if◌then◌else◌};
 ghost use Rattle.command_words.specs.declared.names.CommandName.{CommandName};
 ghost use Rattle.command_words.specs.declared.names.OptionName.{OptionName};
-ghost use Rattle.command_words.specs.Words.{command_word, option_word, fast_word, option_number, fewest_places, most_places, most_values, most_fast};
+ghost use Rattle.command_words.specs.Words.{command_word, option_word, fast_word, option_number};
+ghost use Rattle.command_words.specs.Words.{fewest_places, most_places, most_values, most_fast};
 
 /// A command's name.
 #[derive(Clone, Copy, Debug, PartialEq, Eq)]

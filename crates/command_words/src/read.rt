@@ -1,7 +1,10 @@
 //! From words to a command.
 ghost use Rattle.std.specs.Prelude.{◌≡◌, ◌+◌, length, IfOk, IfErr};
 ghost use Rattle.command_words.specs.declared.fault.ValueName.TheVariants as value;
-ghost use Rattle.command_words.specs.declared.names.CommandName.TheVariants.{Spec, Oracle, Sample, Pool, Verify, Migrate, Point, Chance, Count, Unrank, Rank};
+ghost use Rattle.command_words.specs.declared.names.CommandName.TheVariants.{Spec, Oracle, Sample};
+ghost use Rattle.command_words.specs.declared.names.CommandName.TheVariants.{Pool, Verify, Migrate};
+ghost use Rattle.command_words.specs.declared.names.CommandName.TheVariants.{Point, Chance, Count};
+ghost use Rattle.command_words.specs.declared.names.CommandName.TheVariants.{Unrank, Rank};
 ghost use Rattle.command_words.specs.declared.names.OptionName.TheVariants as option;
 ghost use Rattle.command_words.specs.Words.{Takes};
 ghost use Rattle.command_words.specs.Values.{IsSet};

@@ -1,7 +1,7 @@
 -- A row is one of a filling whatever its room.
 use Rattle.std.proofs.Common.{◌≡◌, ℕ, sym, subst}
-use Rattle.count_draw.specs.declared.rows.LowerRow.{LowerRow}
-use Rattle.count_draw.specs.declared.rows.UpperRow.{UpperRow}
+use Rattle.count_draw.specs.declared.prefix_sums.LowerRow.{LowerRow}
+use Rattle.count_draw.specs.declared.prefix_sums.UpperRow.{UpperRow}
 use Rattle.count_draw.specs.Table.{Filling}
 use Rattle.count_draw.specs.Row.{IsLowerRow, IsUpperRow, roomless}
 

@@ -6,7 +6,8 @@ use Rattle.choice_draw.specs.Draw.{Draw}
 use Rattle.count_draw.specs.declared.kind.CountChoice.{CountChoice}
 use Rattle.count_draw.specs.declared.kind.CountChoice.TheVariants as choice
 use Rattle.count_draw.specs.declared.drawn.CountDrawn.{CountDrawn}
-use Rattle.count_draw.specs.declared.drawn.CountDrawn.TheVariants.{Count, Over, Straddles, Ended, ReadFault}
+use Rattle.count_draw.specs.declared.drawn.CountDrawn.TheVariants.{Count, Over, Straddles, Ended}
+use Rattle.count_draw.specs.declared.drawn.CountDrawn.TheVariants.{ReadFault}
 
 -- The answer that a choice gives with its cell.
 abbrev pub answer_of : CountChoice → Cell → CountDrawn
@@ -31,7 +32,8 @@ abbrev pub OnCount : CountDrawn → (ℕ → Cell → Type 0) → Type 0
 OnCount (Count value cell) P = P value cell
 OnCount _ P = Unit {0}
 
--- What is said of a cell holds, where the answer is that every number up to the room is passed over.
+-- What is said of a cell holds, where the answer is that every number up to the room is passed
+-- over.
 abbrev pub OnOver : CountDrawn → (Cell → Type 0) → Type 0
 OnOver (Over cell) P = P cell
 OnOver _ P = Unit {0}

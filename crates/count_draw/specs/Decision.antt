@@ -18,7 +18,9 @@ abbrev pub room_below : (high : Option ℕ) → (room : ℕ) → Option ℕ
 room_below None room = Some room
 room_below (Some high) room = if nat_lt room high then Some room else None
 
--- The options of a counted node are the numbers of parts of its range up to the room; the high needs no comparison. The bounds of the objects up to an option are the values from the low to it of the part's bounds, the upper one being at most the node's.
+-- The options of a counted node are the numbers of parts of its range up to the room; the high
+-- needs no comparison. The bounds of the objects up to an option are the values from the low to it
+-- of the part's bounds, the upper one being at most the node's.
 abbrev pub counted_options : Kind → (f : ℕ) → Range → (part whole : Bounds) → (room : ℕ) → Options
 counted_options kind f range part whole room = record {
   whole = whole;
@@ -31,24 +33,34 @@ counted_options kind f range part whole room = record {
 }
 
 -- What a cell decides at a counted node, from the bounds of its part and its own.
-abbrev pub count_choice : Kind → (f : ℕ) → Range → (part whole : Bounds) → (room : ℕ) → Cell → Option Choice
-count_choice kind f range part whole room cell = choice_of (counted_options kind f range part whole room) cell
+abbrev pub count_choice : Kind → (f : ℕ) → Range → (part whole : Bounds) → (room : ℕ) → Cell
+    → Option Choice
+count_choice kind f range part whole room cell =
+    choice_of (counted_options kind f range part whole room) cell
 
 -- What a cell decides at a node with a range; nothing at a node that isn't counted.
-abbrev pub choice_ranged : (f : ℕ) → Range → (node : ℕ → Bounds) → (e room : ℕ) → Option Node → Cell → Option Choice
-choice_ranged f range node e room (Some (Node.Seq part)) cell = count_choice Kind.Seq f range (node part) (node e) room cell
-choice_ranged f range node e room (Some (Node.Set part)) cell = count_choice Kind.Set f range (node part) (node e) room cell
-choice_ranged f range node e room (Some (Node.Cyc part)) cell = count_choice Kind.Cyc f range (node part) (node e) room cell
+abbrev pub choice_ranged : (f : ℕ) → Range → (node : ℕ → Bounds) → (e room : ℕ) → Option Node → Cell
+    → Option Choice
+choice_ranged f range node e room (Some (Node.Seq part)) cell =
+    count_choice Kind.Seq f range (node part) (node e) room cell
+choice_ranged f range node e room (Some (Node.Set part)) cell =
+    count_choice Kind.Set f range (node part) (node e) room cell
+choice_ranged f range node e room (Some (Node.Cyc part)) cell =
+    count_choice Kind.Cyc f range (node part) (node e) room cell
 choice_ranged f range node e room _ cell = None
 
 -- What a cell decides at a node whose range may be missing.
-abbrev pub choice_at : (f : ℕ) → (node : ℕ → Bounds) → (e room : ℕ) → Option Node → Option Range → Cell → Option Choice
+abbrev pub choice_at : (f : ℕ) → (node : ℕ → Bounds) → (e room : ℕ) → Option Node → Option Range
+    → Cell → Option Choice
 choice_at f node e room n None cell = None
 choice_at f node e room n (Some range) cell = choice_ranged f range node e room n cell
 
--- What a cell decides at a counted node of a specification with this room, from a table of bounds by level and node; None where it straddles.
-abbrev pub count_decision : Spec → (f : ℕ) → (table : (level node : ℕ) → Bounds) → (e room : ℕ) → Cell → Option Choice
-count_decision s f table e room cell = choice_at f (table (level_of cell)) e room (node_at s e) (range_at s e) cell
+-- What a cell decides at a counted node of a specification with this room, from a table of bounds
+-- by level and node; None where it straddles.
+abbrev pub count_decision : Spec → (f : ℕ) → (table : (level node : ℕ) → Bounds) → (e room : ℕ)
+    → Cell → Option Choice
+count_decision s f table e room cell =
+    choice_at f (table (level_of cell)) e room (node_at s e) (range_at s e) cell
 
 -- What the code's choice says.
 abbrev pub chosen : CountChoice → Choice

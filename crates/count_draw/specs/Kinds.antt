@@ -1,4 +1,5 @@
--- Sequences, sets and cycles: the series and the node that belong to each, and which nodes of a specification are counted.
+-- Sequences, sets and cycles: the series and the node that belong to each, and which nodes of a
+-- specification are counted.
 use Rattle.std.specs.Prelude.{◌≡◌, ℕ, ◌≤◌, Some}
 use Rattle.bz_model.specs.Spec.{Spec, Node, Range, IsWithinHigh, node_at}
 use Rattle.series_bounds.specs.Series.{Kind}
@@ -24,7 +25,8 @@ pub record IsCountedNode (s : Spec) (e : ℕ) : Type 0 where
   pub part : ℕ
   pub here : node_at s e ≡ Some (counted_node kind part)
 
--- A range suits a construction: its low is at most 64, at least one for a cycle, and not above its high.
+-- A range suits a construction: its low is at most 64, at least one for a cycle, and not above its
+-- high.
 pub record SuitsRange (kind : Kind) (r : Range) : Type 0 where
   pub first : first_term kind ≤ r.low
   pub few : r.low ≤ 64

@@ -2,9 +2,9 @@
 use Rattle.std.specs.Prelude.{◌≡◌, ℕ, ◌<◌, ◌≤◌, false, List, length, slice_index}
 use Rattle.fixed_enclosure.specs.Rounded.{Side}
 use Rattle.fixed_enclosure.specs.Rounded.Side.{Down, Up}
-use Rattle.count_draw.specs.declared.sums.Run.{Run}
-use Rattle.count_draw.specs.declared.rows.LowerRow.{LowerRow}
-use Rattle.count_draw.specs.declared.rows.UpperRow.{UpperRow}
+use Rattle.count_draw.specs.declared.partial_sums.Run.{Run}
+use Rattle.count_draw.specs.declared.prefix_sums.LowerRow.{LowerRow}
+use Rattle.count_draw.specs.declared.prefix_sums.UpperRow.{UpperRow}
 use Rattle.count_draw.specs.Table.{Filling, value_at, reaches_at, IsRun}
 
 -- The first values of a side are kept, up to the place of a run of its terms.

@@ -1,5 +1,6 @@
 //! What a cell decides among numbers of parts, by rows of kept values.
 ghost use Rattle.std.specs.Prelude.{◌≡◌, ℕ, ◌<◌, ◌≤◌, IfSome, Option};
+ghost use Rattle.bz_model.specs.Fraction.{IsFractionBits};
 ghost use Rattle.bz_model.specs.Cell.{IsCell};
 ghost use Rattle.bz_model.specs.Spec.{IsWithinHigh};
 ghost use Rattle.choice_draw.specs.Decision.{least_option, is_reached, choice_of, over_of};
@@ -7,10 +8,10 @@ ghost use Rattle.count_draw.specs.Decision.{top_option, chosen_if};
 ghost use Rattle.count_draw.specs.Table.{options_of, passed_at};
 ghost use Rattle.count_draw.specs.Row.{IsLowerRow, IsUpperRow};
 
-use crate::cell_values::{begin_of, end_of};
 use crate::kind::CountChoice;
-use crate::rows::{LowerRow, UpperRow};
-use crate::sums::CountSums;
+use crate::partial_sums::CountSums;
+use crate::prefix_sums::{LowerRow, UpperRow};
+use crate::thresholds::{begin_of, end_of};
 use bz_model::cell::Cell;
 
 /// The greatest number of parts that may be taken: the lesser of the high and the room.
@@ -34,7 +35,7 @@ pub(crate) fn choose<const F: u32>(
     room: u64,
     cell: Cell,
 ) -> Option<CountChoice>
-    requires fraction { (24 ≤ F) × (F ≤ 56) }
+    requires fraction_bits { IsFractionBits F }
     requires lower { IsLowerRow F sums.now lower.old }
     requires upper { IsUpperRow F sums.now upper.old }
     requires top { sums.now.room ≡ top_option high room }
@@ -59,7 +60,7 @@ fn least_or_high<const F: u32>(
     room: u64,
     cell: Cell,
 ) -> Option<u64>
-    requires fraction { (24 ≤ F) × (F ≤ 56) }
+    requires fraction_bits { IsFractionBits F }
     requires lower { IsLowerRow F sums.now lower.old }
     requires top { sums.now.room ≡ top_option high room }
     requires within { IsWithinHigh sums.now.low high }
@@ -75,16 +76,18 @@ fn least_or_high<const F: u32>(
     if high <= room { Some(high) } else { None }
 }
 
-/// Whether an option is the first, or no number of the cell lies before the end of the one before it.
+/// Whether an option is the first, or no number of the cell lies before the end of the one before
+/// it.
 #[inline]
 fn reaches<const F: u32>(sums: &CountSums<F>, upper: &mut UpperRow, cell: Cell, option: u64) -> bool
-    requires fraction { (24 ≤ F) × (F ≤ 56) }
+    requires fraction_bits { IsFractionBits F }
     requires upper { IsUpperRow F sums.now upper.old }
     requires cell { IsCell cell.k cell.b }
     requires first { sums.now.low ≤ option }
     requires option { option ≤ sums.now.room }
     ensures upper { IsUpperRow F sums.now upper.new }
-    ensures exact { (high : Option ℕ) (room : ℕ) → is_reached (options_of F sums.now high room) cell option ≡ result }
+    ensures exact { (high : Option ℕ) (room : ℕ)
+        → is_reached (options_of F sums.now high room) cell option ≡ result }
 {
     option == sums.low() || is_passed(sums, upper, cell, option - 1)
 }
@@ -98,7 +101,7 @@ fn over<const F: u32>(
     room: u64,
     cell: Cell,
 ) -> Option<CountChoice>
-    requires fraction { (24 ≤ F) × (F ≤ 56) }
+    requires fraction_bits { IsFractionBits F }
     requires upper { IsUpperRow F sums.now upper.old }
     requires top { sums.now.room ≡ top_option high room }
     requires cell { IsCell cell.k cell.b }
@@ -114,7 +117,7 @@ fn over<const F: u32>(
 /// Whether no number of the cell lies before the end of option i.
 #[inline]
 fn is_passed<const F: u32>(sums: &CountSums<F>, upper: &mut UpperRow, cell: Cell, i: u64) -> bool
-    requires fraction { (24 ≤ F) × (F ≤ 56) }
+    requires fraction_bits { IsFractionBits F }
     requires upper { IsUpperRow F sums.now upper.old }
     requires cell { IsCell cell.k cell.b }
     requires option { i ≤ sums.now.room }

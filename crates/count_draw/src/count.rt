@@ -14,11 +14,11 @@ ghost use Rattle.count_draw.specs.Decision.{count_choice, count_decision, chosen
 ghost use Rattle.count_draw.specs.Decision as decision;
 ghost use Rattle.count_draw.specs.Answer.{OnCount, OnOver, told_count, is_fault};
 
+use crate::cache::{KeptRows, KeptTables};
 use crate::choice::top_of;
 use crate::drawn::CountDrawn;
-use crate::kept::{KeptRows, KeptTables};
 use crate::kind::{CountChoice, CountKind};
-use crate::sums::CountSums;
+use crate::partial_sums::CountSums;
 use bit_tape::tape::{BitAnswer, Tape};
 use bz_model::cell::Cell;
 use bz_model::oracle::Oracle;
@@ -33,9 +33,12 @@ use std::sync::ledger::Ledger;
 
 /// Draws the number of parts of a sequence, set or cycle: takes bits until their cell decides.
 ///
-/// The number is the ideal option of every number of its cell, and `Over` comes only where no option
-/// up to the room is ideal for any number of it. At most 60 bits are taken. The level of b bits, one
-/// for each ten bits begun, is raised before they are looked at, and no other. Where the shelf tells
+/// The number is the ideal option of every number of its cell, and `Over` comes only where no
+/// option
+/// up to the room is ideal for any number of it. At most 60 bits are taken. The level of b bits,
+/// one
+/// for each ten bits begun, is raised before they are looked at, and no other. Where the shelf
+/// tells
 /// its content, the answer is fixed by the tape's bits and the oracle's table. Takes no memory.
 pub fn draw_count<const F: u32, O: Oracle<F>, S: Shelf, L: Ledger>(
     system: &System,
@@ -57,12 +60,14 @@ pub fn draw_count<const F: u32, O: Oracle<F>, S: Shelf, L: Ledger>(
         tape.old.used tape.new.used (told_count result tape.new.used) }
     ensures ideal { OnCount result (λ i cell. IsIdealOfCell system.now (O.x oracle.old) node.0 cell i) }
     ensures over { OnOver result (λ cell. IsOverOfCell system.now (O.x oracle.old) node.0 cell room) }
-    ensures in_range { OnCount result (λ i cell. IsInRange i (range_at system.now node.0) × (i ≤ room)) }
+    ensures in_range { OnCount result (λ i cell. IsInRange i (range_at system.now node.0)
+        × (i ≤ room)) }
     ensures raised { O.raised oracle.new
         ≡ max (O.raised oracle.old) (level_for (tape.new.used - tape.old.used)) }
     ensures oracle { LeavesOracle O.spec O.x O.table O.cost O.raised
         oracle.old oracle.new steps.old steps.new }
-    ensures tape { LeavesTape S.content S.faults (is_fault result) shelf.old shelf.new tape.old tape.new }
+    ensures tape { LeavesTape S.content S.faults (is_fault result) shelf.old shelf.new tape.old
+        tape.new }
 {
     draw_by_rows(
         system,
@@ -76,7 +81,8 @@ pub fn draw_count<const F: u32, O: Oracle<F>, S: Shelf, L: Ledger>(
     )
 }
 
-/// Draws the number of parts of a sequence, set or cycle, as `draw_count` does, by kept values: those
+/// Draws the number of parts of a sequence, set or cycle, as `draw_count` does, by kept values:
+/// those
 /// that a draw comes past are kept for later ones. Takes no memory.
 pub fn draw_count_kept<const F: u32, O: Oracle<F>, S: Shelf, L: Ledger>(
     system: &System,
@@ -99,12 +105,14 @@ pub fn draw_count_kept<const F: u32, O: Oracle<F>, S: Shelf, L: Ledger>(
         tape.old.used tape.new.used (told_count result tape.new.used) }
     ensures ideal { OnCount result (λ i cell. IsIdealOfCell system.now (O.x oracle.old) node.0 cell i) }
     ensures over { OnOver result (λ cell. IsOverOfCell system.now (O.x oracle.old) node.0 cell room) }
-    ensures in_range { OnCount result (λ i cell. IsInRange i (range_at system.now node.0) × (i ≤ room)) }
+    ensures in_range { OnCount result (λ i cell. IsInRange i (range_at system.now node.0)
+        × (i ≤ room)) }
     ensures raised { O.raised oracle.new
         ≡ max (O.raised oracle.old) (level_for (tape.new.used - tape.old.used)) }
     ensures oracle { LeavesOracle O.spec O.x O.table O.cost O.raised
         oracle.old oracle.new steps.old steps.new }
-    ensures tape { LeavesTape S.content S.faults (is_fault result) shelf.old shelf.new tape.old tape.new }
+    ensures tape { LeavesTape S.content S.faults (is_fault result) shelf.old shelf.new tape.old
+        tape.new }
 {
     match kept.place_of(node) {
         Some(place) => draw_by_rows(
@@ -144,12 +152,14 @@ fn draw_by_rows<const F: u32, O: Oracle<F>, S: Shelf, L: Ledger>(
         tape.old.used tape.new.used (told_count result tape.new.used) }
     ensures ideal { OnCount result (λ i cell. IsIdealOfCell system.now (O.x oracle.old) node.0 cell i) }
     ensures over { OnOver result (λ cell. IsOverOfCell system.now (O.x oracle.old) node.0 cell room) }
-    ensures in_range { OnCount result (λ i cell. IsInRange i (range_at system.now node.0) × (i ≤ room)) }
+    ensures in_range { OnCount result (λ i cell. IsInRange i (range_at system.now node.0)
+        × (i ≤ room)) }
     ensures raised { O.raised oracle.new
         ≡ max (O.raised oracle.old) (level_for (tape.new.used - tape.old.used)) }
     ensures oracle { LeavesOracle O.spec O.x O.table O.cost O.raised
         oracle.old oracle.new steps.old steps.new }
-    ensures tape { LeavesTape S.content S.faults (is_fault result) shelf.old shelf.new tape.old tape.new }
+    ensures tape { LeavesTape S.content S.faults (is_fault result) shelf.old shelf.new tape.old
+        tape.new }
 {
     oracle.known();
     let counted = counted_at(system, node);
@@ -186,7 +196,8 @@ pub fn decide_count<const F: u32, O: Oracle<F>>(
     requires cell { IsCell cell.k cell.b }
     requires spec { O.spec oracle.now ≡ system.now }
     requires raised { level_of cell ≤ O.raised oracle.now }
-    ensures exact { chosen_if result ≡ count_decision system.now F (O.table oracle.now) node.0 room cell }
+    ensures exact { chosen_if result ≡ count_decision system.now F (O.table oracle.now) node.0 room
+        cell }
     ensures ideal { OnTake result (IsIdealOfCell system.now (O.x oracle.now) node.0 cell) }
     ensures over { decision.OnOver result (IsOverOfCell system.now (O.x oracle.now) node.0 cell room) }
     ensures in_range { OnTake result (λ i. IsInRange i (range_at system.now node.0) × (i ≤ room)) }
@@ -207,7 +218,8 @@ struct Counted {
 /// The sequence, set or cycle at a node.
 fn counted_at(system: &System, node: ExprId) -> Counted
     requires counted { IsCountedNode system.now node.0 }
-    ensures node { node_at system.now node.0 ≡ Some (counted_node (kind_of result.kind) result.part.0) }
+    ensures node { node_at system.now node.0
+        ≡ Some (counted_node (kind_of result.kind) result.part.0) }
     ensures range { range_at system.now node.0 ≡ Some (spec_range result.range) }
     ensures suits { SuitsRange (kind_of result.kind) (spec_range result.range) }
     ensures part { result.part.0 < length system.now.nodes }
@@ -242,7 +254,8 @@ fn decide_by_rows<const F: u32, O: Oracle<F>>(
     requires node { node.0 < length (O.spec oracle.now).nodes }
     requires part { counted.part.0 < length (O.spec oracle.now).nodes }
     requires raised { level_of cell ≤ O.raised oracle.now }
-    ensures exact { chosen_if result ≡ count_choice (kind_of counted.kind) F (spec_range counted.range)
+    ensures exact { chosen_if result ≡ count_choice (kind_of counted.kind) F
+        (spec_range counted.range)
         (O.table oracle.now (level_of cell) counted.part.0) (O.table oracle.now (level_of cell) node.0) room cell }
 {
     let level = level_at(cell.b);

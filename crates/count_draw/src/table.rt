@@ -1,18 +1,20 @@
 //! Tables of the partial values of one choice among numbers of parts.
 ghost use Rattle.std.specs.Prelude.{◌≡◌, ◌≤◌, IfSome};
+ghost use Rattle.bz_model.specs.Fraction.{IsFractionBits};
 ghost use Rattle.bz_model.specs.Cell.{IsCell};
 ghost use Rattle.series_bounds.specs.ExactSums.{first_term};
 ghost use Rattle.count_draw.specs.Kinds.{kind_of};
 ghost use Rattle.count_draw.specs.Table.{lower_at, upper_at, least_at};
 
-use crate::cell_values::end_of;
 use crate::kind::CountKind;
-use crate::rows::{LowerRow, UpperRow};
-use crate::sums::CountSums;
+use crate::partial_sums::CountSums;
+use crate::prefix_sums::{LowerRow, UpperRow};
+use crate::thresholds::end_of;
 use bz_model::cell::{Bounds, Cell};
 use std::marker::Model;
 
-/// The lower and upper values, in units of `2^-F`, of the objects with at most i parts, for each i up
+/// The lower and upper values, in units of `2^-F`, of the objects with at most i parts, for each i
+/// up
 /// to a room.
 ///
 /// Those up to 255 parts are kept, as far as the numbers that they are found by have 63 bits, which
@@ -39,11 +41,18 @@ impl<const F: u32> CountTable<F> {
     /// The table of a construction from `low` parts on, from bounds of its part and of the whole
     /// node. Takes no memory.
     pub fn fill(kind: CountKind, low: u64, part: Bounds, whole: Bounds, room: u64) -> CountTable<F>
-        requires fraction { (24 ≤ F) × (F ≤ 56) }
+        requires fraction_bits { IsFractionBits F }
         requires first { first_term (kind_of kind) ≤ low }
         requires few { low ≤ 64 }
         requires room { room ≤ 1000000 }
-        ensures filled { result ≡ record { kind = kind_of kind; low = low; part = part; whole = whole; room = room } }
+        ensures filled { result ≡ record {
+          kind = kind_of kind;
+          low = low;
+          part = part;
+          whole =
+              whole;
+          room = room;
+        } }
     {
         let sums = CountSums::new(kind, low, part, whole, room);
         let mut lower = LowerRow::empty();
@@ -57,7 +66,7 @@ impl<const F: u32> CountTable<F> {
 
     /// The lower value of the objects with at most i parts: 0 below the low. Takes no memory.
     pub fn lower(&self, i: u64) -> u64
-        requires fraction { (24 ≤ F) × (F ≤ 56) }
+        requires fraction_bits { IsFractionBits F }
         requires option { i ≤ self.now.room }
         ensures exact { result ≡ lower_at F self.now i }
     {
@@ -70,7 +79,7 @@ impl<const F: u32> CountTable<F> {
     /// The upper value of the objects with at most i parts, at most that of the whole node: 0 below
     /// the low. Takes no memory.
     pub fn upper(&self, i: u64) -> u64
-        requires fraction { (24 ≤ F) × (F ≤ 56) }
+        requires fraction_bits { IsFractionBits F }
         requires option { i ≤ self.now.room }
         ensures exact { result ≡ upper_at F self.now i }
     {
@@ -83,10 +92,11 @@ impl<const F: u32> CountTable<F> {
     /// The least number of parts up to the room whose end lies after every number of the cell;
     /// `None` exactly where there is none. Takes no memory.
     ///
-    /// Among the numbers whose values are kept it is found by halves, beyond them by a pass over the
+    /// Among the numbers whose values are kept it is found by halves, beyond them by a pass over
+    /// the
     /// terms.
     pub fn least(&self, cell: Cell) -> Option<u64>
-        requires fraction { (24 ≤ F) × (F ≤ 56) }
+        requires fraction_bits { IsFractionBits F }
         requires cell { IsCell cell.k cell.b }
         ensures exact { result ≡ least_at F self.now cell }
         ensures in_range { IfSome result (λ i. (self.now.low ≤ i) × (i ≤ self.now.room)) }

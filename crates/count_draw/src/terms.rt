@@ -1,9 +1,12 @@
 //! The terms of a series, one after the other, as long as they are small.
 //!
-//! From term to term a number is carried: the power of the part's value, and for a set the power over
-//! `j!`. It is carried on as long as it is at most 2^63; where the part's value is at most 1, it always
+//! From term to term a number is carried: the power of the part's value, and for a set the power
+//! over
+//! `j!`. It is carried on as long as it is at most 2^63; where the part's value is at most 1, it
+//! always
 //! is.
 ghost use Rattle.std.specs.Prelude.{◌≡◌, ◌^◌, ◌≤◌, IfSome};
+ghost use Rattle.bz_model.specs.Fraction.{IsFractionBits};
 ghost use Rattle.fixed_enclosure.specs.Rounded.{Side};
 ghost use Rattle.series_bounds.specs.Series.{carried_on, term};
 ghost use Rattle.series_bounds.specs.Running.{kept};
@@ -15,11 +18,12 @@ use fixed_enclosure::narrow::power_of_two;
 /// The greatest number that is carried on.
 const MOST: u128 = 1 << 63;
 
-/// The number carried to term `place + 1` from the one carried to term `place`, rounded down; it may
+/// The number carried to term `place + 1` from the one carried to term `place`, rounded down; it
+/// may
 /// be `None` where it is above 2^63, for a set before it is divided by `place + 1`.
 #[inline]
 pub(crate) fn carry_down<const F: u32>(kind: CountKind, a: u64, place: u64, c: u64) -> Option<u64>
-    requires fraction { (24 ≤ F) × (F ≤ 56) }
+    requires fraction_bits { IsFractionBits F }
     requires places { place ≤ 1000000 }
     ensures exact { IfSome result (λ d. d ≡ carried_on Side.Down (kind_of kind) F a place c) }
     ensures small { IfSome result (λ d. d ≤ 2 ^ 63) }
@@ -31,11 +35,12 @@ pub(crate) fn carry_down<const F: u32>(kind: CountKind, a: u64, place: u64, c: u
     })
 }
 
-/// The number carried to term `place + 1` from the one carried to term `place`, rounded up; it may be
+/// The number carried to term `place + 1` from the one carried to term `place`, rounded up; it may
+/// be
 /// `None` where it is above 2^63, for a set before it is divided by `place + 1`.
 #[inline]
 pub(crate) fn carry_up<const F: u32>(kind: CountKind, a: u64, place: u64, c: u64) -> Option<u64>
-    requires fraction { (24 ≤ F) × (F ≤ 56) }
+    requires fraction_bits { IsFractionBits F }
     requires places { place ≤ 1000000 }
     ensures exact { IfSome result (λ d. d ≡ carried_on Side.Up (kind_of kind) F a place c) }
     ensures small { IfSome result (λ d. d ≤ 2 ^ 63) }

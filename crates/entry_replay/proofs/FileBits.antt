@@ -1,7 +1,9 @@
 -- The bits of a file's bytes, and bits put one after the other into bytes.
 use Rattle.std.proofs.Common.{◌≡◌, ℕ, zero, suc, ◌+◌, ◌-◌, ◌*◌, ◌/◌, ◌%◌, ◌^◌, ◌<◌, ◌≤◌, arith, Bool, List, [], ◌∷◌, ◌++◌, length, replicate, take, get_or, cond, append-nil, append_assoc, length-append, Option, Some, None, refl, sym, ◌∙◌, ap, subst}
 use Rattle.std.proofs.lemmas.Bool.{lt-ltb}
+use Rattle.std.proofs.Math.Decide.{dec_le}
 use Rattle.std.proofs.lemmas.List.{take_more}
+use Rattle.std.proofs.lemmas.Option.{slice_get_past}
 use Rattle.std.specs.Prelude.{slice_get, option_map, nat_eq, nat_lt, true, false}
 use Rattle.bz_model.specs.declared.cell.Cell.{Cell}
 use Rattle.bz_model.specs.Cell.{bits_of, bits_of_bytes, spelled}
@@ -135,3 +137,30 @@ spelled-more cells i d before next h is more =
     let one : spelled (take (i + 1) cells) ≡ spelled (take i cells) ++ bits_of (get_or cells i d).b (get_or cells i d).k =
     ap spelled (take_more cells i d h) ∙ spelled-both (take i cells) (get_or cells i d ∷ []) ∙ ap (λ bs. spelled (take i cells) ++ bs) (append-nil (bits_of (get_or cells i d).b (get_or cells i d).k)) in
     more ∙ ap (λ bs. bs ++ bits_of (get_or cells i d).b (get_or cells i d).k) is ∙ sym one
+
+bits-at : (f : ℕ → Option Bool) (place : ℕ) (bs : List Bool) → HasBits f place bs → (i : ℕ) → i < length bs → f (place + i) ≡ slice_get bs i
+bits-at f place [] here i within = absurd (omega arith)
+bits-at f place (b ∷ bs) here zero within = ap f (let e : place + 0 ≡ place = omega arith in e) ∙ here.0
+bits-at f place (b ∷ bs) here (suc i) within = ap f (let e : place + suc i ≡ suc place + i = omega arith in e) ∙ bits-at f (suc place) bs here.1 i (omega arith)
+
+bytes-long : (bytes : List ℕ) → length (bits_of_bytes bytes) ≡ 8 * length bytes
+bytes-long [] = omega arith
+bytes-long (b ∷ bytes) = omega (arith, length-append (bits_of 8 b) (bits_of_bytes bytes), bits-length 8 b, bytes-long bytes)
+
+no-bit : (inside : Bool) (bit : Option Bool) → bit ≡ None → cond inside bit None ≡ None
+no-bit true bit none = none
+no-bit false bit none = refl
+
+no-byte : (byte : Option ℕ) (place : ℕ) → byte ≡ None → within_tape place (option_map (λ y. byte_bit y (place % 8)) byte) ≡ None
+no-byte byte place none = no-bit (nat_lt place (2 ^ 63)) (option_map (λ y. byte_bit y (place % 8)) byte) (ap (option_map (λ y. byte_bit y (place % 8))) none)
+
+-- The bit of a file at a place is the one there in the list of its bytes' bits.
+pub file-bit-at : (bytes : List ℕ) (place : ℕ) → length bytes ≤ 2 ^ 60 → file_bit bytes place ≡ slice_get (bits_of_bytes bytes) place
+file-bit-at bytes place few = go (dec_le (length (bits_of_bytes bytes)) place)
+  where
+    go : Dec (length (bits_of_bytes bytes) ≤ place) → file_bit bytes place ≡ slice_get (bits_of_bytes bytes) place
+    go (yes past) =
+        let long = bytes-long bytes in
+        let beyond : length bytes ≤ place / 8 = omega arith in
+        no-byte (slice_get bytes (place / 8)) place (slice_get_past bytes (place / 8) beyond) ∙ sym (slice_get_past (bits_of_bytes bytes) place past)
+    go (no within) = ap (file_bit bytes) (let e : place ≡ 0 + place = omega arith in e) ∙ bits-at (file_bit bytes) 0 (bits_of_bytes bytes) (file-bits bytes few) place (omega (arith, within))

@@ -1,5 +1,6 @@
 //! Bits in bytes, each byte's highest bit first.
-ghost use Rattle.std.specs.Prelude.{◌≡◌, ◌≢◌, ◌+◌, ◌*◌, ◌/◌, ◌%◌, ◌^◌, ◌<◌, ◌≤◌, ◌∷◌, ◌++◌, [], true, eqb, Bool, List, IfOk, OnOk, length};
+ghost use Rattle.std.specs.Prelude.{◌≡◌, ◌≢◌, ◌+◌, ◌*◌, ◌/◌, ◌%◌, ◌^◌, ◌<◌, ◌≤◌, ◌∷◌, ◌++◌, []};
+ghost use Rattle.std.specs.Prelude.{true, eqb, Bool, List, IfOk, OnOk, length};
 ghost use Rattle.bz_model.specs.Cell.{AreCells, IsCell, bits_of, spelled};
 ghost use Rattle.bit_tape.specs.Bits.{file_bit};
 ghost use Rattle.bit_tape.specs.Given.{HasBits};

@@ -1,5 +1,7 @@
 //! Replays: an attempt and a labelling over the bits that cells spell.
-ghost use Rattle.std.specs.Prelude.{◌≡◌, ◌≢◌, ℕ, ◌+◌, ◌<◌, ◌≤◌, ◌↔◌, ◌∷◌, ◌++◌, [], List, Bool, true, false, IsTrue, IfOk, IfSome, IfNone, OnOk, Some, None};
+ghost use Rattle.std.specs.Prelude.{◌≡◌, ◌≢◌, ℕ, ◌+◌, ◌<◌, ◌≤◌, ◌↔◌, ◌∷◌, ◌++◌, [], List, Bool};
+ghost use Rattle.std.specs.Prelude.{true, false, IsTrue, IfOk, IfSome, IfNone, OnOk, Some, None};
+ghost use Rattle.bz_model.specs.Fraction.{IsFractionBits};
 ghost use Rattle.bz_model.specs.Cell.{AreCells};
 ghost use Rattle.bz_model.specs.Oracle.{LeavesOracle};
 ghost use Rattle.bz_model.specs.declared.cell.Cell.{Cell};
@@ -11,7 +13,8 @@ ghost use Rattle.object_store.specs.declared.token.Token.{Token};
 ghost use Rattle.shape_sampler.specs.Belonging.{IsIdealShape};
 ghost use Rattle.shape_sampler.specs.State.{SessionBelongs, attempt_of};
 ghost use Rattle.size_window.specs.Follows.{IsMadeOfItsCells};
-ghost use Rattle.entry_replay.specs.Replay.{entry_with, AreMadeOf, IsMadeByTable, IsNeverMade, GetLabels, AreIdeally, IsLabelledBy, IsNotLabelled};
+ghost use Rattle.entry_replay.specs.Replay.{entry_with, AreMadeOf, IsMadeByTable, IsNeverMade};
+ghost use Rattle.entry_replay.specs.Replay.{GetLabels, AreIdeally, IsLabelledBy, IsNotLabelled};
 
 use crate::packing::packed;
 use bit_tape::tape::Tape;
@@ -42,8 +45,10 @@ pub struct Redrawn {
 
 /// Makes an object and its labels from exactly the bits that the cells spell.
 ///
-/// `None` exactly where these bits don't make an object with exactly these cells: where a number that
-/// is drawn has another cell, a bit is left or one more wanted, 60 bits decide nothing, or the attempt
+/// `None` exactly where these bits don't make an object with exactly these cells: where a number
+/// that
+/// is drawn has another cell, a bit is left or one more wanted, 60 bits decide nothing, or the
+/// attempt
 /// is over the session's room. The session may have any attempt before. Takes memory for the bits,
 /// the shape, the labels and their cells. After 2^64 - 1 visits it answers as out of memory.
 pub fn replay<const F: u32, O: Oracle<F>, L: Ledger>(
@@ -54,7 +59,7 @@ pub fn replay<const F: u32, O: Oracle<F>, L: Ledger>(
     cells: &[Cell],
     steps: &mut Steps<L>,
 ) -> Result<Option<Redrawn>, AllocError>
-    requires fraction { (24 ≤ F) × (F ≤ 56) }
+    requires fraction_bits { IsFractionBits F }
     requires spec { O.spec oracle.old ≡ founded.now }
     requires session { SessionBelongs founded.now (O.x oracle.old) session.old }
     requires room { session.old.whole ≤ 1000000 }
@@ -96,7 +101,8 @@ pub fn replay<const F: u32, O: Oracle<F>, L: Ledger>(
     )
 }
 
-/// Labels a shape that was made with its own cells, where the cells are these followed by those of its
+/// Labels a shape that was made with its own cells, where the cells are these followed by those of
+/// its
 /// labels.
 fn label_again(
     alloc: Global,
@@ -145,7 +151,7 @@ fn attempt<const F: u32, O: Oracle<F>, L: Ledger>(
     shelf: &mut SteadyShelf,
     steps: &mut Steps<L>,
 ) -> Result<bool, AllocError>
-    requires fraction { (24 ≤ F) × (F ≤ 56) }
+    requires fraction_bits { IsFractionBits F }
     requires spec { O.spec oracle.old ≡ founded.now }
     requires session { SessionBelongs founded.now (O.x oracle.old) session.old }
     requires belongs { Belongs (λ name. Some shelf.old) tape.old }

@@ -10,7 +10,7 @@ use Rattle.fixed_enclosure.specs.UpperValues.{AreAtMost}
 use Rattle.rounded_map.specs.RoundedMap.{Setting, setting, value_down, values_down, values_up, bodies_down, IsPostFixed}
 use Rattle.rounded_map.specs.Bounding.{AreBelow}
 use Rattle.rounded_map.specs.Contracting.{body_slopes, AreContracting, IsFirstNotLess}
-use Rattle.newton_upper.proofs.FixedTest.{length-fixed}
+use Rattle.rounded_map.proofs.FixedTests.{length-fixed}
 use Rattle.fast_lower.specs.Contraction.{one_unit_off}
 use Rattle.fast_lower.specs.FastChecks.{IsFirst, IsAboveAt, ArePositive, IsBelowUpper, IsLowVector, IsNotPreFixed, IsNotContracting, PassesAll}
 use Rattle.fast_lower.proofs.Theorem.{contracted-below-at}

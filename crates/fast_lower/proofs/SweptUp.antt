@@ -3,7 +3,8 @@ use Rattle.std.proofs.Common.{◌≡◌, ℕ, ◌+◌, ◌<◌, List, length, re
 use Rattle.bz_model.specs.Spec.{Spec}
 use Rattle.rounded_map.specs.RoundedMap.{Setting, setting, sweep_up, bodies_up, values_up, IsPostFixed, IsFirstAbove}
 use Rattle.rounded_map.proofs.MapMonotone.{sweeps_up-post_fixed}
-use Rattle.newton_upper.proofs.FixedTest.{length-fixed, unfixed}
+use Rattle.newton_upper.proofs.FixedTest.{unfixed}
+use Rattle.rounded_map.proofs.FixedTests.{length-fixed}
 use Rattle.fast_lower.specs.FastVector.{swept_up}
 
 pub swept-none : (t : Setting) (v : List ℕ) → v ≡ swept_up t v 0

@@ -5,7 +5,9 @@ use Rattle.rounded_map.specs.RoundedMap.{Setting, values_down, values_up, bodies
 use Rattle.rounded_map.specs.Contracting.{body_slopes, IsFirstNotLess}
 use Rattle.fast_lower.specs.Contraction.{IsPreFixed, IsContracting}
 use Rattle.fast_lower.specs.declared.fast.FastFault.{FastFault}
-use Rattle.fast_lower.specs.declared.fast.FastFault.TheVariants.{ZeroWeight, NotBelowBase, NotPreFixed, NotContracting, OutOfMemory}
+use Rattle.fast_lower.specs.declared.fast.FastFault.TheVariants.{ZeroWeight, NotBelowBase}
+use Rattle.fast_lower.specs.declared.fast.FastFault.TheVariants.{NotPreFixed, NotContracting}
+use Rattle.fast_lower.specs.declared.fast.FastFault.TheVariants.{OutOfMemory}
 
 -- The first place of a list of so many entries that has a property.
 pub record IsFirst (P : ℕ → Type 0) (count place : ℕ) : Type 0 where

@@ -1,6 +1,7 @@
 -- The fast vector: a lower vector found by going down from an upper one, along weights along which
 -- the rounded map contracts.
-use Rattle.std.specs.Prelude.{ℕ, ◌-◌, ◌*◌, ◌^◌, Bool, false, List, Option, Some, None, option_map, option_and_then, if◌then◌else◌}
+use Rattle.std.specs.Prelude.{ℕ, ◌-◌, ◌*◌, ◌^◌, Bool, false, List, Option, Some, None, option_map}
+use Rattle.std.specs.Prelude.{option_and_then, if◌then◌else◌}
 use Rattle.rounded_map.specs.RoundedMap.{Setting, at_each, repeated, sweep_up}
 use Rattle.newton_upper.specs.Below.{first_below}
 use Rattle.newton_upper.specs.Candidates.{dual_vector}

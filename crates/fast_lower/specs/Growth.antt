@@ -1,6 +1,7 @@
 -- How fast the numbers of nodes grow with their parts' numbers: exact derivatives, and what covers
 -- them.
-use Rattle.std.specs.Prelude.{◌≡◌, ℕ, zero, suc, ◌-◌, List, [], ◌∷◌, Bool, IsTrue, Option, Some, None}
+use Rattle.std.specs.Prelude.{◌≡◌, ℕ, zero, suc, ◌-◌, List, [], ◌∷◌, Bool, IsTrue, Option, Some}
+use Rattle.std.specs.Prelude.{None}
 use Rattle.bz_model.specs.Fraction.{Fraction, AtMost, plus, times, whole, power}
 use Rattle.bz_model.specs.Spec.{Spec, Node, Range, node_at, range_at}
 use Rattle.bz_model.specs.Measures.{share_of}
@@ -31,7 +32,8 @@ CoversTermGrowth node c low (Some high) v =
 
 -- A number covers the growth of a counted node whose part has the number c and the growth d: some
 -- slope covers the growth of its terms, and the number is at least the slope times d.
-pub record HasSlope (node : Node) (c d : Fraction) (low : ℕ) (high : Option ℕ) (v : Fraction) : Type 0 where
+pub record HasSlope (node : Node) (c d : Fraction) (low : ℕ) (high : Option ℕ) (v : Fraction) : Type
+    0 where
   pub slope : Fraction
   pub covers : CoversTermGrowth node c low high slope
   pub along : AtMost (times slope d) v
@@ -45,7 +47,8 @@ CoversRangeGrowth node c d (Some r) v = HasSlope node c d r.low r.high v
 -- number that `value` gives and grows by what `growth` gives: a leaf doesn't grow, a reference
 -- grows by its class's growth, a union by the sum, a product by the sum of its products with one
 -- part's number replaced, and a counted node by its slope times the part's growth.
-abbrev pub CoversNodeGrowth : (along value growth : ℕ → Fraction) → Node → Option Range → Fraction → Type 0
+abbrev pub CoversNodeGrowth : (along value growth : ℕ → Fraction) → Node → Option Range → Fraction
+    → Type 0
 CoversNodeGrowth along value growth (Node.Empty word) r v = Unit {0}
 CoversNodeGrowth along value growth (Node.Atom word) r v = Unit {0}
 CoversNodeGrowth along value growth (Node.Class c) r v = AtMost (along c) v
@@ -61,7 +64,8 @@ CoversNodeGrowth along value growth (Node.Cyc part) r v =
 
 -- The numbers of some nodes cover their growths: with a node each of its parts has one, and the
 -- node's covers its growth.
-pub record CoversGrowth (s : Spec) (told : ℕ → Bool) (along value growth : ℕ → Fraction) : Type 0 where
+pub record CoversGrowth (s : Spec) (told : ℕ → Bool) (along value growth : ℕ
+    → Fraction) : Type 0 where
   pub parts : (e : ℕ) (node : Node) → IsTrue (told e) → node_at s e ≡ Some node
       → EachPart (λ part. IsTrue (told part)) node
   pub node : (e : ℕ) (node : Node) → IsTrue (told e) → node_at s e ≡ Some node

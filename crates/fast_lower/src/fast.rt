@@ -1,13 +1,15 @@
 //! A lower vector found by contraction.
-ghost use Rattle.std.specs.Prelude.{◌≡◌, ℕ, ◌-◌, ◌+◌, ◌<◌, ◌≤◌, ◌≢◌, map, length, slice_index, IfOk, IfErr, OnOk, IfSome, IfNone};
-ghost use Rattle.bz_model.specs.Fraction.{ratio};
+ghost use Rattle.std.specs.Prelude.{◌≡◌, ℕ, ◌-◌, ◌+◌, ◌<◌, ◌≤◌, ◌≢◌, map, length, slice_index};
+ghost use Rattle.std.specs.Prelude.{IfOk, IfErr, OnOk, IfSome, IfNone};
+ghost use Rattle.bz_model.specs.Fraction.{ratio, IsFractionBits};
 ghost use Rattle.class_system.specs.Each.{Each};
 ghost use Rattle.class_system.specs.Views.{number};
 ghost use Rattle.fixed_enclosure.specs.UpperValues.{AreAtMost};
 ghost use Rattle.rounded_map.specs.RoundedMap.{setting, IsPostFixed};
 ghost use Rattle.rounded_map.specs.Bounding.{AreBelow};
 ghost use Rattle.fast_lower.specs.Contraction.{one_unit_off};
-ghost use Rattle.fast_lower.specs.FastChecks.{IsFirst, IsZeroAt, IsAboveAt, ArePositive, TellsFault, PassesAll};
+ghost use Rattle.fast_lower.specs.FastChecks.{IsFirst, IsZeroAt, IsAboveAt, ArePositive};
+ghost use Rattle.fast_lower.specs.FastChecks.{TellsFault, PassesAll};
 
 use bz_model::fraction::Fraction;
 use bz_model::steps::Steps;
@@ -80,7 +82,7 @@ impl<const F: u32> Fast<F> {
         weights: Vec<u64>,
         steps: &mut Steps<L>,
     ) -> Result<Fast<F>, FastFault>
-        requires fraction_bits { (24 ≤ F) × (F ≤ 56) }
+        requires fraction_bits { IsFractionBits F }
         requires belongs { IsPostFixed (setting founded.now x.num x.den F) upper.now }
         requires one_per_class { length low.items ≡ length founded.now.bodies }
         requires one_weight_per_class { length weights.items ≡ length founded.now.bodies }

@@ -1,6 +1,7 @@
 //! An oracle whose lower sweeps start from a fast vector.
-ghost use Rattle.std.specs.Prelude.{◌≡◌, ℕ, ◌+◌, ◌<◌, ◌≤◌, ◌⊎◌, ◌↔◌, max, length, Some, IfOk, IfSome, IsNone};
-ghost use Rattle.bz_model.specs.Fraction.{ratio};
+ghost use Rattle.std.specs.Prelude.{◌≡◌, ℕ, ◌+◌, ◌<◌, ◌≤◌, ◌⊎◌, ◌↔◌, max, length, Some, IfOk};
+ghost use Rattle.std.specs.Prelude.{IfSome, IsNone};
+ghost use Rattle.bz_model.specs.Fraction.{ratio, IsFractionBits};
 ghost use Rattle.bz_model.specs.Spec.{Spec};
 ghost use Rattle.bz_model.specs.Oracle.{IsSound, AreCosts, cost_between};
 ghost use Rattle.bz_model.specs.declared.cell.Bounds.{Bounds};
@@ -48,7 +49,7 @@ impl<'a, const F: u32> FastMemo<'a, F> {
         base: Base<F>,
         fast: Fast<F>,
     ) -> Result<FastMemo<'a, F>, AllocError>
-        requires fraction_bits { (24 ≤ F) × (F ≤ 56) }
+        requires fraction_bits { IsFractionBits F }
         requires belongs { IsPostFixed (setting founded.now x.num x.den F) base }
         requires one_per_class { length fast ≡ length founded.now.bodies }
         requires below { AreBelow founded.now (ratio x.num x.den) F fast }

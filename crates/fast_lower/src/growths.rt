@@ -2,7 +2,8 @@
 //! reaches.
 //!
 //! Each law is a function without effect, whose clauses hold of all values that they name.
-ghost use Rattle.std.specs.Prelude.{◌≡◌, ℕ, suc, ◌-◌, ◌<◌, ◌≤◌, List, length, slice_index, is_some, Bool, IsTrue, Option, Some};
+ghost use Rattle.std.specs.Prelude.{◌≡◌, ℕ, suc, ◌-◌, ◌<◌, ◌≤◌, List, length, slice_index, is_some};
+ghost use Rattle.std.specs.Prelude.{Bool, IsTrue, Option, Some};
 ghost use Rattle.std.specs.List.{AllByRecursion};
 ghost use Rattle.bz_model.specs.Fraction.{Fraction, AtMost, plus, times, units};
 ghost use Rattle.bz_model.specs.Spec.{Spec, Node, body_of};

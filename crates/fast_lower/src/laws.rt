@@ -9,7 +9,8 @@ ghost use Rattle.fixed_enclosure.specs.UpperValues.{AreAtMost};
 ghost use Rattle.rounded_map.specs.RoundedMap.{setting, values_up, IsPostFixed};
 ghost use Rattle.rounded_map.specs.Bounding.{AreBelow};
 ghost use Rattle.rounded_map.specs.Contracting.{body_slopes};
-ghost use Rattle.fast_lower.specs.Contraction.{IsPreFixed, IsContracting, is_pre_fixed, is_contracting, one_unit_off};
+ghost use Rattle.fast_lower.specs.Contraction.{IsPreFixed, IsContracting, is_pre_fixed};
+ghost use Rattle.fast_lower.specs.Contraction.{is_contracting, one_unit_off};
 ghost use Rattle.fast_lower.specs.FastVector.{fast_vector};
 ghost use Rattle.fast_lower.specs.Examples.{binary, atom};
 

@@ -1,6 +1,7 @@
 //! The search for a fast vector below the base's upper sweeps.
-ghost use Rattle.std.specs.Prelude.{◌≡◌, ◌≢◌, ◌-◌, ◌+◌, ◌*◌, ◌^◌, ◌<◌, ◌≤◌, length, None, IfOk, IfSome, option_map};
-ghost use Rattle.bz_model.specs.Fraction.{ratio};
+ghost use Rattle.std.specs.Prelude.{◌≡◌, ◌≢◌, ◌-◌, ◌+◌, ◌*◌, ◌^◌, ◌<◌, ◌≤◌, length, None, IfOk};
+ghost use Rattle.std.specs.Prelude.{IfSome, option_map};
+ghost use Rattle.bz_model.specs.Fraction.{ratio, IsFractionBits};
 ghost use Rattle.rounded_map.specs.RoundedMap.{setting, IsPostFixed};
 ghost use Rattle.rounded_map.specs.Bounding.{AreBelow};
 ghost use Rattle.fast_lower.specs.Contraction.{one_unit_off};
@@ -33,7 +34,7 @@ impl<const F: u32> Fast<F> {
         base: &Base<F>,
         steps: &mut Steps<L>,
     ) -> Result<Option<Fast<F>>, AllocError>
-        requires fraction_bits { (24 ≤ F) × (F ≤ 56) }
+        requires fraction_bits { IsFractionBits F }
         requires belongs { IsPostFixed (setting founded.now x.num x.den F) base.now }
         ensures exact { IfOk result
             (λ fast. fast ≡ rule.fast_vector (setting founded.now x.num x.den F) base.now) }
@@ -61,7 +62,7 @@ fn upper_vector<const F: u32, L: Ledger>(
     base: &Base<F>,
     steps: &mut Steps<L>,
 ) -> Result<Base<F>, AllocError>
-    requires fraction_bits { (24 ≤ F) × (F ≤ 56) }
+    requires fraction_bits { IsFractionBits F }
     requires belongs { IsPostFixed (setting founded.now x.num x.den F) base.now }
     ensures exact { IfOk result
         (λ upper. upper ≡ rule.upper_vector (setting founded.now x.num x.den F) base.now) }
@@ -90,7 +91,7 @@ fn sweep_up_on<const F: u32, L: Ledger>(
     nodes: &mut [u64],
     steps: &mut Steps<L>,
 )
-    requires fraction_bits { (24 ≤ F) × (F ≤ 56) }
+    requires fraction_bits { IsFractionBits F }
     requires one_per_class { length classes.old ≡ length system.now.bodies }
     requires one_per_node { length nodes.old ≡ length system.now.nodes }
     ensures swept { classes.new
@@ -111,7 +112,7 @@ fn first_passing<const F: u32, L: Ledger>(
     weights: &[u64],
     steps: &mut Steps<L>,
 ) -> Result<Option<Fast<F>>, AllocError>
-    requires fraction_bits { (24 ≤ F) × (F ≤ 56) }
+    requires fraction_bits { IsFractionBits F }
     requires belongs { IsPostFixed (setting founded.now x.num x.den F) upper.now }
     requires one_per_class { length upper.now ≡ length founded.now.bodies }
     requires one_weight_per_class { length weights.now ≡ length founded.now.bodies }
@@ -139,7 +140,7 @@ fn try_candidate<const F: u32, L: Ledger>(
     k: u32,
     steps: &mut Steps<L>,
 ) -> Result<Option<Fast<F>>, AllocError>
-    requires fraction_bits { (24 ≤ F) × (F ≤ 56) }
+    requires fraction_bits { IsFractionBits F }
     requires belongs { IsPostFixed (setting founded.now x.num x.den F) upper.now }
     requires one_per_class { length upper.now ≡ length founded.now.bodies }
     requires one_weight_per_class { length weights.now ≡ length founded.now.bodies }

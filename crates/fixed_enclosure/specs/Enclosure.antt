@@ -1,4 +1,5 @@
--- On which side of the exact result a rounded one lies. A number v stands for v / 2^f; all is said in whole
+-- On which side of the exact result a rounded one lies. A number v stands for v / 2^f; all is said
+-- in whole
 -- numbers, by cross-multiplication.
 use Rattle.std.specs.Prelude.{ℕ, zero, suc, ◌+◌, ◌*◌, ◌^◌, ◌≤◌}
 
@@ -26,7 +27,8 @@ IsAtMostProduct f a b v = v * 2 ^ f ≤ a * b
 abbrev pub IsAtLeastProduct : (f a b v : ℕ) → Type 0
 IsAtLeastProduct f a b v = a * b ≤ v * 2 ^ f
 
--- The sum of the n first powers of a / 2^f, which are 1, a / 2^f and so on, as a number of parts of which (2^f)^n are 1.
+-- The sum of the n first powers of a / 2^f, which are 1, a / 2^f and so on, as a number of parts of
+-- which (2^f)^n are 1.
 abbrev pub sum_of_powers : (f a n : ℕ) → ℕ
 sum_of_powers f a zero = 0
 sum_of_powers f a (suc n) = (2 ^ f) ^ suc n + a * sum_of_powers f a n

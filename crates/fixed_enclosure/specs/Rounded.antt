@@ -1,6 +1,8 @@
--- Rounded arithmetic: numbers of units of 2^-f. Lower results are rounded down and stop at the greatest
+-- Rounded arithmetic: numbers of units of 2^-f. Lower results are rounded down and stop at the
+-- greatest
 -- number of 64 bits. Upper results are rounded up, and have no value past it.
-use Rattle.std.specs.Prelude.{ℕ, zero, suc, ◌+◌, ◌-◌, ◌*◌, ◌/◌, ◌^◌, min, Bool, nat_le, nat_lt, Option, Some, None, if◌then◌else◌}
+use Rattle.std.specs.Prelude.{ℕ, zero, suc, ◌+◌, ◌-◌, ◌*◌, ◌/◌, ◌^◌, min, Bool, nat_le, nat_lt}
+use Rattle.std.specs.Prelude.{Option, Some, None, if◌then◌else◌}
 
 -- The greatest number of 64 bits.
 abbrev pub greatest : ℕ
@@ -62,11 +64,14 @@ mul_down f a b = saturated (a * b / 2 ^ f)
 abbrev pub mul_up : (f a b : ℕ) → Option ℕ
 mul_up f a b = if_fits (quotient_up (a * b) (2 ^ f))
 
--- The lower value of 1 / (1 - a): 1 at a = 0, the greatest number from a = 1 on, and between them 2^(2f) / (2^f - a) rounded down less one unit, so that finitely many powers of a reach it.
+-- The lower value of 1 / (1 - a): 1 at a = 0, the greatest number from a = 1 on, and between them
+-- 2^(2f) / (2^f - a) rounded down less one unit, so that finitely many powers of a reach it.
 abbrev pub seq_down : (f a : ℕ) → ℕ
 seq_down f zero = 2 ^ f
-seq_down f (suc a) = if nat_lt (suc a) (2 ^ f) then saturated (2 ^ (2 * f) / (2 ^ f - suc a) - 1) else greatest
+seq_down f (suc a) =
+    if nat_lt (suc a) (2 ^ f) then saturated (2 ^ (2 * f) / (2 ^ f - suc a) - 1) else greatest
 
--- The upper value of 1 / (1 - a): 2^(2f) / (2^f - a) rounded up below a = 1, and none from there on.
+-- The upper value of 1 / (1 - a): 2^(2f) / (2^f - a) rounded up below a = 1, and none from there
+-- on.
 abbrev pub seq_up : (f a : ℕ) → Option ℕ
 seq_up f a = if nat_lt a (2 ^ f) then if_fits (quotient_up (2 ^ (2 * f)) (2 ^ f - a)) else None

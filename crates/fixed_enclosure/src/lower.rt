@@ -1,8 +1,10 @@
 //! Lower values: results rounded down, which stop at `u64::MAX`.
 
 ghost use Rattle.std.specs.Prelude.{◌≡◌, ◌^◌, ◌≤◌};
+ghost use Rattle.bz_model.specs.Fraction.{IsFractionBits};
 ghost use Rattle.fixed_enclosure.specs.Rounded.{atom_down, add_down, mul_down, seq_down};
-ghost use Rattle.fixed_enclosure.specs.Enclosure.{IsAtMostQuotient, IsAtMostSum, IsAtMostProduct, IsReachedByPowers};
+ghost use Rattle.fixed_enclosure.specs.Enclosure.{IsAtMostQuotient, IsAtMostSum, IsAtMostProduct};
+ghost use Rattle.fixed_enclosure.specs.Enclosure.{IsReachedByPowers};
 
 use crate::narrow::{power_of_two, saturate};
 
@@ -17,7 +19,7 @@ impl<const F: u32> Lo<F> {
     /// A lower bound of the fraction `p / q`: `floor(p * 2^F / q)`, less than one unit below it.
     #[inline]
     pub fn atom(p: u64, q: u64) -> Lo<F>
-        requires fraction_bits { (24 ≤ F) × (F ≤ 56) }
+        requires fraction_bits { IsFractionBits F }
         requires numerator { (1 ≤ p) × (p ≤ 1000000) }
         requires denominator { (1 ≤ q) × (q ≤ 1000000) }
         ensures exact { result.0 ≡ atom_down F p q }
@@ -39,7 +41,7 @@ impl<const F: u32> Lo<F> {
     /// `u64::MAX`.
     #[inline]
     pub fn mul(self, b: Lo<F>) -> Lo<F>
-        requires fraction_bits { (24 ≤ F) × (F ≤ 56) }
+        requires fraction_bits { IsFractionBits F }
         ensures exact { result.0 ≡ mul_down F self.entry.0 b.entry.0 }
         ensures lower { IsAtMostProduct F self.entry.0 b.entry.0 result.0 }
     {
@@ -49,11 +51,12 @@ impl<const F: u32> Lo<F> {
     /// A lower bound of `1 / (1 - a)`, which finitely many powers of a reach.
     ///
     /// That is `2^F` at a = 0 and `floor(2^(2F) / (2^F - a)) - 1` between 0 and 1: without the unit
-    /// taken off, no finite sum might reach it. From a = 1 on the powers grow past every number, and
+    /// taken off, no finite sum might reach it. From a = 1 on the powers grow past every number,
+    /// and
     /// the bound is `u64::MAX`.
     #[inline]
     pub fn seq(self) -> Lo<F>
-        requires fraction_bits { (24 ≤ F) × (F ≤ 56) }
+        requires fraction_bits { IsFractionBits F }
         ensures exact { result.0 ≡ seq_down F self.entry.0 }
         ensures lower { IsReachedByPowers F self.entry.0 result.0 }
     {

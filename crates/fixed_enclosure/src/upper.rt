@@ -1,8 +1,10 @@
 //! Upper values: results rounded up, which have no value past `u64::MAX`.
 
 ghost use Rattle.std.specs.Prelude.{◌≡◌, ◌^◌, ◌≤◌, option_map, IfSome};
+ghost use Rattle.bz_model.specs.Fraction.{IsFractionBits};
 ghost use Rattle.fixed_enclosure.specs.Rounded.{atom_up, add_up, mul_up, seq_up, quotient_up};
-ghost use Rattle.fixed_enclosure.specs.Enclosure.{IsAtLeastQuotient, IsAtLeastSum, IsAtLeastProduct, IsAboveAllPowers};
+ghost use Rattle.fixed_enclosure.specs.Enclosure.{IsAtLeastQuotient, IsAtLeastSum};
+ghost use Rattle.fixed_enclosure.specs.Enclosure.{IsAtLeastProduct, IsAboveAllPowers};
 
 use crate::narrow::{fit, power_of_two};
 
@@ -19,7 +21,7 @@ impl<const F: u32> Hi<F> {
     /// `None` exactly where that passes `u64::MAX`.
     #[inline]
     pub fn atom(p: u64, q: u64) -> Option<Hi<F>>
-        requires fraction_bits { (24 ≤ F) × (F ≤ 56) }
+        requires fraction_bits { IsFractionBits F }
         requires numerator { (1 ≤ p) × (p ≤ 1000000) }
         requires denominator { (1 ≤ q) × (q ≤ 1000000) }
         ensures exact { option_map (λ h. h.0) result ≡ atom_up F p q }
@@ -46,7 +48,7 @@ impl<const F: u32> Hi<F> {
     /// `None` exactly where that passes `u64::MAX`.
     #[inline]
     pub fn mul(self, b: Hi<F>) -> Option<Hi<F>>
-        requires fraction_bits { (24 ≤ F) × (F ≤ 56) }
+        requires fraction_bits { IsFractionBits F }
         ensures exact { option_map (λ h. h.0) result ≡ mul_up F self.entry.0 b.entry.0 }
         ensures upper { IfSome result (λ h. IsAtLeastProduct F self.entry.0 b.entry.0 h.0) }
     {
@@ -61,7 +63,7 @@ impl<const F: u32> Hi<F> {
     /// `None` exactly where a is 1 or more, or the bound passes `u64::MAX`.
     #[inline]
     pub fn seq(self) -> Option<Hi<F>>
-        requires fraction_bits { (24 ≤ F) × (F ≤ 56) }
+        requires fraction_bits { IsFractionBits F }
         ensures exact { option_map (λ h. h.0) result ≡ seq_up F self.entry.0 }
         ensures upper { IfSome result (λ h. IsAboveAllPowers F self.entry.0 h.0) }
     {

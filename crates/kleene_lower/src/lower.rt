@@ -1,6 +1,6 @@
 //! A class vector that is swept from a start, further and further.
 ghost use Rattle.std.specs.Prelude.{◌≡◌, ℕ, ◌+◌, ◌≤◌, ◌<◌, List, length, IfOk};
-ghost use Rattle.bz_model.specs.Fraction.{ratio};
+ghost use Rattle.bz_model.specs.Fraction.{ratio, IsFractionBits};
 ghost use Rattle.bz_model.specs.Spec.{Spec};
 ghost use Rattle.class_system.specs.Sound.{IsSound};
 ghost use Rattle.rounded_map.specs.RoundedMap.{Setting, setting, repeated, sweep_down};
@@ -81,7 +81,7 @@ impl<const F: u32> Lower<F> {
         sweeps: u64,
         steps: &mut Steps<L>,
     )
-        requires fraction_bits { (24 ≤ F) × (F ≤ 56) }
+        requires fraction_bits { IsFractionBits F }
         requires one_per_class { length self.old.entries ≡ length system.now.bodies }
         requires one_per_node { self.old.room ≡ length system.now.nodes }
         requires no_fewer { self.old.done ≤ sweeps }
@@ -131,7 +131,7 @@ fn sweep_on<const F: u32, L: Ledger>(
     nodes: &mut [u64],
     steps: &mut Steps<L>,
 )
-    requires fraction_bits { (24 ≤ F) × (F ≤ 56) }
+    requires fraction_bits { IsFractionBits F }
     requires one_per_class { length classes.old ≡ length system.now.bodies }
     requires one_per_node { length nodes.old ≡ length system.now.nodes }
     ensures sound { IsSound system.now }

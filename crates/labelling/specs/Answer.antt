@@ -1,5 +1,6 @@
 -- What an answer tells of the labelling.
-use Rattle.std.specs.Prelude.{◌≡◌, ◌≢◌, ℕ, ◌+◌, ◌-◌, ◌<◌, ◌≤◌, Bool, true, false, List, ◌++◌, length, Option, Some, None, IfSome}
+use Rattle.std.specs.Prelude.{◌≡◌, ◌≢◌, ℕ, ◌+◌, ◌-◌, ◌<◌, ◌≤◌, Bool, true, false, List, ◌++◌}
+use Rattle.std.specs.Prelude.{length, Option, Some, None, IfSome}
 use Rattle.std.specs.List.{AllByRecursion}
 use Rattle.bz_model.specs.declared.cell.Cell.{Cell}
 use Rattle.bz_model.specs.Fraction.{Fraction}
@@ -8,7 +9,8 @@ use Rattle.bz_model.specs.Labels.{IdealLabels, AreOneTo}
 use Rattle.bit_tape.specs.Given.{HasBits, Gave}
 use Rattle.choice_draw.specs.Draw.{bit_of}
 use Rattle.labelling.specs.declared.labelled.Labelled.{Labelled}
-use Rattle.labelling.specs.declared.labelled.Labelled.TheVariants.{Labels, Straddles, Ended, ReadFault, OutOfMemory}
+use Rattle.labelling.specs.declared.labelled.Labelled.TheVariants.{Labels, Straddles, Ended}
+use Rattle.labelling.specs.declared.labelled.Labelled.TheVariants.{ReadFault, OutOfMemory}
 use Rattle.labelling.specs.LabelsByBits.{Labelling, bits_in, labelling}
 
 -- The labelling that an answer tells, where it isn't want of memory. Where it was cut short, these
@@ -61,7 +63,8 @@ pub record IsLabelling (told : Option (ℕ → Option Bool)) (n start : ℕ) (an
   pub uses : UsesBits answer finished start used
   pub exact : (bits : ℕ → Option Bool) → HasBits bits start given → EndsThere answer used bits
       → answer ≢ OutOfMemory
-      → told_labelling answer finished used ≡ labelling (bit_of bits (fault_place answer used)) n start
+      → told_labelling answer finished used ≡ labelling (bit_of bits (fault_place answer used)) n
+      start
 
 -- What is said of the labels and their cells holds, where the answer has them.
 abbrev pub OnLabels : Labelled → (List ℕ → List Cell → Type 0) → Type 0

@@ -11,4 +11,9 @@ pub record ProgressState : Type 0 where
 
 -- The next atom got the label with i remaining labels below it, by the number in the cell.
 abbrev pub one_given : ProgressState → (i : ℕ) → Cell → ProgressState
-one_given p i cell = record { remaining = remove p.remaining i; given = p.given ++ slice_index p.remaining i ∷ []; cells = p.cells ++ cell ∷ [] }
+one_given p i cell = record {
+  remaining = remove p.remaining i;
+  given =
+      p.given ++ slice_index p.remaining i ∷ [];
+  cells = p.cells ++ cell ∷ [];
+}

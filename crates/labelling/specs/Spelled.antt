@@ -43,4 +43,5 @@ LabelsAreDrawnAgain = (bits : ℕ → Option Bool) (fault : Option ℕ) (n start
     (cells : List Cell) (end : ℕ)
     → labelling (bit_of bits fault) n start ≡ Labelling.Given labels cells end → (other : ℕ
     → Option Bool) (place : ℕ) → HasBits other place (spelled cells)
-    → labelling (bit_of other None) n place ≡ Labelling.Given labels cells (place + length (spelled cells))
+    → labelling (bit_of other None) n place
+    ≡ Labelling.Given labels cells (place + length (spelled cells))

@@ -1,6 +1,7 @@
 -- Trees of counts: which labels remain, in a complete binary tree whose nodes stand in one list,
 -- each before its left half and that before its right half.
-use Rattle.std.specs.Prelude.{◌≡◌, ℕ, zero, suc, ◌+◌, ◌^◌, ◌≤◌, List, ◌++◌, length, replicate, take, drop, slice_index}
+use Rattle.std.specs.Prelude.{◌≡◌, ℕ, zero, suc, ◌+◌, ◌^◌, ◌≤◌, List, ◌++◌, length, replicate, take}
+use Rattle.std.specs.Prelude.{drop, slice_index}
 
 -- How many nodes a tree of this height has.
 abbrev pub nodes_in : (height : ℕ) → ℕ

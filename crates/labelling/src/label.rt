@@ -2,7 +2,8 @@
 ghost use Rattle.std.specs.Prelude.{◌≡◌, ◌≢◌, ◌+◌, ◌*◌, ◌≤◌, []};
 ghost use Rattle.bz_model.specs.Labels.{numbers_from};
 ghost use Rattle.bit_tape.specs.Tape.{Belongs, LeavesTape, bits_of};
-ghost use Rattle.labelling.specs.Answer.{IsLabelling, OnLabels, AreIdealLabels, AreCellsOf, StraddlesAt, is_fault};
+ghost use Rattle.labelling.specs.Answer.{IsLabelling, OnLabels, AreIdealLabels, AreCellsOf};
+ghost use Rattle.labelling.specs.Answer.{StraddlesAt, is_fault};
 
 use crate::labelled::Labelled;
 use crate::progress::Progress;
@@ -15,10 +16,12 @@ use std::alloc::Global;
 /// Labels `n` atoms: a permutation of 1 to `n`, in token order.
 ///
 /// For m from `n` down to 2 a whole number below m is drawn, and the next atom gets the remaining
-/// label that has so many remaining labels below it. The last atom gets the label left, and no number
+/// label that has so many remaining labels below it. The last atom gets the label left, and no
+/// number
 /// is drawn for it, so that no bit is taken where `n` is 0 or 1. The answer is fixed by the bits
 /// that were given, whether the shelf tells its content or not. `ReadFault` comes exactly where the
-/// count of faults of the tape's name rose, by one. All memory is taken before the first bit: a tree
+/// count of faults of the tape's name rose, by one. All memory is taken before the first bit: a
+/// tree
 /// of counts, the labels and the cells. `OutOfMemory` leaves tape and shelf as they were.
 pub fn label<S: Shelf>(alloc: Global, n: u64, tape: &mut Tape, shelf: &mut S) -> Labelled
     requires within_limit { n ≤ 1000000 }

@@ -1,5 +1,6 @@
 //! Labellings under way.
-ghost use Rattle.std.specs.Prelude.{◌≡◌, ◌+◌, ◌<◌, ◌≤◌, [], ◌∷◌, ◌++◌, length, vec_len, vec_capacity, IfOk};
+ghost use Rattle.std.specs.Prelude.{◌≡◌, ◌+◌, ◌<◌, ◌≤◌, [], ◌∷◌, ◌++◌, length, vec_len};
+ghost use Rattle.std.specs.Prelude.{vec_capacity, IfOk};
 ghost use Rattle.bz_model.specs.Cell.{IsCell};
 ghost use Rattle.bz_model.specs.Labels.{numbers_from};
 ghost use Rattle.labelling.specs.Progress.{one_given};
@@ -29,7 +30,8 @@ impl Model for Progress {
 
     ghost view = { λ p. record { remaining = p.tree; given = p.given.items; cells = p.cells.items } };
 
-    ghost invariant = { λ p. (vec_len p.given + length p.tree ≤ vec_capacity p.given) × (length p.tree ≤ p.cells.spare) };
+    ghost invariant = { λ p. (vec_len p.given + length p.tree ≤ vec_capacity p.given)
+        × (length p.tree ≤ p.cells.spare) };
 }
 
 impl Progress {
@@ -58,7 +60,8 @@ impl Progress {
         self.cells.put(cell);
     }
 
-    /// Gives the last atom the label left, if there is one, and hands out labels and cells. Takes no
+    /// Gives the last atom the label left, if there is one, and hands out labels and cells. Takes
+    /// no
     /// memory.
     pub(crate) fn finish(self) -> (Labels, Cells)
         requires last { length self.remaining ≤ 1 }

@@ -1,5 +1,6 @@
 //! Trees of counts: which labels remain.
-ghost use Rattle.std.specs.Prelude.{◌≡◌, ℕ, ◌+◌, ◌^◌, ◌<◌, ◌≤◌, length, remove, slice_index, count_by, nat_lt, IfOk};
+ghost use Rattle.std.specs.Prelude.{◌≡◌, ℕ, ◌+◌, ◌^◌, ◌<◌, ◌≤◌, length, remove, slice_index};
+ghost use Rattle.std.specs.Prelude.{count_by, nat_lt, IfOk};
 ghost use Rattle.bz_model.specs.Labels.{numbers_from};
 ghost use Rattle.labelling.specs.Tree.{nodes_in, count_of, labels_of, IsCountTree};
 
@@ -8,7 +9,8 @@ use std::marker::Model;
 
 /// The labels that remain, seen as their list, least first.
 ///
-/// The leaves of a complete binary tree stand for the labels, and each node counts those that remain
+/// The leaves of a complete binary tree stand for the labels, and each node counts those that
+/// remain
 /// below it. A tree for n labels takes fewer than 16 bytes for each, and 4 at least.
 #[derive(Drop)]
 pub struct LabelTree {
@@ -46,7 +48,8 @@ impl LabelTree {
         u64::from(self.counts[0])
     }
 
-    /// Removes and answers the label that has exactly `i` remaining labels below it. Takes no memory.
+    /// Removes and answers the label that has exactly `i` remaining labels below it. Takes no
+    /// memory.
     pub fn take(&mut self, i: u64) -> u64
         requires in_range { i < length self.old }
         ensures label { result ≡ slice_index self.old i }
@@ -116,7 +119,8 @@ fn take_from(counts: &mut [u32], height: u32, i: u64) -> u64
     ensures tree { IsCountTree height counts.new }
     ensures count { count_of counts.new + 1 ≡ count_of counts.old }
     ensures within { result < 2 ^ height }
-    ensures label { (first : ℕ) → first + result ≡ slice_index (labels_of height counts.old first) i }
+    ensures label { (first : ℕ)
+        → first + result ≡ slice_index (labels_of height counts.old first) i }
     ensures removed { (first : ℕ) → labels_of height counts.new first
         ≡ remove (labels_of height counts.old first) i }
 {

@@ -4,7 +4,7 @@ use Rattle.std.specs.Prelude.{option_map, option_and_then, IfOk}
 use Rattle.rounded_map.specs.RoundedMap.{Setting, repeated}
 use Rattle.newton_upper.specs.Candidates.{swept_down, swept_dual, upper_values, dual_vector, widened, if_post_fixed, candidate, first_candidate, round_from, sweeps_after, round_base}
 use Rattle.newton_upper.specs.Newton.{matrix_times, squared, sum_of_vectors, plus_times, raised_by, next_sums, newton_sums, newton_matrix, lower_gap, newton_from, step_sums, newton_step}
-use Rattle.newton_upper.specs.declared.sums.Sums.{Sums}
+use Rattle.newton_upper.specs.declared.neumann_series.Sums.{Sums}
 use Rattle.newton_upper.specs.declared.newton.Newton.{Newton}
 use Rattle.newton_upper.proofs.ResultsBelow.{steps-none, steps-missing}
 

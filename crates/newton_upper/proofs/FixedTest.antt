@@ -7,29 +7,13 @@ use Rattle.std.proofs.lemmas.List.{length-map}
 use Rattle.std.proofs.lemmas.Slice.Zip.{AllZip-long}
 use Rattle.fixed_enclosure.specs.UpperValues.{IsNoGreater, AreNoGreater}
 use Rattle.rounded_map.specs.RoundedMap.{Setting, value_at, all_values, at_each, values_up, bodies_up, is_at_most, is_post_fixed, IsPostFixed, IsFirstAbove}
+use Rattle.rounded_map.proofs.FixedTests.{fixed-by-test, test-of-fixed}
 use Rattle.rounded_map.proofs.MapMonotone.{no_greater-at}
 use Rattle.newton_upper.specs.Candidates.{if_post_fixed}
 
-test-says : (us : List (Option ℕ)) (v : List ℕ) → length us ≡ length v → list_all (λ b. b) (at_each is_at_most us v) ≡ true → AreNoGreater us (map Some v)
-test-says [] [] e h = tt
-test-says [] (n ∷ v) e h = let none : ⊥ = omega arith in absurd none
-test-says (u ∷ us) [] e h = let none : ⊥ = omega arith in absurd none
-test-says (None ∷ us) (n ∷ v) e h = let none : ⊥ = cc in absurd none
-test-says (Some u ∷ us) (n ∷ v) e h =
-    let first : leb u n ≡ true = elim (leb u n) as (λ b. (b && list_all (λ c. c) (at_each is_at_most us v)) ≡ true → b ≡ true) [ true ↦ λ _. refl | false ↦ λ no. no ] h in
-    let rest : list_all (λ c. c) (at_each is_at_most us v) ≡ true = elim (leb u n) as (λ b. (b && list_all (λ c. c) (at_each is_at_most us v)) ≡ true → list_all (λ c. c) (at_each is_at_most us v) ≡ true) [ true ↦ λ yes. yes | false ↦ λ no. cc ] h in
-    (leb-true u n first, test-says us v (omega arith) rest)
-
-test-holds : (us : List (Option ℕ)) (v : List ℕ) → AreNoGreater us (map Some v) → list_all (λ b. b) (at_each is_at_most us v) ≡ true
-test-holds [] [] p = refl
-test-holds [] (n ∷ v) p = absurd p
-test-holds (u ∷ us) [] p = absurd p
-test-holds (None ∷ us) (n ∷ v) p = absurd p.0
-test-holds (Some u ∷ us) (n ∷ v) p = subst (λ b. (b && list_all (λ c. c) (at_each is_at_most us v)) ≡ true) (sym (le-leb u n p.0)) (test-holds us v p.1)
-
 -- A vector that is post-fixed passes, and one with a fault doesn't.
 pub passes : (t : Setting) (v : List ℕ) → IsPostFixed t v → if_post_fixed t (Some v) ≡ Some v
-passes t v fixed = ap (λ b. cond b (Some v) None) (test-holds (bodies_up t (values_up t v)) v fixed.each)
+passes t v fixed = ap (λ b. cond b (Some v) None) (test-of-fixed t v fixed)
 
 entry-copied : (v : List ℕ) (c : ℕ) → c < length v → value_at (map Some v) c ≡ Some (slice_index v c)
 entry-copied [] c within = absurd (omega arith)
@@ -47,13 +31,8 @@ pub fails : (t : Setting) (v : List ℕ) (place : ℕ) (got : Option ℕ) → le
 fails t v place got lengths fault = decide (is_post_fixed t v) refl
   where
     decide : (b : Bool) → is_post_fixed t v ≡ b → cond b (Some v) None ≡ None
-    decide true is = absurd (unfixed t v place got fault (record { each = test-says (bodies_up t (values_up t v)) v (length-map t.spec.bodies (value_at (values_up t v)) ∙ sym lengths) is }))
+    decide true is = absurd (unfixed t v place got fault (fixed-by-test t v lengths is))
     decide false is = refl
-
--- A post-fixed vector has an entry for each class.
-pub length-fixed : (t : Setting) (v : List ℕ) → IsPostFixed t v → length v ≡ length t.spec.bodies
-length-fixed t v fixed =
-    sym (length-map v Some) ∙ AllZip-long IsNoGreater (bodies_up t (values_up t v)) (map Some v) fixed.each ∙ length-map t.spec.bodies (value_at (values_up t v))
 
 -- Values that are all there, and values of which one is missing.
 pub all-there : (vs : List ℕ) → all_values (map Some vs) ≡ Some vs

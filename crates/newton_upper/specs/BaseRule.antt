@@ -1,9 +1,11 @@
 -- The base: the first candidate that is post-fixed or, where none is, the first such proposal.
-use Rattle.std.specs.Prelude.{◌≡◌, ℕ, suc, ◌+◌, ◌*◌, ◌^◌, List, map, length, is_some, Option, None, option_map, unwrap_or, if◌then◌else◌}
+use Rattle.std.specs.Prelude.{◌≡◌, ℕ, suc, ◌+◌, ◌*◌, ◌^◌, List, map, length, is_some, Option, None}
+use Rattle.std.specs.Prelude.{option_map, unwrap_or, if◌then◌else◌}
 use Rattle.class_system.specs.Each.{Each}
 use Rattle.rounded_map.specs.RoundedMap.{Setting, values_up, bodies_up, IsFirstAbove}
 use Rattle.newton_upper.specs.Below.{or_else, those_below, first_below}
-use Rattle.newton_upper.specs.Candidates.{if_post_fixed, candidate_count, round_base, candidate_base}
+use Rattle.newton_upper.specs.Candidates.{if_post_fixed, candidate_count, round_base}
+use Rattle.newton_upper.specs.Candidates.{candidate_base}
 use Rattle.newton_upper.specs.Newton.{newton_at}
 use Rattle.newton_upper.specs.declared.newton.Newton.{Newton}
 use Rattle.newton_upper.specs.declared.trials.Trial.{Trial}
@@ -32,7 +34,8 @@ base_of t = or_else (candidate_base t) (proposed_base t)
 
 -- A trial is a vector that isn't post-fixed, with the least class that fails and its body's value.
 abbrev pub IsTrial : Setting → Trial → Type 0
-IsTrial t trial = IsFirstAbove (bodies_up t (values_up t trial.values)) trial.values trial.class_id.0 trial.got
+IsTrial t trial =
+    IsFirstAbove (bodies_up t (values_up t trial.values)) trial.values trial.class_id.0 trial.got
 
 -- The base rule gives no base, and the trials are its proposals in order.
 pub record HasNoUpper (t : Setting) (trials : List Trial) : Type 0 where

@@ -1,5 +1,6 @@
 -- What is made of the results at the numbers below n.
-use Rattle.std.specs.Prelude.{ℕ, zero, suc, List, [], ◌∷◌, ◌++◌, Option, Some, None, option_map, option_and_then}
+use Rattle.std.specs.Prelude.{ℕ, zero, suc, List, [], ◌∷◌, ◌++◌, Option, Some, None, option_map}
+use Rattle.std.specs.Prelude.{option_and_then}
 use Rattle.fixed_enclosure.specs.Rounded.{of_both, add_up}
 
 -- The first value, or else the second.

@@ -1,7 +1,10 @@
--- The candidates for a base: a lower vector, widened more and more by a vector along which it may grow.
-use Rattle.std.specs.Prelude.{ℕ, zero, suc, ◌+◌, ◌-◌, ◌*◌, ◌/◌, ◌^◌, min, List, length, replicate, map, slice_index, Option, Some, None, option_and_then, if◌then◌else◌}
+-- The candidates for a base: a lower vector, widened more and more by a vector along which it may
+-- grow.
+use Rattle.std.specs.Prelude.{ℕ, zero, suc, ◌+◌, ◌-◌, ◌*◌, ◌/◌, ◌^◌, min, List, length, replicate}
+use Rattle.std.specs.Prelude.{map, slice_index, Option, Some, None, option_and_then, if◌then◌else◌}
 use Rattle.fixed_enclosure.specs.Rounded.{if_fits}
-use Rattle.rounded_map.specs.RoundedMap.{Setting, all_values, repeated, values_up, sweep_down, is_post_fixed}
+use Rattle.rounded_map.specs.RoundedMap.{Setting, all_values, repeated, values_up, sweep_down}
+use Rattle.rounded_map.specs.RoundedMap.{is_post_fixed}
 use Rattle.rounded_map.specs.Derivative.{sweep_dual}
 use Rattle.newton_upper.specs.Below.{all_below, first_below}
 
@@ -11,7 +14,9 @@ swept_down t n = repeated (sweep_down t) n (replicate (length t.spec.bodies) 0)
 
 -- The vector after n dual sweeps from zero at the node values, where each of them has a result.
 unfoldable pub swept_dual : Setting → (values : List ℕ) → (n : ℕ) → Option (List ℕ)
-swept_dual t values n = repeated (option_and_then (sweep_dual t (map Some values))) n (Some (replicate (length t.spec.bodies) 0))
+swept_dual t values n =
+    repeated (option_and_then (sweep_dual t (map Some values))) n
+    (Some (replicate (length t.spec.bodies) 0))
 
 -- The upper values of all nodes at a vector, where each node has one.
 unfoldable pub upper_values : Setting → (y : List ℕ) → Option (List ℕ)
@@ -46,7 +51,8 @@ candidate t y d j = if_post_fixed t (widened y d (4 ^ j))
 unfoldable pub first_candidate : Setting → (y d : List ℕ) → Option (List ℕ)
 first_candidate t y d = first_below (candidate t y d) (candidate_count t.bits)
 
--- The first post-fixed candidate of the round with so many lower sweeps: its vector d is the one after as many dual sweeps, and after 256 where these are fewer.
+-- The first post-fixed candidate of the round with so many lower sweeps: its vector d is the one
+-- after as many dual sweeps, and after 256 where these are fewer.
 unfoldable pub round_from : Setting → (y : List ℕ) → (sweeps : ℕ) → Option (List ℕ)
 round_from t y sweeps = option_and_then (first_candidate t y) (dual_vector t y (min sweeps 256))
 
@@ -57,7 +63,8 @@ sweeps_after (suc r) = 4 ^ suc r
 
 -- The first post-fixed candidate of the round after so many.
 unfoldable pub round_base : Setting → (rounds : ℕ) → Option (List ℕ)
-round_base t rounds = round_from t (swept_down t (sweeps_after (suc rounds))) (sweeps_after (suc rounds))
+round_base t rounds =
+    round_from t (swept_down t (sweeps_after (suc rounds))) (sweeps_after (suc rounds))
 
 -- The first post-fixed candidate of the six rounds.
 unfoldable pub candidate_base : Setting → Option (List ℕ)

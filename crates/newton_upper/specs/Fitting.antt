@@ -1,7 +1,7 @@
 -- That the vectors of a Newton step have an entry for each class.
 use Rattle.std.specs.Prelude.{◌≡◌, ℕ, length}
 use Rattle.newton_upper.specs.Newton.{IsSquare}
-use Rattle.newton_upper.specs.declared.sums.Sums.{Sums}
+use Rattle.newton_upper.specs.declared.neumann_series.Sums.{Sums}
 use Rattle.newton_upper.specs.declared.newton.Newton.{Newton}
 
 -- The matrix is square, and it and both vectors are of n classes.

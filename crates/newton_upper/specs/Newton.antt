@@ -1,11 +1,13 @@
 -- The Newton steps that make proposals for a base. A matrix is the list of its columns.
-use Rattle.std.specs.Prelude.{◌≡◌, ℕ, zero, suc, ◌-◌, ◌^◌, ◌<◌, List, [], map, length, replicate, set, slice_index, slice_index_or, Option, Some, option_map, option_and_then}
+use Rattle.std.specs.Prelude.{◌≡◌, ℕ, zero, suc, ◌-◌, ◌^◌, ◌<◌, List, [], map, length, replicate}
+use Rattle.std.specs.Prelude.{set, slice_index, slice_index_or, Option, Some, option_map}
+use Rattle.std.specs.Prelude.{option_and_then}
 use Rattle.fixed_enclosure.specs.Rounded.{add_up, mul_up}
 use Rattle.rounded_map.specs.RoundedMap.{Setting, at_each, repeated, sweep_down}
 use Rattle.rounded_map.specs.Derivative.{sweep_dual}
 use Rattle.newton_upper.specs.Below.{all_below, sum_below}
 use Rattle.newton_upper.specs.Candidates.{swept_down, upper_values}
-use Rattle.newton_upper.specs.declared.sums.Sums.{Sums}
+use Rattle.newton_upper.specs.declared.neumann_series.Sums.{Sums}
 use Rattle.newton_upper.specs.declared.newton.Newton.{Newton}
 
 -- A column of a matrix.
@@ -47,15 +49,18 @@ plus_times f columns v = option_and_then (sum_of_vectors v) (matrix_times f colu
 -- A matrix Q with the vectors g and h that are each raised by Q times itself.
 unfoldable pub raised_by : (f : ℕ) → (columns : List (List ℕ)) → (gap margin : List ℕ) → Option Sums
 raised_by f columns gap margin =
-    option_and_then (λ g. option_map (λ h. record { matrix = columns; gap = g; margin = h }) (plus_times f columns margin)) (plus_times f columns gap)
+    option_and_then (λ g. option_map (λ h. record { matrix = columns; gap = g; margin = h })
+    (plus_times f columns margin)) (plus_times f columns gap)
 
 -- From the matrix Q_k and the vectors g and h after it, those of k + 1.
 unfoldable pub next_sums : (f : ℕ) → Sums → Option Sums
 next_sums f s = option_and_then (λ columns. raised_by f columns s.gap s.margin) (squared f s.matrix)
 
 -- The matrix Q_23 and the vectors g and h after the matrices Q_0 to Q_23.
-unfoldable pub newton_sums : (f : ℕ) → (columns : List (List ℕ)) → (gap margin : List ℕ) → Option Sums
-newton_sums f columns gap margin = repeated (option_and_then (next_sums f)) 23 (raised_by f columns gap margin)
+unfoldable pub newton_sums : (f : ℕ) → (columns : List (List ℕ)) → (gap margin : List ℕ)
+    → Option Sums
+newton_sums f columns gap margin =
+    repeated (option_and_then (next_sums f)) 23 (raised_by f columns gap margin)
 
 -- The vector of 1 at class c and 0 elsewhere.
 abbrev pub unit_vector : Setting → (c : ℕ) → List ℕ
@@ -63,29 +68,37 @@ unit_vector t c = set (replicate (length t.spec.bodies) 0) c (2 ^ t.bits)
 
 -- Column c of the matrix Q_0: a dual sweep of the unit vector, less 256 units in each entry.
 unfoldable pub newton_column : Setting → (values : List ℕ) → (c : ℕ) → Option (List ℕ)
-newton_column t values c = option_map (map (λ v. v - 256)) (sweep_dual t (map Some values) (unit_vector t c))
+newton_column t values c =
+    option_map (map (λ v. v - 256)) (sweep_dual t (map Some values) (unit_vector t c))
 
 -- The matrix Q_0 at the node values.
 unfoldable pub newton_matrix : Setting → (values : List ℕ) → Option (List (List ℕ))
 newton_matrix t values = all_below (newton_column t values) (length t.spec.bodies)
 
--- How far each body's lower value lies above its class's entry, which is how far a lower sweep raises the entry.
+-- How far each body's lower value lies above its class's entry, which is how far a lower sweep
+-- raises the entry.
 unfoldable pub lower_gap : Setting → (y : List ℕ) → List ℕ
 lower_gap t y = at_each (λ swept entry. swept - entry) (sweep_down t y) y
 
 -- The next vector, Y + g, and the proposal, Y + g + h.
 unfoldable pub newton_from : (y : List ℕ) → Sums → Option Newton
-newton_from y s = option_and_then (λ next. option_map (λ p. record { next = next; proposal = p }) (sum_of_vectors next s.margin)) (sum_of_vectors y s.gap)
+newton_from y s =
+    option_and_then (λ next. option_map (λ p. record { next = next; proposal = p })
+    (sum_of_vectors next s.margin)) (sum_of_vectors y s.gap)
 
 -- The sums of the step from Y, at the node values.
 unfoldable pub step_sums : Setting → (y values : List ℕ) → Option Sums
-step_sums t y values = option_and_then (λ columns. newton_sums t.bits columns (lower_gap t y) (replicate (length t.spec.bodies) 256)) (newton_matrix t values)
+step_sums t y values =
+    option_and_then (λ columns. newton_sums t.bits columns (lower_gap t y)
+    (replicate (length t.spec.bodies) 256)) (newton_matrix t values)
 
 -- The step from Y, where none of its numbers lacks a value or passes the greatest one.
 unfoldable pub newton_step : Setting → (y : List ℕ) → Option Newton
-newton_step t y = option_and_then (newton_from y) (option_and_then (step_sums t y) (upper_values t y))
+newton_step t y =
+    option_and_then (newton_from y) (option_and_then (step_sums t y) (upper_values t y))
 
--- The step after so many, the first from the lower vector of round 6, each other from the vector of the one before.
+-- The step after so many, the first from the lower vector of round 6, each other from the vector of
+-- the one before.
 unfoldable pub newton_at : Setting → (steps : ℕ) → Option Newton
 newton_at t zero = newton_step t (swept_down t (4 ^ 6))
 newton_at t (suc i) = option_and_then (λ n. newton_step t n.next) (newton_at t i)

@@ -1,6 +1,6 @@
 //! A vector that was found to be post-fixed.
 ghost use Rattle.std.specs.Prelude.{◌≡◌, ◌+◌, ◌≤◌, length, IfOk, IfErr, OnOk};
-ghost use Rattle.bz_model.specs.Fraction.{ratio};
+ghost use Rattle.bz_model.specs.Fraction.{ratio, IsFractionBits};
 ghost use Rattle.rounded_map.specs.RoundedMap.{setting, IsPostFixed};
 ghost use Rattle.rounded_map.specs.Bounding.{AreAbove};
 ghost use Rattle.newton_upper.specs.Checked.{IsFaultOf};
@@ -52,8 +52,10 @@ impl From<AllocError> for BaseFault {
 impl<const F: u32> Base<F> {
     /// Makes a base of a vector that is post-fixed, which it tests.
     ///
-    /// `values` has one entry per class, in units of `2^-F`. `NotPostFixed` comes exactly where some
-    /// class's body has no upper value or one above the class's entry. One tick at most. Takes memory
+    /// `values` has one entry per class, in units of `2^-F`. `NotPostFixed` comes exactly where
+    /// some
+    /// class's body has no upper value or one above the class's entry. One tick at most. Takes
+    /// memory
     /// for the node values.
     pub fn check<L: Ledger>(
         alloc: Global,
@@ -62,7 +64,7 @@ impl<const F: u32> Base<F> {
         values: Vec<u64>,
         steps: &mut Steps<L>,
     ) -> Result<Base<F>, BaseFault>
-        requires fraction_bits { (24 ≤ F) × (F ≤ 56) }
+        requires fraction_bits { IsFractionBits F }
         requires one_per_class { length values.items ≡ length founded.now.bodies }
         ensures same { IfOk result (λ base. base ≡ values.items) }
         ensures post_fixed { OnOk result (IsPostFixed (setting founded.now x.num x.den F) values.items) }

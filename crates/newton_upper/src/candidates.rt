@@ -1,11 +1,14 @@
 //! The search among the candidates of six rounds.
-ghost use Rattle.std.specs.Prelude.{◌≡◌, ℕ, ◌+◌, ◌*◌, ◌^◌, ◌≤◌, length, replicate, Some, None, IfOk, IfSome};
+ghost use Rattle.std.specs.Prelude.{◌≡◌, ℕ, ◌+◌, ◌*◌, ◌^◌, ◌≤◌, length, replicate, Some, None};
+ghost use Rattle.std.specs.Prelude.{IfOk, IfSome};
+ghost use Rattle.bz_model.specs.Fraction.{ratio, IsFractionBits};
 ghost use Rattle.rounded_map.specs.RoundedMap.{setting, IsPostFixed};
+ghost use Rattle.rounded_map.specs.Bounding.{AreAbove};
 ghost use Rattle.newton_upper.specs.BaseRule.{round_ticks, last_round};
 ghost use Rattle.newton_upper.specs.Candidates as rule;
 
+use crate::sweeps::{dual_vector, sweep_on, widened};
 use crate::values::Values;
-use crate::vectors::{dual_vector, sweep_on, widened};
 use bz_model::fraction::Fraction;
 use bz_model::steps::Steps;
 use class_system::system::System;
@@ -30,12 +33,15 @@ pub(crate) fn search_candidates<const F: u32, L: Ledger>(
     lower: &mut [u64],
     steps: &mut Steps<L>,
 ) -> Result<Option<Values>, AllocError>
-    requires fraction_bits { (24 ≤ F) × (F ≤ 56) }
+    requires fraction_bits { IsFractionBits F }
     requires zero { lower.old ≡ replicate (length system.now.bodies) 0 }
     ensures exact { IfOk result (λ o. o ≡ rule.candidate_base (setting system.now x.num x.den F)) }
     ensures post_fixed { IfOk result (λ o. IfSome o (IsPostFixed (setting system.now x.num x.den F))) }
-    ensures lower { IfOk result (λ o. o ≡ None → lower.new ≡ rule.swept_down (setting system.now x.num x.den F) (4 ^ 6)) }
-    ensures ticks { steps.new ≤ steps.old + round_ticks F (last_round (setting system.now x.num x.den F)) }
+    ensures bounds { IfOk result (λ o. IfSome o (AreAbove system.now (ratio x.num x.den) F)) }
+    ensures lower { IfOk result (λ o. o ≡ None
+        → lower.new ≡ rule.swept_down (setting system.now x.num x.den F) (4 ^ 6)) }
+    ensures ticks { steps.new ≤ steps.old
+        + round_ticks F (last_round (setting system.now x.num x.den F)) }
 {
     let mut nodes = vec![in alloc; 0; system.nodes().len()]?;
     for rounds in 0..ROUNDS {
@@ -74,10 +80,11 @@ fn round_base<const F: u32, L: Ledger>(
     sweeps: u64,
     steps: &mut Steps<L>,
 ) -> Result<Option<Values>, AllocError>
-    requires fraction_bits { (24 ≤ F) × (F ≤ 56) }
+    requires fraction_bits { IsFractionBits F }
     requires one_per_class { length y.now ≡ length system.now.bodies }
     ensures exact { IfOk result (λ o. o ≡ rule.round_from (setting system.now x.num x.den F) y.now sweeps) }
     ensures post_fixed { IfOk result (λ o. IfSome o (IsPostFixed (setting system.now x.num x.den F))) }
+    ensures bounds { IfOk result (λ o. IfSome o (AreAbove system.now (ratio x.num x.den) F)) }
     ensures ticks { steps.new ≤ steps.old + (sweeps + 1 + rule.candidate_count F) }
 {
     let dual_sweeps = sweeps.min(MOST_DUAL_SWEEPS);
@@ -96,11 +103,13 @@ fn first_candidate<const F: u32, L: Ledger>(
     dual: &[u64],
     steps: &mut Steps<L>,
 ) -> Result<Option<Values>, AllocError>
-    requires fraction_bits { (24 ≤ F) × (F ≤ 56) }
+    requires fraction_bits { IsFractionBits F }
     requires one_per_class { length y.now ≡ length system.now.bodies }
     requires one_dual_per_class { length dual.now ≡ length system.now.bodies }
-    ensures exact { IfOk result (λ o. o ≡ rule.first_candidate (setting system.now x.num x.den F) y.now dual.now) }
+    ensures exact { IfOk result (λ o. o ≡ rule.first_candidate (setting system.now x.num x.den F) y.now
+        dual.now) }
     ensures post_fixed { IfOk result (λ o. IfSome o (IsPostFixed (setting system.now x.num x.den F))) }
+    ensures bounds { IfOk result (λ o. IfSome o (AreAbove system.now (ratio x.num x.den) F)) }
     ensures ticks { steps.new ≤ steps.old + rule.candidate_count F }
 {
     let mut factor = 1;
@@ -123,12 +132,14 @@ fn try_candidate<const F: u32, L: Ledger>(
     factor: u64,
     steps: &mut Steps<L>,
 ) -> Result<Option<Values>, AllocError>
-    requires fraction_bits { (24 ≤ F) × (F ≤ 56) }
+    requires fraction_bits { IsFractionBits F }
     requires one_per_class { length y.now ≡ length system.now.bodies }
     requires one_dual_per_class { length dual.now ≡ length system.now.bodies }
     requires few { factor ≤ 281474976710656 }
-    ensures exact { IfOk result (λ o. o ≡ rule.if_post_fixed (setting system.now x.num x.den F) (rule.widened y.now dual.now factor)) }
+    ensures exact { IfOk result (λ o. o ≡ rule.if_post_fixed (setting system.now x.num x.den F)
+        (rule.widened y.now dual.now factor)) }
     ensures post_fixed { IfOk result (λ o. IfSome o (IsPostFixed (setting system.now x.num x.den F))) }
+    ensures bounds { IfOk result (λ o. IfSome o (AreAbove system.now (ratio x.num x.den) F)) }
     ensures ticks { steps.new ≤ steps.old + 1 }
 {
     let Some(vector) = widened(alloc, y, dual, factor)? else {
@@ -145,10 +156,11 @@ fn if_post_fixed<const F: u32, L: Ledger>(
     vector: Values,
     steps: &mut Steps<L>,
 ) -> Result<Option<Values>, AllocError>
-    requires fraction_bits { (24 ≤ F) × (F ≤ 56) }
+    requires fraction_bits { IsFractionBits F }
     requires one_per_class { length vector ≡ length system.now.bodies }
     ensures exact { IfOk result (λ o. o ≡ rule.if_post_fixed (setting system.now x.num x.den F) (Some vector)) }
     ensures post_fixed { IfOk result (λ o. IfSome o (IsPostFixed (setting system.now x.num x.den F))) }
+    ensures bounds { IfOk result (λ o. IfSome o (AreAbove system.now (ratio x.num x.den) F)) }
     ensures ticks { steps.new ≤ steps.old + 1 }
 {
     let mut nodes = vec![in alloc; 0; system.nodes().len()]?;

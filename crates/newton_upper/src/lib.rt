@@ -10,15 +10,15 @@
 pub mod base;
 mod candidates;
 mod matrix;
+mod neumann_series;
 mod newton;
 pub mod search;
-mod sums;
+pub mod sweeps;
 pub mod trials;
 pub mod values;
-pub mod vectors;
 
 pub use base::{Base, BaseFault};
 pub use search::{UpperFault, propose};
+pub use sweeps::dual_vector;
 pub use trials::{Trial, Trials};
 pub use values::Values;
-pub use vectors::dual_vector;

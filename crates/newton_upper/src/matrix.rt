@@ -1,5 +1,6 @@
 //! Square matrices of upper values, kept by columns.
 ghost use Rattle.std.specs.Prelude.{◌≡◌, ℕ, ◌<◌, ◌≤◌, [], ◌∷◌, ◌++◌, length, IfOk, IfSome, OnOk};
+ghost use Rattle.bz_model.specs.Fraction.{IsFractionBits};
 ghost use Rattle.fixed_enclosure.specs.Rounded.{of_both, add_up, mul_up};
 ghost use Rattle.newton_upper.specs.Newton as newton;
 ghost use Rattle.newton_upper.specs.Newton.{IsSquare};
@@ -47,7 +48,7 @@ impl Matrix {
         alloc: Global,
         vector: &[u64],
     ) -> Result<Option<Values>, AllocError>
-        requires fraction_bits { (24 ≤ F) × (F ≤ 56) }
+        requires fraction_bits { IsFractionBits F }
         requires square { IsSquare (length vector.now) self.now }
         ensures exact { IfOk result (λ o. o ≡ newton.matrix_times F self.now vector.now) }
         ensures length { IfOk result (λ o. IfSome o (λ v. length v ≡ length vector.now)) }
@@ -64,7 +65,7 @@ impl Matrix {
 
     /// A row of the matrix times a vector.
     fn row_times<const F: u32>(&self, vector: &[u64], row: usize) -> Option<u64>
-        requires fraction_bits { (24 ≤ F) × (F ≤ 56) }
+        requires fraction_bits { IsFractionBits F }
         requires square { IsSquare (length vector.now) self.now }
         requires row { row < length vector.now }
         ensures exact { result ≡ newton.row_times F self.now vector.now row }
@@ -79,7 +80,7 @@ impl Matrix {
 
     /// The matrix times itself; None exactly where an entry has no value.
     pub(crate) fn squared<const F: u32>(&self, alloc: Global) -> Result<Option<Matrix>, AllocError>
-        requires fraction_bits { (24 ≤ F) × (F ≤ 56) }
+        requires fraction_bits { IsFractionBits F }
         requires square { IsSquare (length self.now) self.now }
         ensures exact { IfOk result (λ o. o ≡ newton.squared F self.now) }
         ensures square { IfOk result (λ o. IfSome o (λ m. IsSquare (length self.now) m)) }
@@ -106,7 +107,7 @@ fn add_hi(a: Option<u64>, b: Option<u64>) -> Option<u64>
 
 /// The upper product of two numbers.
 fn mul_hi<const F: u32>(a: u64, b: u64) -> Option<u64>
-    requires fraction_bits { (24 ≤ F) × (F ≤ 56) }
+    requires fraction_bits { IsFractionBits F }
     ensures { result ≡ mul_up F a b }
 {
     let product = Hi::<F>(a).mul(Hi(b))?;

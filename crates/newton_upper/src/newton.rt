@@ -1,14 +1,15 @@
 //! Newton steps.
 ghost use Rattle.std.specs.Prelude.{◌≡◌, ℕ, ◌+◌, ◌-◌, ◌<◌, ◌≤◌, map, length, IfOk, IfSome};
+ghost use Rattle.bz_model.specs.Fraction.{IsFractionBits};
 ghost use Rattle.rounded_map.specs.RoundedMap.{setting, at_each};
 ghost use Rattle.newton_upper.specs.Newton as rule;
 ghost use Rattle.newton_upper.specs.Newton.{IsSquare};
 ghost use Rattle.newton_upper.specs.Fitting.{AreSums, AreSteps};
 
 use crate::matrix::Matrix;
-use crate::sums::{Sums, newton_sums};
+use crate::neumann_series::{Sums, newton_sums};
+use crate::sweeps::{sum_of_vectors, upper_values};
 use crate::values::Values;
-use crate::vectors::{sum_of_vectors, upper_values};
 use bz_model::fraction::Fraction;
 use bz_model::steps::Steps;
 use class_system::system::System;
@@ -36,7 +37,7 @@ pub(crate) fn newton_step<const F: u32, L: Ledger>(
     y: &[u64],
     steps: &mut Steps<L>,
 ) -> Result<Option<Newton>, AllocError>
-    requires fraction_bits { (24 ≤ F) × (F ≤ 56) }
+    requires fraction_bits { IsFractionBits F }
     requires one_per_class { length y.now ≡ length system.now.bodies }
     ensures exact { IfOk result (λ o. o ≡ rule.newton_step (setting system.now x.num x.den F) y.now) }
     ensures fitting { IfOk result (λ o. IfSome o (AreSteps (length system.now.bodies))) }
@@ -75,7 +76,7 @@ fn step_sums<const F: u32, L: Ledger>(
     values: &[u64],
     steps: &mut Steps<L>,
 ) -> Result<Option<Sums>, AllocError>
-    requires fraction_bits { (24 ≤ F) × (F ≤ 56) }
+    requires fraction_bits { IsFractionBits F }
     requires one_per_class { length y.now ≡ length system.now.bodies }
     requires one_per_node { length values.now ≡ length system.now.nodes }
     ensures exact { IfOk result (λ o. o ≡ rule.step_sums (setting system.now x.num x.den F) y.now values.now) }
@@ -98,7 +99,7 @@ fn newton_matrix<const F: u32, L: Ledger>(
     values: &[u64],
     steps: &mut Steps<L>,
 ) -> Result<Option<Matrix>, AllocError>
-    requires fraction_bits { (24 ≤ F) × (F ≤ 56) }
+    requires fraction_bits { IsFractionBits F }
     requires one_per_node { length values.now ≡ length system.now.nodes }
     ensures exact { IfOk result (λ o. o ≡ rule.newton_matrix (setting system.now x.num x.den F) values.now) }
     ensures square { IfOk result (λ o. IfSome o (λ m. IsSquare (length system.now.bodies) m)) }
@@ -124,10 +125,11 @@ fn newton_column<const F: u32, L: Ledger>(
     class: usize,
     steps: &mut Steps<L>,
 ) -> Result<Option<Values>, AllocError>
-    requires fraction_bits { (24 ≤ F) × (F ≤ 56) }
+    requires fraction_bits { IsFractionBits F }
     requires one_per_node { length values.now ≡ length system.now.nodes }
     requires in_range { class < length system.now.bodies }
-    ensures exact { IfOk result (λ o. o ≡ rule.newton_column (setting system.now x.num x.den F) values.now class) }
+    ensures exact { IfOk result (λ o. o ≡ rule.newton_column (setting system.now x.num x.den F) values.now
+        class) }
     ensures length { IfOk result (λ o. IfSome o (λ v. length v ≡ length system.now.bodies)) }
     ensures ticks { steps.new ≤ steps.old + 1 }
 {
@@ -158,7 +160,7 @@ fn lower_gap<const F: u32, L: Ledger>(
     y: &[u64],
     steps: &mut Steps<L>,
 ) -> Result<Values, AllocError>
-    requires fraction_bits { (24 ≤ F) × (F ≤ 56) }
+    requires fraction_bits { IsFractionBits F }
     requires one_per_class { length y.now ≡ length system.now.bodies }
     ensures exact { IfOk result (λ gap. gap ≡ rule.lower_gap (setting system.now x.num x.den F) y.now) }
     ensures length { IfOk result (λ gap. length gap ≡ length system.now.bodies) }

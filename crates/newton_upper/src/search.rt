@@ -1,6 +1,8 @@
 //! The search for a base.
 ghost use Rattle.std.specs.Prelude.{◌≡◌, ℕ, ◌+◌, ◌*◌, ◌^◌, ◌≤◌, length, Some, None, IfOk, IfErr};
+ghost use Rattle.bz_model.specs.Fraction.{ratio, IsFractionBits};
 ghost use Rattle.rounded_map.specs.RoundedMap.{setting, IsPostFixed};
+ghost use Rattle.rounded_map.specs.Bounding.{AreAbove};
 ghost use Rattle.newton_upper.specs.BaseRule.{base_of, most_ticks, TellsNoUpper};
 ghost use Rattle.newton_upper.specs.Candidates.{swept_down, candidate_base};
 
@@ -43,24 +45,27 @@ impl From<AllocError> for UpperFault {
     }
 }
 
-/// The base for a specification and x: the first candidate that is post-fixed or, where none is, the
+/// The base for a specification and x: the first candidate that is post-fixed or, where none is,
+/// the
 /// first such proposal.
 ///
-/// The candidates of six rounds widen a vector of lower values, which ever more lower sweeps make, by
-/// ever greater multiples of a vector along which the map may grow; the proposals are made by up to 16
-/// Newton steps from the last round's vector. `NoUpper` comes exactly where no candidate and no
-/// proposal is post-fixed. Where a candidate of round r is taken, there are at most three ticks for
-/// each sweep of that round and one for each candidate up to it; each Newton step adds three more
-/// than there are classes. Takes memory for some vectors and matrices.
+/// The candidates of six rounds widen a vector of lower values, which ever more lower sweeps
+/// make, by ever greater multiples of a vector along which the map may grow; the proposals are
+/// made by up to 16 Newton steps from the last round's vector. Each entry of a base bounds what
+/// the objects of its class total, of whatever height. `NoUpper` comes exactly where no candidate
+/// and no proposal is post-fixed. Where a candidate of round r is taken, there are at most three
+/// ticks for each sweep of that round and one for each candidate up to it; each Newton step adds
+/// three more than there are classes. Takes memory for some vectors and matrices.
 pub fn propose<const F: u32, L: Ledger>(
     alloc: Global,
     founded: &Founded,
     x: Fraction,
     steps: &mut Steps<L>,
 ) -> Result<Base<F>, UpperFault>
-    requires fraction_bits { (24 ≤ F) × (F ≤ 56) }
+    requires fraction_bits { IsFractionBits F }
     ensures base { IfOk result (λ base. base_of (setting founded.now x.num x.den F) ≡ Some base) }
     ensures post_fixed { IfOk result (λ base. IsPostFixed (setting founded.now x.num x.den F) base) }
+    ensures bounds { IfOk result (λ base. AreAbove founded.now (ratio x.num x.den) F base) }
     ensures fault { IfErr result (TellsNoUpper (setting founded.now x.num x.den F)) }
     ensures ticks { steps.new ≤ steps.old + most_ticks (setting founded.now x.num x.den F) }
 {
@@ -80,11 +85,12 @@ fn search_proposals<const F: u32, L: Ledger>(
     lower: Values,
     steps: &mut Steps<L>,
 ) -> Result<Base<F>, UpperFault>
-    requires fraction_bits { (24 ≤ F) × (F ≤ 56) }
+    requires fraction_bits { IsFractionBits F }
     requires lower { lower ≡ swept_down (setting system.now x.num x.den F) (4 ^ 6) }
     requires none { candidate_base (setting system.now x.num x.den F) ≡ None }
     ensures base { IfOk result (λ base. base_of (setting system.now x.num x.den F) ≡ Some base) }
     ensures post_fixed { IfOk result (λ base. IsPostFixed (setting system.now x.num x.den F) base) }
+    ensures bounds { IfOk result (λ base. AreAbove system.now (ratio x.num x.den) F base) }
     ensures fault { IfErr result (TellsNoUpper (setting system.now x.num x.den F)) }
     ensures ticks { steps.new ≤ steps.old + 16 * (length system.now.bodies + 3) }
 {

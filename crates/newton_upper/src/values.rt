@@ -28,7 +28,8 @@ impl Values {
         }
     }
 
-    /// Appends a number. A refusal, which comes for want of memory alone, leaves the list unchanged.
+    /// Appends a number. A refusal, which comes for want of memory alone, leaves the list
+    /// unchanged.
     pub fn push(&mut self, item: u64) -> Result<(), AllocError>
         ensures ok { OnOk result (self.new ≡ self.old ++ item ∷ []) }
         ensures err { OnErr result (self.new ≡ self.old) }

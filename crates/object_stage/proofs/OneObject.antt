@@ -12,6 +12,7 @@ use Rattle.call_stages.specs.Outcomes.{Outcome, Says, IsOne}
 use Rattle.call_stages.specs.Stages.{Files, IsCalm, FileRead}
 use Rattle.call_stages.specs.Stages as stages
 use Rattle.call_stages.specs.declared.status.Status.{Status}
+use Rattle.call_stages.proofs.Completing.{says-other}
 use Rattle.call_stages.proofs.OneReading.{one-read}
 use Rattle.object_stage.specs.ObjectStage.{without_feed, object_line, ObjectJudged, ObjectRead}
 use Rattle.object_stage.specs.ObjectStage as stage
@@ -52,16 +53,13 @@ pub one-object : (f : Files) (s : Spec) (file : List ℕ) (next : List Token →
 one-object f s file next calm sound within ones = one-read f file 16777217 (ObjectJudged s next) calm (λ bytes. record { one = λ status other text others ticks more m n p q. object-twice s sound within next bytes (λ tokens labels is. ones (without_feed bytes) tokens labels is) status other text others ticks more m n p q })
 
 -- no object's file ends a call with the status of refused words where what comes next doesn't
-not-words : (said status : Status) (line text : List ℕ) (most ticks : ℕ) → said ≢ Status.WordsRefused → Says said line most status text ticks → status ≡ Status.WordsRefused → ⊥
-not-words said status line text most ticks other says is = other (sym says.status_is ∙ is)
-
 pub object-no-words : (f : Files) (s : Spec) (file : List ℕ) (next : List Token → Option (List ℕ) → Outcome) → ((tokens : List Token) (labels : Option (List ℕ)) (status : Status) (text : List ℕ) (ticks : ℕ) → next tokens labels status text ticks → status ≡ Status.WordsRefused → ⊥) → (status : Status) (text : List ℕ) (ticks : ℕ) → ObjectRead f s file next status text ticks → status ≡ Status.WordsRefused → ⊥
-object-no-words f s file next on status text ticks (stages.failed rose says) is = not-words Status.ReadFault status _ text _ ticks (λ e. absurd (cc)) says is
-object-no-words f s file next on status text ticks (stages.no_memory says) is = not-words Status.OutOfMemory status _ text _ ticks (λ e. absurd (cc)) says is
+object-no-words f s file next on status text ticks (stages.failed rose says) is = says-other Status.ReadFault Status.WordsRefused status _ text _ ticks (λ e. absurd (cc)) is says
+object-no-words f s file next on status text ticks (stages.no_memory says) is = says-other Status.OutOfMemory Status.WordsRefused status _ text _ ticks (λ e. absurd (cc)) is says
 object-no-words f s file next on status text ticks (stages.read bytes are p) is = go p
   where
     go : ObjectJudged s next bytes status text ticks → ⊥
-    go (stage.too_long long says) = not-words Status.ObjectRefused status _ text _ ticks (λ e. absurd (cc)) says is
-    go (stage.refused fault few memory tells says) = not-words Status.ObjectRefused status _ text _ ticks (λ e. absurd (cc)) says is
-    go (stage.no_memory says) = not-words Status.OutOfMemory status _ text _ ticks (λ e. absurd (cc)) says is
+    go (stage.too_long long says) = says-other Status.ObjectRefused Status.WordsRefused status _ text _ ticks (λ e. absurd (cc)) is says
+    go (stage.refused fault few memory tells says) = says-other Status.ObjectRefused Status.WordsRefused status _ text _ ticks (λ e. absurd (cc)) is says
+    go (stage.no_memory says) = says-other Status.OutOfMemory Status.WordsRefused status _ text _ ticks (λ e. absurd (cc)) is says
     go (stage.read tokens labels few read q) = on tokens labels status text ticks q is

@@ -1,5 +1,6 @@
 -- An object is read from a file and judged: a stage of a call with what comes next as a parameter.
-use Rattle.std.specs.Prelude.{◌≢◌, ℕ, ◌<◌, ◌≤◌, nat_eq, if◌then◌else◌, List, [], ◌∷◌, ◌++◌, length, decimal, codes, Option}
+use Rattle.std.specs.Prelude.{◌≢◌, ℕ, ◌<◌, ◌≤◌, nat_eq, if◌then◌else◌, List, [], ◌∷◌, ◌++◌, length}
+use Rattle.std.specs.Prelude.{decimal, codes, Option}
 use Rattle.bz_model.specs.Spec.{Spec}
 use Rattle.object_store.specs.declared.token.Token.{Token}
 use Rattle.object_text.specs.Reading.{IsRead, TellsFault}
@@ -25,19 +26,31 @@ object_line (TextFault.NotObject place) = codes "refused object at " ++ (decimal
 object_line TextFault.NotCanonical = codes "refused object not canonical" ++ feed
 object_line TextFault.OutOfMemory = []
 
--- The bytes are judged: they are too many, their text is no object of the first class or not as it is printed, or it is that of an object with these tokens and labels.
-pub data ObjectJudged (s : Spec) (next : (tokens : List Token) (labels : Option (List ℕ)) → Outcome) (bytes : List ℕ) (status : Status) (text : List ℕ) (ticks : ℕ) : Type 0 where
-  too_long : 16777216 < length bytes → Says Status.ObjectRefused too_long_line 0 status text ticks → ObjectJudged s next bytes status text ticks
-  refused : (fault : TextFault) → length bytes ≤ 16777216 → fault ≢ TextFault.OutOfMemory → TellsFault s 0 (without_feed bytes) fault → Says Status.ObjectRefused (object_line fault) 0 status text ticks → ObjectJudged s next bytes status text ticks
-  no_memory : Says Status.OutOfMemory [] 0 status text ticks → ObjectJudged s next bytes status text ticks
-  read : (tokens : List Token) (labels : Option (List ℕ)) → length bytes ≤ 16777216 → IsRead s 0 (without_feed bytes) tokens labels → next tokens labels status text ticks → ObjectJudged s next bytes status text ticks
+-- The bytes are judged: they are too many, their text is no object of the first class or not as it
+-- is printed, or it is that of an object with these tokens and labels.
+pub data ObjectJudged (s : Spec) (next : (tokens : List Token) (labels : Option (List ℕ))
+    → Outcome) (bytes : List ℕ) (status : Status) (text : List ℕ) (ticks : ℕ) : Type 0 where
+  too_long : 16777216 < length bytes → Says Status.ObjectRefused too_long_line 0 status text ticks
+      → ObjectJudged s next bytes status text ticks
+  refused : (fault : TextFault) → length bytes ≤ 16777216 → fault ≢ TextFault.OutOfMemory
+      → TellsFault s 0 (without_feed bytes) fault
+      → Says Status.ObjectRefused (object_line fault) 0 status text ticks
+      → ObjectJudged s next bytes status text ticks
+  no_memory : Says Status.OutOfMemory [] 0 status text ticks
+      → ObjectJudged s next bytes status text ticks
+  read : (tokens : List Token) (labels : Option (List ℕ)) → length bytes ≤ 16777216
+      → IsRead s 0 (without_feed bytes) tokens labels → next tokens labels status text ticks
+      → ObjectJudged s next bytes status text ticks
 
 -- An object of the first class is read from the first 16777217 bytes of a file and judged.
-abbrev pub ObjectRead : Files → Spec → (file : List ℕ) → (next : (tokens : List Token) (labels : Option (List ℕ)) → Outcome) → Outcome
+abbrev pub ObjectRead : Files → Spec → (file : List ℕ)
+    → (next : (tokens : List Token) (labels : Option (List ℕ)) → Outcome) → Outcome
 ObjectRead f s file next = FileRead f file 16777217 (ObjectJudged s next)
 
 -- An object with these tokens and labels was read from a file.
-pub record IsObjectIn (content : List ℕ → Option (List ℕ)) (s : Spec) (file : List ℕ) (tokens : List Token) (labels : Option (List ℕ)) : Type 0 where
+pub record IsObjectIn (content : List ℕ
+    → Option (List ℕ)) (s : Spec) (file : List ℕ) (tokens : List Token) (labels : Option (List ℕ))
+    : Type 0 where
   pub bytes : List ℕ
   pub read : AreRead content file 16777217 bytes
   pub few : length bytes ≤ 16777216

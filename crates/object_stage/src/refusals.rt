@@ -5,7 +5,7 @@ ghost use Rattle.call_stages.specs.declared.status.Status.{Status};
 ghost use Rattle.object_stage.specs.ObjectStage.{too_long_line, object_line};
 ghost use Rattle.object_text.specs.declared.fault.TextFault.{TextFault};
 
-use call_stages::report::Report;
+use call_stages::report::{Report, reported};
 use call_stages::status::Status;
 use object_text::fault::TextFault;
 use std::alloc::{AllocError, Global};
@@ -14,11 +14,8 @@ use std::alloc::{AllocError, Global};
 pub fn too_long_refusal(alloc: Global) -> Result<Report, AllocError>
     ensures { IfOk result (λ r. Says Status.ObjectRefused too_long_line 0 r.status r.text.items 0) }
 {
-    let text = Vec::from_slice(alloc, b"refused object too long\n")?;
-    Ok(Report {
-        status: Status::ObjectRefused,
-        text,
-    })
+    let line = format!(in alloc; "refused object too long\n")?;
+    Ok(reported(Status::ObjectRefused, line))
 }
 
 /// A text is no object, or not as it is printed; `Err` where that is want of memory.
@@ -27,11 +24,8 @@ pub fn object_refusal(alloc: Global, fault: TextFault) -> Result<Report, AllocEr
         Says Status.ObjectRefused (object_line fault) 0 r.status r.text.items 0) }
     ensures memory { OnOk result (fault ≢ TextFault.OutOfMemory) }
 {
-    let text = line_for_object(alloc, fault)?.into_bytes();
-    Ok(Report {
-        status: Status::ObjectRefused,
-        text,
-    })
+    let line = line_for_object(alloc, fault)?;
+    Ok(reported(Status::ObjectRefused, line))
 }
 
 /// Why a text is no object; `Err` where that is want of memory.

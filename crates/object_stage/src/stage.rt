@@ -3,7 +3,8 @@ ghost use Rattle.std.specs.Prelude.{◌≡◌, ℕ, ◌≤◌, List, length, IfO
 ghost use Rattle.call_stages.specs.Outcomes.{Never};
 ghost use Rattle.call_stages.specs.Reports.{refusal_status, refusal_text};
 ghost use Rattle.call_stages.specs.Stages.{files};
-ghost use Rattle.object_stage.specs.ObjectStage.{without_feed, ObjectJudged, ObjectRead, IsObjectIn};
+ghost use Rattle.object_stage.specs.ObjectStage.{without_feed, ObjectJudged, ObjectRead};
+ghost use Rattle.object_stage.specs.ObjectStage.{IsObjectIn};
 ghost use Rattle.object_text.specs.Reading.{IsRead};
 
 use crate::refusals::{object_refusal, too_long_refusal};
@@ -24,7 +25,8 @@ const MOST_READ: u64 = 16_777_217;
 
 /// Reads an object of the first class from a file.
 ///
-/// One line feed at the end of the file is no part of the object's text. In `err` the counts of failed
+/// One line feed at the end of the file is no part of the object's text. In `err` the counts of
+/// failed
 /// reads before the call may be those of an earlier time.
 #[tactic(auto, using(crate::proofs::Judging::is_object, crate::proofs::Judging::ended_by_reading))]
 pub fn object_read<S: Shelf>(
@@ -48,7 +50,8 @@ pub fn object_read<S: Shelf>(
     }
 }
 
-/// The object of the first class whose text, with or without a line feed at its end, these bytes are.
+/// The object of the first class whose text, with or without a line feed at its end, these bytes
+/// are.
 #[tactic(auto, using(crate::proofs::Judging::too_long, crate::proofs::Judging::object_refused, crate::proofs::Judging::judging_lacks_memory))]
 fn object_of(alloc: Global, founded: &Founded, bytes: &[u8]) -> Result<ReadObject, Refusal>
     ensures few { IfOk result (λ object. length bytes.now ≤ 16777216) }

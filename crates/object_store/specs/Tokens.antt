@@ -1,4 +1,5 @@
--- Tokens of an object: the nodes of its tree in preorder. Tuples and class references make no token.
+-- Tokens of an object: the nodes of its tree in preorder. Tuples and class references make no
+-- token.
 use Rattle.std.specs.Prelude.{◌≡◌, ℕ, ◌+◌, List, [], ◌∷◌, ◌++◌, Some}
 use Rattle.bz_model.specs.Spec.{Spec, body_of}
 use Rattle.bz_model.specs.Object.{Object, Objects, none, more, count, Belongs}
@@ -6,7 +7,8 @@ use Rattle.bz_model.specs.Object.Object.{Unit_, Dot, Pick, Tuple, SeqOf, SetOf, 
 use Rattle.object_store.specs.declared.token.Token.{Token}
 use Rattle.object_store.specs.declared.token.Token.TheVariants as token
 
--- The tokens of an object: one for a neutral object and for an atom, the option before the part's tokens, the number of parts before the tokens of all parts, and none of its own for a tuple.
+-- The tokens of an object: one for a neutral object and for an atom, the option before the part's
+-- tokens, the number of parts before the tokens of all parts, and none of its own for a tuple.
 abbrev mutual
   pub tokens_of : Object → List Token
   tokens_of Unit_ = token.Unit ∷ []

@@ -21,5 +21,7 @@ pub record HasToken (s : Spec) (e : ℕ) : Type 0 where
 
 -- A class's body, or a product's parts, are put before the nodes that wait.
 pub data Expands (s : Spec) (e : ℕ) (es now : List ℕ) : Type 0 where
-  class : (c body : ℕ) → node_at s e ≡ Some (Node.Class c) → body_of s c ≡ Some body → now ≡ body ∷ es → Expands s e es now
-  product : (parts : List ℕ) → node_at s e ≡ Some (Node.Product parts) → now ≡ parts ++ es → Expands s e es now
+  class : (c body : ℕ) → node_at s e ≡ Some (Node.Class c) → body_of s c ≡ Some body
+      → now ≡ body ∷ es → Expands s e es now
+  product : (parts : List ℕ) → node_at s e ≡ Some (Node.Product parts) → now ≡ parts ++ es
+      → Expands s e es now

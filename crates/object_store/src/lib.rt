@@ -7,6 +7,7 @@
 //! how long it takes or that memory suffices.
 #![tactic(auto)]
 
+pub mod laws;
 pub mod pending;
 pub mod shape;
 pub mod token;

@@ -1,5 +1,7 @@
 //! Nodes that wait to be visited, with spare room.
-ghost use Rattle.std.specs.Prelude.{◌≡◌, ◌+◌, ◌<◌, ◌≤◌, [], ◌∷◌, ◌++◌, map, length, replicate, option_map, option_to_list, IsOk, OnOk, OnErr, IfNone, IsTrue, ◌↔◌, slice_get, ℕ, List};
+ghost use Rattle.std.specs.Prelude.{◌≡◌, ◌+◌, ◌<◌, ◌≤◌, [], ◌∷◌, ◌++◌, map, length, replicate};
+ghost use Rattle.std.specs.Prelude.{option_map, option_to_list, IsOk, OnOk, OnErr, IfNone, IsTrue};
+ghost use Rattle.std.specs.Prelude.{◌↔◌, slice_get, ℕ, List};
 ghost use Rattle.class_system.specs.Views.{number};
 
 use class_system::ids::ExprId;
@@ -29,7 +31,11 @@ impl Model for Pending {
 
     ghost Value = { Roomy ℕ };
 
-    ghost view = { λ p. record { items = unrolled p.runs.items; spare = vec_capacity p.runs - vec_len p.runs } };
+    ghost view = { λ p. record {
+      items = unrolled p.runs.items;
+      spare =
+          vec_capacity p.runs - vec_len p.runs;
+    } };
 
     ghost invariant = { λ p. HaveSome p.runs.items };
 }
@@ -77,7 +83,8 @@ impl Pending {
 
     /// Takes the next node; None exactly where nothing waits. Takes no memory.
     pub fn pop(&mut self) -> Option<ExprId>
-        ensures items { self.old.items ≡ option_to_list (option_map number result) ++ self.new.items }
+        ensures items { self.old.items ≡ option_to_list (option_map number result)
+            ++ self.new.items }
         ensures none { IfNone result (self.old.items ≡ []) }
         ensures spare { self.old.spare ≤ self.new.spare }
     {

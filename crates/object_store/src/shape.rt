@@ -1,5 +1,6 @@
 //! Shapes: lists of tokens in preorder, with spare room.
-ghost use Rattle.std.specs.Prelude.{◌≡◌, ◌+◌, ◌<◌, ◌≤◌, [], ◌∷◌, ◌++◌, ◌↔◌, length, IsTrue, IsOk, IfOk, OnOk, OnErr};
+ghost use Rattle.std.specs.Prelude.{◌≡◌, ◌+◌, ◌<◌, ◌≤◌, [], ◌∷◌, ◌++◌, ◌↔◌, length, IsTrue, IsOk};
+ghost use Rattle.std.specs.Prelude.{IfOk, OnOk, OnErr};
 ghost use Rattle.bz_model.specs.Object.{none, more};
 ghost use Rattle.object_store.specs.Tokens.{size_of, IsOf, AreOf};
 ghost use Rattle.object_store.specs.Waiting.{Waits};
@@ -26,7 +27,11 @@ impl Model for Shape {
 
     ghost Value = { Roomy Token };
 
-    ghost view = { λ s. record { items = s.content.items; spare = vec_capacity s.content - vec_len s.content } };
+    ghost view = { λ s. record {
+      items = s.content.items;
+      spare =
+          vec_capacity s.content - vec_len s.content;
+    } };
 
     ghost invariant = { λ s. s.dots ≡ size_of s.content.items };
 }
@@ -59,7 +64,8 @@ impl Shape {
         self.content.reserve(more)
     }
 
-    /// Appends a token. A refusal leaves the list as it was, and none comes where there is spare room.
+    /// Appends a token. A refusal leaves the list as it was, and none comes where there is spare
+    /// room.
     pub fn push(&mut self, t: Token) -> Result<(), AllocError>
         ensures ok { OnOk result (self.new.items ≡ self.old.items ++ t ∷ []) }
         ensures err { OnErr result (self.new.items ≡ self.old.items) }

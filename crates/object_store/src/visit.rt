@@ -1,8 +1,10 @@
 //! What a node shows of an object at the object's first token.
-ghost use Rattle.std.specs.Prelude.{◌≡◌, ℕ, ◌<◌, ◌∷◌, ◌↔◌, List, Some, length, map, IfSome, IfNone, IsTrue};
+ghost use Rattle.std.specs.Prelude.{◌≡◌, ℕ, ◌<◌, ◌∷◌, ◌↔◌, List, Some, length, map, IfSome, IfNone};
+ghost use Rattle.std.specs.Prelude.{IsTrue};
 ghost use Rattle.bz_model.specs.Spec.{IsInRange};
 ghost use Rattle.class_system.specs.Views.{number, spec_range};
-ghost use Rattle.object_store.specs.Seen.{Seen, IsWayDown, IsPickOf, IsNoPick, IsCountIn, IsNoCount};
+ghost use Rattle.object_store.specs.Seen.{Seen, IsWayDown, IsPickOf, IsNoPick, IsCountIn};
+ghost use Rattle.object_store.specs.Seen.{IsNoCount};
 ghost use Rattle.object_store.specs.Tokens.{AreOf};
 
 use crate::token::Token;
@@ -75,7 +77,8 @@ impl Visit {
 
 /// The visit of a leaf, where the first token is the leaf's.
 fn leaf_at(leaf: Visit, wanted: Token, tokens: &[Token]) -> Option<Visit>
-    ensures leaf { IfSome result (λ v. (v ≡ leaf) × ((later : List Token) × (tokens.now ≡ wanted ∷ later))) }
+    ensures leaf { IfSome result (λ v. (v ≡ leaf)
+        × ((later : List Token) × (tokens.now ≡ wanted ∷ later))) }
     ensures none { IfNone result ((later : List Token) → ¬ (tokens.now ≡ wanted ∷ later)) }
 {
     let token = tokens.first()?;

@@ -43,7 +43,13 @@ impl<'a> Model for Walk<'a> {
 
     ghost Value = { Walking };
 
-    ghost view = { λ w. record { system = w.system.now; waiting = w.pending.items; left = w.left.now; way = w.way } };
+    ghost view = { λ w. record {
+      system = w.system.now;
+      waiting = w.pending.items;
+      left = w.left.now;
+      way =
+          w.way;
+    } };
 
     ghost invariant = { λ w. IsOnItsWay w.system.now w.pending.items w.way };
 }
@@ -75,8 +81,10 @@ impl<'a> Walk<'a> {
 
     /// Visits the next node.
     ///
-    /// The objects right below the object that is visited wait in its place, and its token is taken,
-    /// if it has one. At the end, and where there is no object, the walk stays as it was; so it does
+    /// The objects right below the object that is visited wait in its place, and its token is
+    /// taken,
+    /// if it has one. At the end, and where there is no object, the walk stays as it was; so it
+    /// does
     /// at an error, which comes only where memory runs out.
     pub fn next(&mut self) -> Result<Next, AllocError>
         ensures next { IfOk result (IsNext self.old self.new) }

@@ -9,7 +9,7 @@ use Rattle.bz_model.specs.Object.Object.{Unit_, Dot, Pick, Tuple}
 use Rattle.bz_model.specs.ObjectText.{HasLabels, leaf_text, label_text}
 use Rattle.bz_laws.proofs.Readings.{neutral-labels}
 use Rattle.object_store.specs.declared.token.Token.TheVariants as token
-use Rattle.object_text.specs.declared.taken.Kind.{Kind}
+use Rattle.object_text.specs.declared.parsed.Kind.{Kind}
 use Rattle.object_text.specs.Taken.{Taken, with_token, with_label, with_object, opened, parted, closed}
 use Rattle.object_text.specs.Scanning.{Word, Number}
 use Rattle.object_text.specs.Expected.{opener, closer, list_node, ReadsObject, ReadsEach}

@@ -8,8 +8,8 @@ use Rattle.bz_model.specs.Measures.{size}
 use Rattle.bz_model.specs.ObjectText.{lesser_label, least_label}
 use Rattle.bz_laws.specs.InOrder.{leasts, IsRisingFrom, IsRising, BeginsWithLeast, StandsInOrder, AllStandInOrder}
 use Rattle.bz_laws.proofs.Items.{lesser-assoc, lesser-zero}
-use Rattle.object_text.specs.declared.taken.Kind.{Kind}
-use Rattle.object_text.specs.declared.taken.Kind.TheVariants.{Sequence, Set, Cycle}
+use Rattle.object_text.specs.declared.parsed.Kind.{Kind}
+use Rattle.object_text.specs.declared.parsed.Kind.TheVariants.{Sequence, Set, Cycle}
 use Rattle.object_text.specs.Taken.{fits, next_mark, in_order, parts_in_order}
 
 -- What the mark says of the least labels of the parts that follow.

@@ -9,11 +9,11 @@ use Rattle.class_system.specs.Views.{spec_range}
 use Rattle.class_system.specs.declared.ids.ExprId.{ExprId}
 use Rattle.object_store.specs.Walk.{AllBelow}
 use Rattle.object_store.proofs.InRange.{replicate-below}
-use Rattle.object_text.specs.declared.taken.Kind.{Kind}
-use Rattle.object_text.specs.declared.taken.Kind.TheVariants.{Sequence, Set, Cycle}
-use Rattle.object_text.specs.declared.expected.Expected.{Expected}
-use Rattle.object_text.specs.declared.expected.Expected.TheVariants.{Close, Part, Further}
-use Rattle.object_text.specs.declared.expected.Counted.{Counted}
+use Rattle.object_text.specs.declared.parsed.Kind.{Kind}
+use Rattle.object_text.specs.declared.parsed.Kind.TheVariants.{Sequence, Set, Cycle}
+use Rattle.object_text.specs.declared.parse_stack.Expected.{Expected}
+use Rattle.object_text.specs.declared.parse_stack.Expected.TheVariants.{Close, Part, Further}
+use Rattle.object_text.specs.declared.parse_stack.Counted.{Counted}
 use Rattle.object_text.specs.Taken.{Taken, with_object, parted, closed}
 use Rattle.object_text.specs.Scanning.{Word, Accepts, IsDigit}
 use Rattle.object_text.specs.Expected.{closer, ReadsObject, ReadsEach, ReadsList, Reads, Comes, AllCanCome, CanCome, IsNodeIf, HasObjects}

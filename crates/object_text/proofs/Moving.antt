@@ -9,7 +9,7 @@ use Rattle.class_system.specs.Views.{spec_mode}
 use Rattle.class_system.specs.declared.draft.Mode.{Mode}
 use Rattle.class_system.specs.declared.ids.ExprId.{ExprId}
 use Rattle.object_store.specs.declared.token.Token.TheVariants as token
-use Rattle.object_text.specs.declared.expected.Expected.{Expected}
+use Rattle.object_text.specs.declared.parse_stack.Expected.{Expected}
 use Rattle.object_text.specs.Taken.{Taken, with_token, with_label}
 use Rattle.object_text.specs.Scanning.{Word, Number, BeginsWithByte, DiffersFrom, IsLabel, HasNoLabel, BeginsLike, Steps, Faults}
 use Rattle.object_text.specs.Expected.{ReadsObject, Reads, Comes, AllCanCome, HasObjects, Moves}

@@ -6,10 +6,10 @@ use Rattle.class_system.specs.Limits.{IsWithinLimits}
 use Rattle.class_system.specs.Views.{spec_range}
 use Rattle.class_system.specs.declared.ids.ExprId.{ExprId}
 use Rattle.class_system.specs.declared.ranges.Range.{Range}
-use Rattle.object_text.specs.declared.taken.Kind.{Kind}
-use Rattle.object_text.specs.declared.taken.Kind.TheVariants.{Sequence, Set, Cycle}
-use Rattle.object_text.specs.declared.expected.Expected.TheVariants.{Further}
-use Rattle.object_text.specs.declared.expected.Counted.{Counted}
+use Rattle.object_text.specs.declared.parsed.Kind.{Kind}
+use Rattle.object_text.specs.declared.parsed.Kind.TheVariants.{Sequence, Set, Cycle}
+use Rattle.object_text.specs.declared.parse_stack.Expected.TheVariants.{Further}
+use Rattle.object_text.specs.declared.parse_stack.Counted.{Counted}
 use Rattle.object_text.specs.Taken.{Taken, with_object, opened, parted, closed}
 use Rattle.object_text.specs.Scanning.{Word, BeginsWithByte, BeginsLike, Steps, CantGoOn, Faults}
 use Rattle.object_text.specs.Expected.{opener, closer, list_node, ReadsObject, ReadsEach, Reads, Comes, AllCanCome, HasObjects, Moves}

@@ -4,10 +4,10 @@ use Rattle.bz_model.specs.Spec.{Spec, Node, Range, node_at, range_at, IsWithinHi
 use Rattle.class_system.specs.Sound.{IsSound, IsTextRange}
 use Rattle.class_system.specs.declared.ids.ExprId.{ExprId}
 use Rattle.object_store.proofs.InRange.{part-below}
-use Rattle.object_text.specs.declared.taken.Kind.{Kind}
-use Rattle.object_text.specs.declared.taken.Kind.TheVariants.{Sequence, Set, Cycle}
-use Rattle.object_text.specs.declared.expected.Expected.{Expected}
-use Rattle.object_text.specs.declared.expected.Expected.TheVariants.{Close, Part}
+use Rattle.object_text.specs.declared.parsed.Kind.{Kind}
+use Rattle.object_text.specs.declared.parsed.Kind.TheVariants.{Sequence, Set, Cycle}
+use Rattle.object_text.specs.declared.parse_stack.Expected.{Expected}
+use Rattle.object_text.specs.declared.parse_stack.Expected.TheVariants.{Close, Part}
 use Rattle.object_text.specs.Taken.{Taken}
 use Rattle.object_text.specs.Scanning.{IsOther, Faults}
 use Rattle.object_text.specs.Expected.{list_node, ReadsObject, Reads, Comes, AllCanCome, HasObjects, Moves}

@@ -10,8 +10,8 @@ use Rattle.class_system.specs.declared.ids.ExprId.{ExprId}
 use Rattle.object_store.specs.declared.token.Token.TheVariants as token
 use Rattle.object_store.specs.Walk.{AllBelow}
 use Rattle.object_store.proofs.InRange.{union-parts, product-parts}
-use Rattle.object_text.specs.declared.expected.Expected.{Expected}
-use Rattle.object_text.specs.declared.expected.Expected.TheVariants.{Close}
+use Rattle.object_text.specs.declared.parse_stack.Expected.{Expected}
+use Rattle.object_text.specs.declared.parse_stack.Expected.TheVariants.{Close}
 use Rattle.object_text.specs.Taken.{Taken, with_token, with_object}
 use Rattle.object_text.specs.Scanning.{Word, Number, BeginsWithNumber, HasNoNumber, Steps, Faults}
 use Rattle.object_text.specs.Expected.{expected_parts, ReadsObject, ReadsEach, Reads, Comes, AllCanCome, HasObjects, Moves}

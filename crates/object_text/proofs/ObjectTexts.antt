@@ -13,8 +13,8 @@ use Rattle.bz_laws.proofs.Nodes.{known, unknown, ClassBelongs, belongs-has, each
 use Rattle.bz_laws.proofs.Readings.{HasAllLabels, first-labels, other-labels, none-labels, part-labels, pick-labels}
 use Rattle.bz_laws.proofs.Samples.{AllByRecursion-append}
 use Rattle.bz_laws.proofs.Texts.{one_text}
-use Rattle.object_text.specs.declared.taken.Kind.{Kind}
-use Rattle.object_text.specs.declared.taken.Kind.TheVariants.{Sequence, Set, Cycle}
+use Rattle.object_text.specs.declared.parsed.Kind.{Kind}
+use Rattle.object_text.specs.declared.parsed.Kind.TheVariants.{Sequence, Set, Cycle}
 use Rattle.object_text.specs.Expected.{opener, closer, list_node}
 
 abbrev pub standing : Arrangement

@@ -3,7 +3,7 @@ use Rattle.std.proofs.Common.{◌≡◌, ℕ, ◌+◌, ◌<◌, List, [], ◌∷
 use Rattle.std.proofs.Math.ListN.{set}
 use Rattle.std.proofs.lemmas.List.{take-append-drop, take-set, drop-set, take-append-le, drop-append-le, reverse-append}
 use Rattle.object_store.specs.declared.token.Token.{Token}
-use Rattle.object_text.specs.declared.taken.OpenList as code
+use Rattle.object_text.specs.declared.parsed.OpenList as code
 use Rattle.object_text.specs.Taken.{Taken, closed}
 use Rattle.object_store.specs.declared.token.Token.TheVariants as token
 use Rattle.object_text.specs.Slots.{inner_tokens, open_lists, AreSlots}

@@ -2,7 +2,7 @@
 use Rattle.std.proofs.Common.{◌≡◌, ◌≢◌, ℕ, ◌<◌, ◌≤◌, List, [], ◌∷◌, ◌++◌, length, arith, refl, sym, ◌∙◌, ap, subst, Option, Some, None}
 use Rattle.bz_model.specs.Spec.{Spec}
 use Rattle.class_system.specs.declared.ids.ExprId.{ExprId}
-use Rattle.object_text.specs.declared.expected.Expected.{Expected}
+use Rattle.object_text.specs.declared.parse_stack.Expected.{Expected}
 use Rattle.object_text.specs.Taken.{Taken}
 use Rattle.object_text.specs.Scanning.{Steps, CantGoOn, Faults}
 use Rattle.object_text.specs.Expected.{Comes, AllCanCome, IsNodeIf, Moves, SameTexts, IsOver}

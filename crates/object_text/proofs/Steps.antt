@@ -13,8 +13,8 @@ use Rattle.class_system.specs.declared.ids.ExprId.{ExprId}
 use Rattle.object_store.specs.declared.token.Token.{Token}
 use Rattle.object_store.specs.declared.token.Token.TheVariants as token
 use Rattle.object_store.specs.Tokens.{tokens_of, tokens_all, token_size}
-use Rattle.object_text.specs.declared.todo.Todo.{Todo}
-use Rattle.object_text.specs.declared.todo.Todo.TheVariants as todo
+use Rattle.object_text.specs.declared.print_stack.Todo.{Todo}
+use Rattle.object_text.specs.declared.print_stack.Todo.TheVariants as todo
 use Rattle.object_text.specs.declared.output.Form.{Form}
 use Rattle.object_text.specs.declared.output.Form.TheVariants as form
 use Rattle.object_text.specs.Output.{OpenParts, Printed, grown, opened, arranged, opener, closer, labelled_leaf}

@@ -11,8 +11,8 @@ use Rattle.bz_laws.proofs.Readings.{HasAllLabels, none-labels, other-labels}
 use Rattle.object_store.specs.declared.token.Token.{Token}
 use Rattle.object_store.specs.declared.token.Token.TheVariants as token
 use Rattle.object_store.specs.Tokens.{tokens_of, tokens_all}
-use Rattle.object_text.specs.declared.taken.Kind.{Kind}
-use Rattle.object_text.specs.declared.taken.Kind.TheVariants.{Sequence, Set, Cycle}
+use Rattle.object_text.specs.declared.parsed.Kind.{Kind}
+use Rattle.object_text.specs.declared.parsed.Kind.TheVariants.{Sequence, Set, Cycle}
 use Rattle.object_text.specs.Taken.{OpenList, Taken, in_order, parts_in_order, fits, next_mark, with_token, with_label, with_object, opened, parted, closed}
 use Rattle.object_text.proofs.ObjectTexts.{list_object}
 

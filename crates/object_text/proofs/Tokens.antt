@@ -18,8 +18,8 @@ use Rattle.object_store.proofs.Sizes.{size_of-tokens}
 use Rattle.object_text.specs.Labels.{HasOneForEach}
 use Rattle.std.proofs.Math.Seq.{take-nil}
 use Rattle.object_store.specs.Walk.{HasToken, IsTokenNode}
-use Rattle.object_text.specs.declared.todo.Todo.{Todo}
-use Rattle.object_text.specs.declared.todo.Todo.TheVariants as todo
+use Rattle.object_text.specs.declared.print_stack.Todo.{Todo}
+use Rattle.object_text.specs.declared.print_stack.Todo.TheVariants as todo
 use Rattle.object_text.specs.Todos.{joined_objects}
 use Rattle.object_text.specs.Printing.{PrintsObject, Prints}
 use Rattle.object_text.specs.declared.output.Form.{Form}

@@ -1,6 +1,6 @@
 -- What entries stand for where one is put at the end, which is in front, or taken from there.
 use Rattle.std.proofs.Common.{◌≡◌, ℕ, zero, suc, ◌-◌, ◌<◌, List, [], ◌∷◌, ◌++◌, arith, sym, ◌∙◌, ap, append_assoc, append-nil, replicate}
-use Rattle.object_text.specs.declared.todo.Entry.{Entry}
+use Rattle.object_text.specs.declared.print_stack.Entry.{Entry}
 use Rattle.object_text.specs.Todos.{unrolled, entry_items, IsSomething, AreSome}
 
 pub unrolled-push : (entries : List Entry) (x : Entry) → unrolled (entries ++ x ∷ []) ≡ entry_items x ++ unrolled entries

@@ -16,8 +16,8 @@ use Rattle.object_store.specs.Tokens.{tokens_of, tokens_all, token_size, AreOf}
 use Rattle.class_system.specs.Sound.{IsSound}
 use Rattle.object_store.specs.Walk.{AllBelow, HasToken, IsTokenNode, Expands}
 use Rattle.object_store.proofs.Descent.{Descent, descent-expand, too_long}
-use Rattle.object_text.specs.declared.todo.Todo.{Todo}
-use Rattle.object_text.specs.declared.todo.Todo.TheVariants as todo
+use Rattle.object_text.specs.declared.print_stack.Todo.{Todo}
+use Rattle.object_text.specs.declared.print_stack.Todo.TheVariants as todo
 use Rattle.object_text.specs.Todos.{joined_objects, spaced_objects}
 use Rattle.object_text.specs.Output.{Printed}
 use Rattle.object_text.specs.Printing.{PrintsObject, Prints, ArePrinted, Goes, Passes, nodes_of}

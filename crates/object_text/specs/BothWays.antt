@@ -11,8 +11,11 @@ abbrev pub listed : Option (List ℕ) → List ℕ
 listed None = []
 listed (Some labels) = labels
 
--- The tokens are those of an object of the class, there is a label for each atom in labelled mode and none in unlabelled mode, and the text is the object's.
-pub record IsReprinted (s : Spec) (c : ℕ) (text : List ℕ) (tokens : List Token) (labels : Option (List ℕ)) : Type 0 where
+-- The tokens are those of an object of the class, there is a label for each atom in labelled mode
+-- and none in unlabelled mode, and the text is the object's.
+pub record IsReprinted (s : Spec) (c : ℕ) (text : List ℕ) (tokens : List Token)
+    (labels : Option (List ℕ)) : Type 0 where
   pub is_of : IsOf s c tokens
   pub has_labels : HasOneForEach s.mode tokens (listed labels)
-  pub printed : (of : IsOf s c tokens) → text ≡ object_text s of.body of.object of.belongs (listed labels)
+  pub printed : (of : IsOf s c tokens)
+      → text ≡ object_text s of.body of.object of.belongs (listed labels)

@@ -1,5 +1,6 @@
 -- Marks for labels: the first mark is that of label 1.
-use Rattle.std.specs.Prelude.{◌≡◌, ℕ, ◌-◌, ◌≤◌, Bool, true, false, List, [], ◌∷◌, length, slice_index_or, slice_set}
+use Rattle.std.specs.Prelude.{◌≡◌, ℕ, ◌-◌, ◌≤◌, Bool, true, false, List, [], ◌∷◌, length}
+use Rattle.std.specs.Prelude.{slice_index_or, slice_set}
 
 -- A label has a mark, which isn't set.
 pub record IsFree (seen : List Bool) (label : ℕ) : Type 0 where

@@ -1,10 +1,13 @@
--- What is printed so far: an open text, and the sets and cycles that are being printed, with their finished parts.
+-- What is printed so far: an open text, and the sets and cycles that are being printed, with their
+-- finished parts.
 use Rattle.std.specs.Prelude.{ℕ, List, [], ◌∷◌, ◌++◌, Option, Some, None, decimal}
-use Rattle.bz_model.specs.ObjectText.{Arrangement, PartText, lesser_label, least_of, set_parts, cycle_parts, spaced}
+use Rattle.bz_model.specs.ObjectText.{Arrangement, PartText, lesser_label, least_of, set_parts}
+use Rattle.bz_model.specs.ObjectText.{cycle_parts, spaced}
 use Rattle.object_text.specs.declared.output.Form.{Form}
 use Rattle.object_text.specs.declared.output.Form.TheVariants.{Set, Cycle}
 
--- A set or cycle that is being printed: the text before it with its least label, and its finished parts.
+-- A set or cycle that is being printed: the text before it with its least label, and its finished
+-- parts.
 pub record OpenParts : Type 0 where
   pub least : ℕ
   pub text : List ℕ
@@ -22,20 +25,38 @@ blank = record { least = 0; text = []; frames = [] }
 
 -- The open text with more text, which has this least label.
 abbrev pub grown : Printed → ℕ → List ℕ → Printed
-grown p label text = record { least = lesser_label p.least label; text = p.text ++ text; frames = p.frames }
+grown p label text = record {
+  least = lesser_label p.least label;
+  text = p.text ++ text;
+  frames =
+      p.frames;
+}
 
 -- A set or cycle begins.
 abbrev pub opened : Printed → Printed
-opened p = record { least = 0; text = []; frames = record { least = p.least; text = p.text; parts = [] } ∷ p.frames }
+opened p =
+    record {
+      least = 0;
+      text = [];
+      frames = record { least = p.least; text = p.text; parts = [] }
+          ∷ p.frames;
+    }
 
 -- The open text is a finished part of these sets and cycles.
 abbrev pub with_part : PartText → List OpenParts → List OpenParts
 with_part part [] = []
-with_part part (f ∷ frames) = record { least = f.least; text = f.text; parts = f.parts ++ part ∷ [] } ∷ frames
+with_part part (f ∷ frames) =
+    record { least = f.least; text = f.text; parts = f.parts ++ part ∷ [] } ∷ frames
 
 -- The open text is a finished part, and a new one begins.
 abbrev pub parted : Printed → Printed
-parted p = record { least = 0; text = []; frames = with_part (record { least = p.least; text = p.text }) p.frames }
+parted p =
+    record {
+      least = 0;
+      text = [];
+      frames =
+          with_part (record { least = p.least; text = p.text }) p.frames;
+    }
 
 -- The parts in the order in which they are printed.
 abbrev pub arranged : Form → List PartText → List PartText
@@ -54,7 +75,12 @@ closer Cycle = 62
 -- The innermost set or cycle ends: its text follows the text before it.
 abbrev pub closed_in : Form → Printed → List OpenParts → Printed
 closed_in form p [] = p
-closed_in form p (f ∷ frames) = record { least = lesser_label f.least (least_of f.parts); text = f.text ++ (opener form ∷ spaced (arranged form f.parts) ++ closer form ∷ []); frames = frames }
+closed_in form p (f ∷ frames) = record {
+  least = lesser_label f.least (least_of f.parts);
+  text =
+      f.text ++ (opener form ∷ spaced (arranged form f.parts) ++ closer form ∷ []);
+  frames = frames;
+}
 
 abbrev pub closed : Form → Printed → Printed
 closed form p = closed_in form p p.frames

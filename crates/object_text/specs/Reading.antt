@@ -8,7 +8,8 @@ use Rattle.object_store.specs.Tokens.{tokens_of}
 use Rattle.object_text.specs.declared.fault.TextFault.{TextFault}
 use Rattle.object_text.specs.declared.fault.TextFault.TheVariants as fault
 
--- A text is of the form where it is that of some object of the node with some labels, the parts of sets and cycles standing in any order.
+-- A text is of the form where it is that of some object of the node with some labels, the parts of
+-- sets and cycles standing in any order.
 pub record IsForm (s : Spec) (e : ℕ) (text : List ℕ) : Type 0 where
   pub object : Object
   pub labels : List ℕ
@@ -19,14 +20,17 @@ pub record Begins (s : Spec) (e : ℕ) (front : List ℕ) : Type 0 where
   pub more : List ℕ
   pub form : IsForm s e (front ++ more)
 
--- The byte at a place is the first that can't stand there: some text of the form begins with the bytes before it, and none begins with these and it. At the end of the text this says that bytes are missing: some text of the form begins with the whole text, which isn't of the form itself.
+-- The byte at a place is the first that can't stand there: some text of the form begins with the
+-- bytes before it, and none begins with these and it. At the end of the text this says that bytes
+-- are missing: some text of the form begins with the whole text, which isn't of the form itself.
 pub record IsWrongAt (s : Spec) (e : ℕ) (text : List ℕ) (place : ℕ) : Type 0 where
   pub within : place ≤ length text
   pub before : Begins s e (take place text)
   pub byte : place < length text → ¬ (Begins s e (take (place + 1) text))
   pub missing : place ≡ length text → ¬ (IsForm s e text)
 
--- The text is of the form, and isn't the canonical text of the object with labels that it stands for.
+-- The text is of the form, and isn't the canonical text of the object with labels that it stands
+-- for.
 pub record IsNotCanonical (s : Spec) (e : ℕ) (text : List ℕ) : Type 0 where
   pub object : Object
   pub labels : List ℕ
@@ -38,8 +42,10 @@ abbrev pub told : Mode → List ℕ → Option (List ℕ)
 told Mode.Unlabelled labels = None
 told Mode.Labelled labels = Some labels
 
--- The text is the canonical text of an object of the class with labels, and these are the object's tokens and the labels.
-pub record IsRead (s : Spec) (c : ℕ) (text : List ℕ) (tokens : List Token) (labels_told : Option (List ℕ)) : Type 0 where
+-- The text is the canonical text of an object of the class with labels, and these are the object's
+-- tokens and the labels.
+pub record IsRead (s : Spec) (c : ℕ) (text : List ℕ) (tokens : List Token)
+    (labels_told : Option (List ℕ)) : Type 0 where
   pub body : ℕ
   pub is_body : body_of s c ≡ Some body
   pub object : Object

@@ -21,7 +21,8 @@ pub record IsOrderly (taken : Taken) : Type 0 where
   pub one_to : AreOneTo (length taken.labels) taken.labels
 
 -- What was read stands in order, and these are its tokens, and its labels in labelled mode.
-pub record IsFinished (mode : Mode) (taken : Taken) (shape : List Token) (labels_told : Option (List ℕ)) : Type 0 where
+pub record IsFinished (mode : Mode) (taken : Taken) (shape : List Token)
+    (labels_told : Option (List ℕ)) : Type 0 where
   pub orderly : IsOrderly taken
   pub tokens : shape ≡ taken.tokens
   pub labels : labels_told ≡ told mode taken.labels

@@ -1,5 +1,7 @@
--- What was read of a text so far: tokens and labels, whether the parts of sets and cycles stand in order, and the lists that are open.
-use Rattle.std.specs.Prelude.{ℕ, nat_le, nat_eq, Bool, true, ◌&&◌, List, [], ◌∷◌, ◌++◌, take, drop, Option, Some, None}
+-- What was read of a text so far: tokens and labels, whether the parts of sets and cycles stand in
+-- order, and the lists that are open.
+use Rattle.std.specs.Prelude.{ℕ, nat_le, nat_eq, Bool, true, ◌&&◌, List, [], ◌∷◌, ◌++◌, take, drop}
+use Rattle.std.specs.Prelude.{Option, Some, None}
 use Rattle.bz_model.specs.Object.{Object, Objects, none, more}
 use Rattle.bz_model.specs.Object.Object.{Unit_, Dot, Pick, Tuple, SeqOf, SetOf, CycOf}
 use Rattle.bz_model.specs.Measures.{size}
@@ -7,10 +9,12 @@ use Rattle.bz_model.specs.ObjectText.{lesser_label, least_label}
 use Rattle.object_store.specs.declared.token.Token.{Token}
 use Rattle.object_store.specs.declared.token.Token.TheVariants as token
 use Rattle.object_store.specs.Tokens.{tokens_of}
-use Rattle.object_text.specs.declared.taken.Kind.{Kind}
-use Rattle.object_text.specs.declared.taken.Kind.TheVariants.{Sequence, Set, Cycle}
+use Rattle.object_text.specs.declared.parsed.Kind.{Kind}
+use Rattle.object_text.specs.declared.parsed.Kind.TheVariants.{Sequence, Set, Cycle}
 
--- The parts of a list stand in order as far as they were read; the mark is the least label of the last part of a set, and that of the first part of a cycle. A part with this least label may come next.
+-- The parts of a list stand in order as far as they were read; the mark is the least label of the
+-- last part of a set, and that of the first part of a cycle. A part with this least label may come
+-- next.
 abbrev pub fits : Kind → Option ℕ → ℕ → Bool
 fits Set (Some mark) least = nat_le mark least
 fits Cycle (Some mark) least = nat_eq (lesser_label mark least) mark
@@ -21,7 +25,8 @@ abbrev pub next_mark : Kind → Option ℕ → ℕ → Option ℕ
 next_mark Cycle (Some mark) least = Some mark
 next_mark kind mark least = Some least
 
--- Whether an object with its labels stands in order: each set's parts in the order of their least labels, and each cycle's part with the least label first.
+-- Whether an object with its labels stands in order: each set's parts in the order of their least
+-- labels, and each cycle's part with the least label first.
 abbrev mutual
   pub in_order : Object → List ℕ → Bool
   in_order Unit_ labels = true
@@ -35,16 +40,22 @@ abbrev mutual
   -- Whether further parts of a list stand in order, behind those that gave the mark.
   pub parts_in_order : Kind → Option ℕ → Objects → List ℕ → Bool
   parts_in_order kind mark none labels = true
-  parts_in_order kind mark (more o os) labels = in_order o (take (size o) labels) && (fits kind mark (least_label (take (size o) labels)) && parts_in_order kind (next_mark kind mark (least_label (take (size o) labels))) os (drop (size o) labels))
+  parts_in_order kind mark (more o os) labels =
+      in_order o (take (size o) labels) && (fits kind mark (least_label (take (size o) labels)) &&
+      parts_in_order kind (next_mark kind mark (least_label (take (size o) labels))) os
+      (drop (size o) labels))
 
--- A list that is open: the tokens before its number of parts, the least label of the whole parts and of what stands before the list in the part around, and the mark of its parts.
+-- A list that is open: the tokens before its number of parts, the least label of the whole parts
+-- and of what stands before the list in the part around, and the mark of its parts.
 pub record OpenList : Type 0 where
   pub kind : Kind
   pub tokens : List Token
   pub least : ℕ
   pub mark : Option ℕ
 
--- What was read: the tokens since the innermost open list began, all labels, the least label of the part that is read, whether what was read stands in order, and the open lists, the innermost first.
+-- What was read: the tokens since the innermost open list began, all labels, the least label of the
+-- part that is read, whether what was read stands in order, and the open lists, the innermost
+-- first.
 pub record Taken : Type 0 where
   pub tokens : List Token
   pub labels : List ℕ
@@ -58,24 +69,67 @@ nothing = record { tokens = []; labels = []; least = 0; ordered = true; lists = 
 
 -- One token more.
 abbrev pub with_token : Taken → Token → Taken
-with_token t k = record { tokens = t.tokens ++ k ∷ []; labels = t.labels; least = t.least; ordered = t.ordered; lists = t.lists }
+with_token t k = record {
+  tokens = t.tokens ++ k ∷ [];
+  labels = t.labels;
+  least = t.least;
+  ordered =
+      t.ordered;
+  lists = t.lists;
+}
 
 -- One label more.
 abbrev pub with_label : Taken → ℕ → Taken
-with_label t label = record { tokens = t.tokens; labels = t.labels ++ label ∷ []; least = lesser_label t.least label; ordered = t.ordered; lists = t.lists }
+with_label t label = record {
+  tokens = t.tokens;
+  labels = t.labels ++ label ∷ [];
+  least =
+      lesser_label t.least label;
+  ordered = t.ordered;
+  lists = t.lists;
+}
 
 -- An object with its labels more.
 abbrev pub with_object : Taken → Object → List ℕ → Taken
-with_object t o labels = record { tokens = t.tokens ++ tokens_of o; labels = t.labels ++ labels; least = lesser_label t.least (least_label labels); ordered = t.ordered && in_order o labels; lists = t.lists }
+with_object t o labels = record {
+  tokens = t.tokens ++ tokens_of o;
+  labels =
+      t.labels ++ labels;
+  least = lesser_label t.least (least_label labels);
+  ordered =
+      t.ordered && in_order o labels;
+  lists = t.lists;
+}
 
 -- A list begins.
 abbrev pub opened : Kind → Taken → Taken
-opened kind t = record { tokens = []; labels = t.labels; least = 0; ordered = t.ordered; lists = record { kind = kind; tokens = t.tokens; least = t.least; mark = None } ∷ t.lists }
+opened kind t = record {
+  tokens = [];
+  labels = t.labels;
+  least = 0;
+  ordered = t.ordered;
+  lists =
+      record { kind = kind; tokens = t.tokens; least = t.least; mark = None } ∷ t.lists;
+}
 
 -- A part of the innermost list ends.
 abbrev pub parted_in : Taken → List OpenList → Taken
 parted_in t [] = t
-parted_in t (f ∷ lists) = record { tokens = t.tokens; labels = t.labels; least = 0; ordered = t.ordered && fits f.kind f.mark t.least; lists = record { kind = f.kind; tokens = f.tokens; least = lesser_label f.least t.least; mark = next_mark f.kind f.mark t.least } ∷ lists }
+parted_in t (f ∷ lists) = record {
+  tokens = t.tokens;
+  labels = t.labels;
+  least = 0;
+  ordered =
+      t.ordered && fits f.kind f.mark t.least;
+  lists =
+      record {
+        kind = f.kind;
+        tokens = f.tokens;
+        least = lesser_label f.least t.least;
+        mark =
+            next_mark f.kind f.mark t.least;
+      } ∷ lists;
+}
 
 abbrev pub parted : Taken → Taken
 parted t = parted_in t t.lists
@@ -83,7 +137,14 @@ parted t = parted_in t t.lists
 -- The innermost list ends with so many parts.
 abbrev pub closed_in : ℕ → Taken → List OpenList → Taken
 closed_in count t [] = t
-closed_in count t (f ∷ lists) = record { tokens = f.tokens ++ token.Count count ∷ t.tokens; labels = t.labels; least = f.least; ordered = t.ordered; lists = lists }
+closed_in count t (f ∷ lists) = record {
+  tokens = f.tokens ++ token.Count count ∷ t.tokens;
+  labels =
+      t.labels;
+  least = f.least;
+  ordered = t.ordered;
+  lists = lists;
+}
 
 abbrev pub closed : ℕ → Taken → Taken
 closed count t = closed_in count t t.lists

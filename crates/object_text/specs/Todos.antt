@@ -1,10 +1,10 @@
 -- What is still to be done.
 use Rattle.std.specs.Prelude.{◌<◌, List, [], ◌∷◌, ◌++◌, replicate}
 use Rattle.class_system.specs.declared.ids.ExprId.{ExprId}
-use Rattle.object_text.specs.declared.todo.Todo.{Todo}
-use Rattle.object_text.specs.declared.todo.Todo.TheVariants.{Byte, Node, Part}
-use Rattle.object_text.specs.declared.todo.Entry.{Entry}
-use Rattle.object_text.specs.declared.todo.Entry.TheVariants as entry
+use Rattle.object_text.specs.declared.print_stack.Todo.{Todo}
+use Rattle.object_text.specs.declared.print_stack.Todo.TheVariants.{Byte, Node, Part}
+use Rattle.object_text.specs.declared.print_stack.Entry.{Entry}
+use Rattle.object_text.specs.declared.print_stack.Entry.TheVariants as entry
 
 -- An object of each node, with a space before each.
 abbrev pub spaced_objects : List ExprId → List Todo

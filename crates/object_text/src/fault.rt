@@ -5,7 +5,8 @@ use std::alloc::AllocError;
 #[derive(Clone, Copy, Debug, PartialEq, Eq)]
 pub enum TextFault {
     /// The text isn't that of an object of the class, whatever the order of the parts of sets and
-    /// cycles and whatever the labels from 1 to 1_000_000. The byte at this offset is the first that
+    /// cycles and whatever the labels from 1 to 1_000_000. The byte at this offset is the first
+    /// that
     /// can't stand there, or this is the length where bytes are missing.
     NotObject { place: u64 },
     /// The text is that of an object, and its labels aren't 1 to the size, each once, or a set or a

@@ -1,4 +1,5 @@
-//! Laws of reading and printing: empty functions whose contracts are theorems over the definitions of
+//! Laws of reading and printing: empty functions whose contracts are theorems over the definitions
+//! of
 //! `specs/Reading.antt`, which the contracts of `read` and `print_labelled` cite.
 ghost use Rattle.std.specs.Prelude.{◌≡◌, ◌≢◌, ℕ, List, [], Option, None};
 ghost use Rattle.bz_model.specs.Spec.{Spec, Mode};
@@ -20,7 +21,8 @@ pub fn a_text_has_one_answer()
         → IsRead s c text tokens labels → IsRead s c text others told
         → (tokens ≡ others) × (labels ≡ told) }
     ensures no_fault { (s : Spec) → IsSound s → IsWithinLimits s
-        → (c : ℕ) (text : List ℕ) (tokens : List Token) (labels : Option (List ℕ)) (fault : TextFault)
+        → (c : ℕ) (text : List ℕ) (tokens : List Token) (labels : Option (List ℕ))
+        (fault : TextFault)
         → IsRead s c text tokens labels → TellsFault s c text fault
         → fault ≡ TextFault.OutOfMemory }
     ensures one_fault { (s : Spec) → IsSound s → IsWithinLimits s

@@ -3,7 +3,8 @@
 //! An object's text is defined in `bz_model` (its `specs/ObjectText.antt`). `print` gives exactly
 //! that text, from the object's tokens and labels. `read` gives the object of a canonical text, and
 //! for any other text its fault with the first byte that can't stand there (`specs/Reading.antt`).
-//! The laws in `laws` say that a text has one answer, that what was read is printed as the text, and
+//! The laws in `laws` say that a text has one answer, that what was read is printed as the text,
+//! and
 //! that what was printed is read in canonical order (`specs/Arranged.antt`).
 //!
 //! The state of the walk that prints stands in `specs/Printing.antt`, what is printed so far in
@@ -11,15 +12,15 @@
 //! `specs/Taken.antt`. No clause says how long a call takes or that memory suffices.
 #![tactic(auto)]
 
-mod expected;
 pub mod fault;
 pub mod laws;
-mod one_to;
 mod output;
+mod parse_stack;
+mod parsed;
+mod permutation;
 pub mod print;
+mod print_stack;
 pub mod read;
 mod reader;
 mod scan;
-mod taken;
-mod todo;
 mod walk;

@@ -4,7 +4,8 @@
 //! is known only then.
 ghost use Rattle.std.specs.Prelude.{◌≡◌, ◌≤◌, ◌++◌, ◌∷◌, [], OnOk, decimal, length, take, drop};
 ghost use Rattle.bz_model.specs.ObjectText.{lesser_label, least_of, spaced, rotated_to};
-ghost use Rattle.object_text.specs.Output.{blank, grown, opened, parted, closed, arranged, opener, closer};
+ghost use Rattle.object_text.specs.Output.{blank, grown, opened, parted, closed, arranged, opener};
+ghost use Rattle.object_text.specs.Output.{closer};
 
 use itoa::Buffer;
 use std::alloc::{AllocError, Global};

@@ -6,7 +6,7 @@ ghost use Rattle.object_store.specs.Tokens.{IsOf};
 ghost use Rattle.object_text.specs.Labels.{HasOneForEach};
 
 use crate::output::Output;
-use crate::todo::{Todo, Todos};
+use crate::print_stack::{Todo, Todos};
 use crate::walk::print_all;
 use class_system::ids::ClassId;
 use class_system::system::System;

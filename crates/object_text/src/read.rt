@@ -6,10 +6,10 @@ ghost use Rattle.object_text.specs.Scanning.{StopsAt};
 ghost use Rattle.object_text.specs.States.{IsFinished, IsRefused, stop_fault};
 
 use crate::fault::TextFault;
-use crate::one_to::are_one_to;
+use crate::parsed::Partial;
+use crate::permutation::are_one_to;
 use crate::reader::Reader;
 use crate::scan::Stop;
-use crate::taken::Partial;
 use class_system::draft::Mode;
 use class_system::ids::ClassId;
 use labelling::labels::Labels;
@@ -17,7 +17,8 @@ use object_store::shape::Shape;
 use std::alloc::Global;
 use well_founded::examination::Founded;
 
-/// An object that was read: its tokens, and in labelled mode its labels in token order. The parts of
+/// An object that was read: its tokens, and in labelled mode its labels in token order. The parts
+/// of
 /// sets and cycles stand as they were written.
 #[derive(Drop)]
 pub struct ReadObject {
@@ -27,7 +28,8 @@ pub struct ReadObject {
 
 /// Reads a text as that of an object of a class.
 ///
-/// It takes one step for each byte, and one for each class on the way down to a node that isn't one.
+/// It takes one step for each byte, and one for each class on the way down to a node that isn't
+/// one.
 /// It takes memory for the tokens and the labels, for one entry for each part of a product and each
 /// list on the way down, and in labelled mode for one mark for each label.
 pub fn read(

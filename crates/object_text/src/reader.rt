@@ -1,17 +1,20 @@
 //! The reader of an object: node after node, with a stack of what is expected behind each object.
-ghost use Rattle.std.specs.Prelude.{◌≡◌, ◌≤◌, ◌<◌, ◌+◌, ◌^◌, ◌∷◌, [], length, codes, Some, None, IfOk, IfErr, IfSome, IfNone, OnOk};
+ghost use Rattle.std.specs.Prelude.{◌≡◌, ◌≤◌, ◌<◌, ◌+◌, ◌^◌, ◌∷◌, [], length, codes, Some, None};
+ghost use Rattle.std.specs.Prelude.{IfOk, IfErr, IfSome, IfNone, OnOk};
 ghost use Rattle.bz_model.specs.ObjectText.{leaf_text};
 ghost use Rattle.object_text.specs.Scanning.{DiffersFrom, Faults, StopsAt};
 ghost use Rattle.object_text.specs.Taken.{nothing};
-ghost use Rattle.object_text.specs.Expected.{opener, closer, Comes, Moves, AllCanCome, IsNodeIf, HasObjects, NoClass, IsResolved, IsOver};
-ghost use Rattle.object_text.specs.Pieces.{IsNeutral, IsAtom, IsNoAtom, IsOption, IsNoOption, IsProduct, IsNoByte, IsList, IsFurther, IsNoFurther};
+ghost use Rattle.object_text.specs.Expected.{opener, closer, Comes, Moves, AllCanCome, IsNodeIf};
+ghost use Rattle.object_text.specs.Expected.{HasObjects, NoClass, IsResolved, IsOver};
+ghost use Rattle.object_text.specs.Pieces.{IsNeutral, IsAtom, IsNoAtom, IsOption, IsNoOption};
+ghost use Rattle.object_text.specs.Pieces.{IsProduct, IsNoByte, IsList, IsFurther, IsNoFurther};
 ghost use Rattle.object_text.specs.States.{state};
 
-use crate::expected::{Counted, Expected, Stack, is_within, may_grow};
+use crate::parse_stack::{Counted, Expected, Stack, is_within, may_grow};
+use crate::parsed::{Kind, Partial};
 use crate::scan::{
     Stop, begins_with, behind_first, leaf_word, read_byte, read_label, read_number, read_word,
 };
-use crate::taken::{Kind, Partial};
 use class_system::draft::Mode;
 use class_system::expr::Expr;
 use class_system::ids::ExprId;
@@ -51,7 +54,8 @@ impl Reader {
         requires small { length text.now < 2 ^ 32 }
         requires nothing { self.old.stack ≡ [] }
         ensures ok { OnOk result (Comes system.now (Some root) [] self.old.taken self.new.taken text.now) }
-        ensures stop { IfErr result (StopsAt (Faults (Comes system.now (Some root) [] self.old.taken) text.now)) }
+        ensures stop { IfErr result
+            (StopsAt (Faults (Comes system.now (Some root) [] self.old.taken) text.now)) }
     {
         let mut rest = text;
         let mut next = Some(root);
@@ -62,7 +66,8 @@ impl Reader {
         Ok(())
     }
 
-    /// Reads up to the next node of which an object comes, or up to the end of an object. None where
+    /// Reads up to the next node of which an object comes, or up to the end of an object. None
+    /// where
     /// nothing is expected and the text ends.
     fn read_some<'a>(
         &mut self,
@@ -74,9 +79,15 @@ impl Reader {
         requires next_below { IsNodeIf system.now next }
         requires can_come { AllCanCome system.now (length text.now) self.old.stack }
         requires small { length text.now < 2 ^ 32 }
-        ensures more { IfOk result (λ read. IfSome read (λ x. Moves system.now (Comes system.now next self.old.stack self.old.taken) text.now x.0 self.new.stack self.new.taken x.1.now)) }
-        ensures over { IfOk result (λ read. IfNone read (IsOver next self.old.stack text.now self.new.stack self.old.taken self.new.taken)) }
-        ensures stop { IfErr result (StopsAt (Faults (Comes system.now next self.old.stack self.old.taken) text.now)) }
+        ensures more { IfOk result
+            (λ read. IfSome read
+            (λ x. Moves system.now (Comes system.now next self.old.stack self.old.taken) text.now
+            x.0 self.new.stack self.new.taken x.1.now)) }
+        ensures over { IfOk result
+            (λ read. IfNone read (IsOver next self.old.stack text.now self.new.stack self.old.taken
+            self.new.taken)) }
+        ensures stop { IfErr result
+            (StopsAt (Faults (Comes system.now next self.old.stack self.old.taken) text.now)) }
     {
         if let Some(e) = next {
             return Ok(Some(self.begin(system, resolved(system, e), text)?));
@@ -100,8 +111,11 @@ impl Reader {
         requires objects { HasObjects system.now }
         requires can_come { AllCanCome system.now (length text.now) self.old.stack }
         requires small { length text.now < 2 ^ 32 }
-        ensures ok { IfOk result (λ x. Moves system.now (Comes system.now (Some e) self.old.stack self.old.taken) text.now x.0 self.new.stack self.new.taken x.1.now) }
-        ensures stop { IfErr result (StopsAt (Faults (Comes system.now (Some e) self.old.stack self.old.taken) text.now)) }
+        ensures ok { IfOk result
+            (λ x. Moves system.now (Comes system.now (Some e) self.old.stack self.old.taken)
+            text.now x.0 self.new.stack self.new.taken x.1.now) }
+        ensures stop { IfErr result
+            (StopsAt (Faults (Comes system.now (Some e) self.old.stack self.old.taken) text.now)) }
     {
         system.known();
         match system.node(e) {
@@ -122,7 +136,8 @@ impl Reader {
         word: &[u8],
         text: &'a [u8],
     ) -> Result<(Option<ExprId>, &'a [u8]), Stop>
-        ensures ok { IfOk result (λ x. IsNeutral word.now text.now (state self.old) x.0 (state self.new) x.1.now) }
+        ensures ok { IfOk result (λ x. IsNeutral word.now text.now (state self.old) x.0 (state self.new)
+            x.1.now) }
         ensures stop { IfErr result (StopsAt (DiffersFrom (leaf_text (codes "E") word.now) text.now)) }
     {
         let rest = read_word(leaf_word(b"E", word), text)?;
@@ -137,7 +152,8 @@ impl Reader {
         word: &[u8],
         text: &'a [u8],
     ) -> Result<(Option<ExprId>, &'a [u8]), Stop>
-        ensures ok { IfOk result (λ x. IsAtom mode word.now text.now (state self.old) x.0 (state self.new) x.1.now) }
+        ensures ok { IfOk result (λ x. IsAtom mode word.now text.now (state self.old) x.0 (state self.new)
+            x.1.now) }
         ensures stop { IfErr result (StopsAt (IsNoAtom mode word.now text.now)) }
     {
         let behind = read_word(leaf_word(b"Z", word), text)?;
@@ -160,7 +176,8 @@ impl Reader {
     ) -> Result<(Option<ExprId>, &'a [u8]), Stop>
         requires some { 1 ≤ length parts.now }
         requires few { length parts.now ≤ 64 }
-        ensures ok { IfOk result (λ x. IsOption parts.now text.now (state self.old) x.0 (state self.new) x.1.now) }
+        ensures ok { IfOk result (λ x. IsOption parts.now text.now (state self.old) x.0 (state self.new)
+            x.1.now) }
         ensures stop { IfErr result (StopsAt (IsNoOption parts.now text.now)) }
     {
         let (option, dot) = read_number(0, parts.len() as u64 - 1, text)?;
@@ -176,7 +193,8 @@ impl Reader {
         text: &'a [u8],
     ) -> Result<(Option<ExprId>, &'a [u8]), Stop>
         requires some { 1 ≤ length parts.now }
-        ensures ok { IfOk result (λ x. IsProduct parts.now text.now (state self.old) x.0 (state self.new) x.1.now) }
+        ensures ok { IfOk result (λ x. IsProduct parts.now text.now (state self.old) x.0 (state self.new)
+            x.1.now) }
         ensures stop { IfErr result (StopsAt (IsNoByte 40 text.now)) }
     {
         let rest = read_byte(b'(', text)?;
@@ -193,7 +211,8 @@ impl Reader {
         range: Range,
         text: &'a [u8],
     ) -> Result<(Option<ExprId>, &'a [u8]), Stop>
-        ensures ok { IfOk result (λ x. IsList kind part range text.now (state self.old) x.0 (state self.new) x.1.now) }
+        ensures ok { IfOk result (λ x. IsList kind part range text.now (state self.old) x.0
+            (state self.new) x.1.now) }
         ensures stop { IfErr result (StopsAt (IsNoByte (opener kind) text.now)) }
     {
         let rest = read_byte(opener(kind), text)?;
@@ -223,8 +242,12 @@ impl Reader {
         requires objects { HasObjects system.now }
         requires can_come { AllCanCome system.now (length text.now) (expected ∷ self.old.stack) }
         requires small { length text.now < 2 ^ 32 }
-        ensures ok { IfOk result (λ x. Moves system.now (Comes system.now None (expected ∷ self.old.stack) self.old.taken) text.now x.0 self.new.stack self.new.taken x.1.now) }
-        ensures stop { IfErr result (StopsAt (Faults (Comes system.now None (expected ∷ self.old.stack) self.old.taken) text.now)) }
+        ensures ok { IfOk result
+            (λ x. Moves system.now (Comes system.now None (expected ∷ self.old.stack)
+            self.old.taken) text.now x.0 self.new.stack self.new.taken x.1.now) }
+        ensures stop { IfErr result
+            (StopsAt (Faults (Comes system.now None (expected ∷ self.old.stack) self.old.taken)
+            text.now)) }
     {
         system.known();
         match expected {
@@ -241,7 +264,8 @@ impl Reader {
         text: &'a [u8],
     ) -> Result<(Option<ExprId>, &'a [u8]), Stop>
         requires few { counted.parts + 1 < 2 ^ 32 }
-        ensures ok { IfOk result (λ x. IsFurther counted text.now (state self.old) x.0 (state self.new) x.1.now) }
+        ensures ok { IfOk result (λ x. IsFurther counted text.now (state self.old) x.0 (state self.new)
+            x.1.now) }
         ensures stop { IfErr result (StopsAt (IsNoFurther counted text.now)) }
     {
         let Counted {

@@ -1,7 +1,10 @@
 //! Words and numbers at the front of a text.
-ghost use Rattle.std.specs.Prelude.{◌≡◌, ◌++◌, ◌∷◌, [], ◌+◌, ◌*◌, ◌-◌, ◌≤◌, ◌<◌, ◌↔◌, length, drop, decimal, IsTrue, IfOk, IfErr, IfSome, IfNone};
+ghost use Rattle.std.specs.Prelude.{◌≡◌, ◌++◌, ◌∷◌, [], ◌+◌, ◌*◌, ◌-◌, ◌≤◌, ◌<◌, ◌↔◌, length, drop};
+ghost use Rattle.std.specs.Prelude.{decimal, IsTrue, IfOk, IfErr, IfSome, IfNone};
 ghost use Rattle.bz_model.specs.ObjectText.{leaf_text};
-ghost use Rattle.object_text.specs.Scanning.{IsOther, IsDigit, DiffersFrom, BeginsWithByte, EndsNumber, FurtherDigit, BeginsWithNumber, HasNoNumber, IsLabel, HasNoLabel, StopsAt};
+ghost use Rattle.object_text.specs.Scanning.{IsOther, IsDigit, DiffersFrom, BeginsWithByte};
+ghost use Rattle.object_text.specs.Scanning.{EndsNumber, FurtherDigit, BeginsWithNumber};
+ghost use Rattle.object_text.specs.Scanning.{HasNoNumber, IsLabel, HasNoLabel, StopsAt};
 
 use std::alloc::AllocError;
 
@@ -107,7 +110,8 @@ fn longer(n: u64, most: u64, text: &[u8]) -> Option<u64>
     }
 }
 
-/// The number from `low` to `most` at the front of the text, without leading zeros, and what follows
+/// The number from `low` to `most` at the front of the text, without leading zeros, and what
+/// follows
 /// it. It takes as many digits as such a number has there.
 pub(crate) fn read_number(low: u64, most: u64, text: &[u8]) -> Result<(u64, &[u8]), Stop>
     requires small { most ≤ 1000000 }

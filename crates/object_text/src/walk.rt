@@ -1,14 +1,16 @@
 //! The walk that prints an object: down its nodes, token by token, with a list of what is to be
 //! done after each.
-ghost use Rattle.std.specs.Prelude.{◌≡◌, ◌++◌, ◌∷◌, [], ℕ, List, IfOk, OnOk, None, option_to_list, replicate};
+ghost use Rattle.std.specs.Prelude.{◌≡◌, ◌++◌, ◌∷◌, [], ℕ, List, IfOk, OnOk, None, option_to_list};
+ghost use Rattle.std.specs.Prelude.{replicate};
 ghost use Rattle.bz_model.specs.Spec.{Mode};
 ghost use Rattle.bz_model.specs.ObjectText.{leaf_text};
 ghost use Rattle.object_store.specs.Walk.{HasToken};
 ghost use Rattle.object_text.specs.Output.{grown, opened, labelled_leaf};
-ghost use Rattle.object_text.specs.Printing.{Prints, ArePrinted, AreWholly, IsNextNode, IsBegun, ExpandsIf, IsFront, IsNext, TakesToken};
+ghost use Rattle.object_text.specs.Printing.{Prints, ArePrinted, AreWholly, IsNextNode, IsBegun};
+ghost use Rattle.object_text.specs.Printing.{ExpandsIf, IsFront, IsNext, TakesToken};
 
 use crate::output::{Form, Output};
-use crate::todo::{Todo, Todos};
+use crate::print_stack::{Todo, Todos};
 use class_system::expr::Expr;
 use class_system::ids::ExprId;
 use class_system::system::System;

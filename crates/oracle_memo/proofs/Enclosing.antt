@@ -71,6 +71,11 @@ module _ (s : Spec) (x : Fraction) (F : ℕ) (sound : IsSound s) where
           above = above-min x F a.value b.value (Belongs s e) a.above b.above;
         }
 
+    -- and it is the one in the table
+    pub upper-there : (start : List ℕ) (level e : ℕ) → 1 ≤ level → e < length s.nodes → (v : ℕ) × (bound_up at base level e ≡ Some v) × ((level_bounds_from at start base level e).hi ≡ v)
+    upper-there start zero e some within = absurd (omega arith)
+    upper-there start (suc level) e some within = let a = upper-bounds level e within in (a.value, a.is_there, ap (λ o. unwrap_or o greatest) a.is_there)
+
     pub enclosed-from : (start : List ℕ) → length start ≡ length s.bodies → AreBelow s x F start → (level e : ℕ) → 1 ≤ level → e < length s.nodes → Encloses s x F e (level_bounds_from at start base level e)
     enclosed-from start lengths below zero e some within = absurd (omega arith)
     enclosed-from start lengths below (suc level) e some within =

@@ -1,9 +1,11 @@
 -- The levels: their class vectors, the table of node bounds that these give, and what raising
 -- costs.
-use Rattle.std.specs.Prelude.{ℕ, zero, suc, ◌+◌, ◌*◌, ◌^◌, ◌≤◌, max, min, List, [], ◌∷◌, map, slice_index, Option, Some, None, unwrap_or}
+use Rattle.std.specs.Prelude.{ℕ, zero, suc, ◌+◌, ◌*◌, ◌^◌, ◌≤◌, max, min, List, [], ◌∷◌, map}
+use Rattle.std.specs.Prelude.{slice_index, Option, Some, None, unwrap_or}
 use Rattle.bz_model.specs.declared.cell.Bounds.{Bounds}
 use Rattle.fixed_enclosure.specs.Rounded.{greatest}
-use Rattle.rounded_map.specs.RoundedMap.{Setting, value_at, repeated, values_down, values_up, sweep_up}
+use Rattle.rounded_map.specs.RoundedMap.{Setting, value_at, repeated, values_down, values_up}
+use Rattle.rounded_map.specs.RoundedMap.{sweep_up}
 use Rattle.kleene_lower.specs.Lower.{zeros, swept_from}
 
 -- Level j has the class vectors after 4^j sweeps; before level 1 none is done.
@@ -41,12 +43,17 @@ bound_down_from t start (suc level) e =
 -- it. From a post-fixed base on there is one.
 unfoldable pub bound_up : Setting → (base : List ℕ) → (level node : ℕ) → Option ℕ
 bound_up t base zero e = None
-bound_up t base (suc level) e = lesser_value (bound_up t base level e) (value_at (values_up t (level_up t base (suc level))) e)
+bound_up t base (suc level) e =
+    lesser_value (bound_up t base level e) (value_at (values_up t (level_up t base (suc level))) e)
 
 -- The table from a start: a node's bounds at a level.
 abbrev pub level_bounds_from : Setting → (start base : List ℕ) → (level node : ℕ) → Bounds
 level_bounds_from t start base level e =
-    record { lo = bound_down_from t start level e; hi = unwrap_or (bound_up t base level e) greatest }
+    record {
+      lo = bound_down_from t start level e;
+      hi =
+          unwrap_or (bound_up t base level e) greatest;
+    }
 
 -- The table: that from zero.
 abbrev pub level_bounds : Setting → (base : List ℕ) → (level node : ℕ) → Bounds

@@ -1,9 +1,10 @@
 -- What a memo is seen as, and what its memory holds.
-use Rattle.std.specs.Prelude.{◌≡◌, ℕ, ◌+◌, ◌-◌, ◌*◌, ◌<◌, ◌≤◌, max, min, List, length, nat_eq, slice_index_or, if◌then◌else◌}
+use Rattle.std.specs.Prelude.{◌≡◌, ℕ, ◌+◌, ◌-◌, ◌*◌, ◌<◌, ◌≤◌, max, min, List, length, nat_eq}
+use Rattle.std.specs.Prelude.{slice_index_or, if◌then◌else◌}
 use Rattle.bz_model.specs.Spec.{Spec}
 use Rattle.bz_model.specs.declared.cell.Bounds.{Bounds}
 use Rattle.fixed_enclosure.specs.Rounded.{greatest}
-use Rattle.bz_model.specs.Fraction.{ratio}
+use Rattle.bz_model.specs.Fraction.{IsFractionBits, ratio}
 use Rattle.rounded_map.specs.RoundedMap.{Setting, IsPostFixed}
 use Rattle.rounded_map.specs.Bounding.{AreBelow}
 use Rattle.kleene_lower.specs.Lower.{Sweeps, AreSweepsFrom}
@@ -38,14 +39,16 @@ drawn_in b lo hi = record { lo = max b.lo lo; hi = min b.hi hi }
 
 -- The first rows of a table, of which there are so many, hold the bounds of the nodes at the levels
 -- from 1 on.
-pub record HasRows (t : Setting) (start base : List ℕ) (levels : ℕ) (table : List Bounds) : Type 0 where
-  pub at : (row e : ℕ) → row < levels → e < length t.spec.nodes
-      → bounds_at table (row * length t.spec.nodes + e) ≡ level_bounds_from t start base (row + 1) e
+pub record HasRows (t : Setting) (start base : List ℕ) (levels : ℕ) (table : List Bounds) : Type 0
+  where
+    pub at : (row e : ℕ) → row < levels → e < length t.spec.nodes
+        → bounds_at table (row * length t.spec.nodes + e) ≡ level_bounds_from t start base (row + 1) e
 
 -- The base is post-fixed and the start reached, the class vectors are those of the highest raised
 -- level, and the table has the rows of the raised levels and room for six.
-pub record IsMemory (t : Setting) (start base : List ℕ) (raised : ℕ) (lower : Sweeps) (upper : List ℕ) (table : List Bounds) (low_room high_room : ℕ) : Type 0 where
-  pub bits : (24 ≤ t.bits) × (t.bits ≤ 56)
+pub record IsMemory (t : Setting) (start base : List ℕ) (raised : ℕ) (lower : Sweeps)
+    (upper : List ℕ) (table : List Bounds) (low_room high_room : ℕ) : Type 0 where
+  pub bits : IsFractionBits t.bits
   pub post_fixed : IsPostFixed t base
   pub few_levels : raised ≤ 6
   pub few_nodes : length t.spec.nodes ≤ 512

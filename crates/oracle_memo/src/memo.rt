@@ -1,13 +1,15 @@
 //! An oracle that keeps the bounds of the levels raised so far.
-ghost use Rattle.std.specs.Prelude.{◌≡◌, ℕ, ◌+◌, ◌<◌, ◌≤◌, ◌⊎◌, ◌↔◌, max, map, length, Some, IfOk, IfSome, IsNone};
-ghost use Rattle.bz_model.specs.Fraction.{ratio};
+ghost use Rattle.std.specs.Prelude.{◌≡◌, ℕ, ◌+◌, ◌<◌, ◌≤◌, ◌⊎◌, ◌↔◌, max, map, length, Some, IfOk};
+ghost use Rattle.std.specs.Prelude.{IfSome, IsNone};
+ghost use Rattle.bz_model.specs.Fraction.{ratio, IsFractionBits};
 ghost use Rattle.bz_model.specs.Spec.{Spec};
 ghost use Rattle.bz_model.specs.Oracle.{IsSound, AreCosts, cost_between};
 ghost use Rattle.bz_model.specs.declared.cell.Bounds.{Bounds};
 ghost use Rattle.rounded_map.specs.RoundedMap.{setting, values_up, IsPostFixed};
 ghost use Rattle.rounded_map.specs.Bounding.{AreBelow};
 ghost use Rattle.kleene_lower.specs.Lower.{zeros};
-ghost use Rattle.oracle_memo.specs.Levels.{level_bounds_from, level_down_from, level_up, cost_at, costs};
+ghost use Rattle.oracle_memo.specs.Levels.{level_bounds_from, level_down_from, level_up, cost_at};
+ghost use Rattle.oracle_memo.specs.Levels.{costs};
 ghost use Rattle.oracle_memo.specs.Memos.{Memory};
 
 use crate::rows::{WHOLE, write_row};
@@ -75,7 +77,7 @@ impl<'a, const F: u32> Memo<'a, F> {
         x: Fraction,
         base: Base<F>,
     ) -> Result<Memo<'a, F>, AllocError>
-        requires fraction_bits { (24 ≤ F) × (F ≤ 56) }
+        requires fraction_bits { IsFractionBits F }
         requires belongs { IsPostFixed (setting founded.now x.num x.den F) base }
         ensures made { IfOk result (λ memo. memo ≡ record {
           spec = founded.now;
@@ -104,7 +106,7 @@ impl<'a, const F: u32> Memo<'a, F> {
         base: Base<F>,
         start: Vec<u64>,
     ) -> Result<Memo<'a, F>, AllocError>
-        requires fraction_bits { (24 ≤ F) × (F ≤ 56) }
+        requires fraction_bits { IsFractionBits F }
         requires belongs { IsPostFixed (setting founded.now x.num x.den F) base }
         requires one_per_class { length start.items ≡ length founded.now.bodies }
         requires reached { AreBelow founded.now (ratio x.num x.den) F start.items }
@@ -179,7 +181,8 @@ impl<'a, const F: u32> Memo<'a, F> {
         requires level { level ≤ 6 }
         ensures raised { self.new ≡ record self.old { raised = max self.old.raised level } }
         ensures six { self.new.raised ≤ 6 }
-        ensures ticks { steps.new + cost_at self.old.raised ≡ steps.old + cost_at (max self.old.raised level) }
+        ensures ticks { steps.new + cost_at self.old.raised ≡ steps.old
+            + cost_at (max self.old.raised level) }
     {
         for _level in self.raised..level {
             self.raise_next(steps);
@@ -190,7 +193,8 @@ impl<'a, const F: u32> Memo<'a, F> {
     fn raise_next<L: Ledger>(&mut self, steps: &mut Steps<L>)
         requires below { self.old.raised < 6 }
         ensures next { self.new ≡ record self.old { raised = self.old.raised + 1 } }
-        ensures ticks { steps.new + cost_at self.old.raised ≡ steps.old + cost_at (self.old.raised + 1) }
+        ensures ticks { steps.new + cost_at self.old.raised ≡ steps.old
+            + cost_at (self.old.raised + 1) }
     {
         let founded = self.founded;
         let system = founded.system();
@@ -257,7 +261,7 @@ pub fn eval_there<const F: u32, L: Ledger>(
     nodes: &mut [u64],
     steps: &mut Steps<L>,
 )
-    requires fraction_bits { (24 ≤ F) × (F ≤ 56) }
+    requires fraction_bits { IsFractionBits F }
     requires post_fixed { IsPostFixed (setting system.now x.num x.den F) classes.now }
     requires one_per_class { length classes.now ≡ length system.now.bodies }
     requires one_per_node { length nodes.old ≡ length system.now.nodes }

@@ -11,15 +11,20 @@ pub(crate) const WHOLE: Bounds = Bounds {
     hi: u64::MAX,
 };
 
-/// Writes the row that begins at `start`: each node's bounds, from its lower and its upper value and
+/// Writes the row that begins at `start`: each node's bounds, from its lower and its upper value
+/// and
 /// its bounds in the row before, if there is one. Takes no memory.
 pub(crate) fn write_row(table: &mut [Bounds], start: usize, low: &[u64], high: &[u64])
     requires lengths { length high.now ≡ length low.now }
     requires before { (start ≡ 0) ⊎ (length low.now ≤ start) }
     requires room { start + length low.now ≤ length table.old }
     requires few { length table.old ≤ 4096 }
-    ensures written { (e : ℕ) → e < length low.now → memos.bounds_at table.new (start + e) ≡ memos.drawn_in (memos.bounds_before table.old (length low.now) start e) (slice_index low.now e) (slice_index high.now e) }
-    ensures others { (i : ℕ) → i < start → memos.bounds_at table.new i ≡ memos.bounds_at table.old i }
+    ensures written { (e : ℕ) → e < length low.now
+        → memos.bounds_at table.new (start + e)
+        ≡ memos.drawn_in (memos.bounds_before table.old (length low.now) start e)
+        (slice_index low.now e) (slice_index high.now e) }
+    ensures others { (i : ℕ) → i < start
+        → memos.bounds_at table.new i ≡ memos.bounds_at table.old i }
     ensures fits { (e : ℕ) → slice_index high.now e ≤ greatest }
 {
     for e in 0..low.len() {

@@ -1,5 +1,6 @@
 //! How many sweeps the levels have, and upper sweeps in a row.
 ghost use Rattle.std.specs.Prelude.{◌≡◌, ℕ, ◌+◌, ◌≤◌, length};
+ghost use Rattle.bz_model.specs.Fraction.{IsFractionBits};
 ghost use Rattle.rounded_map.specs.RoundedMap.{setting, repeated, sweep_up};
 ghost use Rattle.oracle_memo.specs.Levels as levels;
 
@@ -34,10 +35,11 @@ pub(crate) fn sweep_on<const F: u32, L: Ledger>(
     nodes: &mut [u64],
     steps: &mut Steps<L>,
 )
-    requires fraction_bits { (24 ≤ F) × (F ≤ 56) }
+    requires fraction_bits { IsFractionBits F }
     requires one_per_class { length classes.old ≡ length system.now.bodies }
     requires one_per_node { length nodes.old ≡ length system.now.nodes }
-    ensures swept { classes.new ≡ repeated (sweep_up (setting system.now x.num x.den F)) sweeps classes.old }
+    ensures swept { classes.new ≡ repeated (sweep_up (setting system.now x.num x.den F)) sweeps
+        classes.old }
     ensures ticks { steps.new ≡ steps.old + sweeps }
 {
     for _sweep in 0..sweeps {

@@ -1,14 +1,12 @@
 -- What the command prints, and when its answer is certain.
-use Rattle.std.proofs.Common.{◌≡◌, ◌≢◌, ℕ, zero, suc, ◌≤◌, List, [], ◌∷◌, ◌++◌, length, take, refl, sym, ap, subst, ◌∙◌, arith}
-use Rattle.std.specs.Prelude.{true, codes, Some}
+use Rattle.std.proofs.Common.{◌≡◌, ◌≢◌, ℕ, ◌≤◌, List, length, ap, ◌∙◌}
+use Rattle.std.specs.Prelude.{true, Some}
 use Rattle.bz_model.specs.Spec.{Spec, body_of}
 use Rattle.bz_model.specs.WellFounded.{IsWellFounded}
 use Rattle.class_system.specs.CanonicalText.{canonical_text}
 use Rattle.class_system.specs.Distinct.{AreDistinct}
 use Rattle.class_system.specs.Limits.{IsWithinLimits}
 use Rattle.class_system.specs.Sound.{IsSound}
-use Rattle.class_system.specs.declared.limits.BuildFault.{BuildFault}
-use Rattle.class_system.specs.declared.limits.BuildFault.TheVariants as limit
 use Rattle.class_system.proofs.Soundness.{has_body}
 use Rattle.spec_reader.specs.Reading.{Grammar}
 use Rattle.well_founded.specs.EmptyObjects.{answer_at}
@@ -18,31 +16,13 @@ use Rattle.pointing.specs.Correspondence.{IsPointable, Corresponds}
 use Rattle.pointing.specs.PointedForm.{pointed_class}
 use Rattle.pointing.specs.PointedSpec.{pointed_spec}
 use Rattle.pointing.specs.declared.fault.PointFault.{PointFault}
-use Rattle.call_stages.specs.Lines.{feed}
-use Rattle.call_stages.specs.Outcomes.{Outcome, Says}
-use Rattle.call_stages.specs.Refusals.{limit_line}
-use Rattle.call_stages.specs.Stages.{Files, FileRead, Judged, Specified, IsSpecified, AreRead}
-use Rattle.call_stages.specs.Stages as stages
+use Rattle.call_stages.specs.Stages.{Files, HasSpecification}
 use Rattle.call_stages.specs.declared.status.Status.{Status}
-use Rattle.call_stages.proofs.OneReading.{read-only, judged-only}
-use Rattle.point_command.specs.Completeness.{HasSpecification, PrintsPointed}
-use Rattle.point_command.specs.PointCommand.{form_text, limit_words, point_line, CanBePointed, PointedPrinted, CarriesPoint}
+use Rattle.call_stages.proofs.Completing.{says-other, specified-only, done-specified}
+use Rattle.point_command.specs.Completeness.{PrintsPointed}
+use Rattle.point_command.specs.PointCommand.{form_text, point_line, CanBePointed, PointedPrinted, CarriesPoint}
 use Rattle.point_command.specs.PointCommand as point
 use Rattle.point_command.proofs.OneFault.{one-fault, no-fault}
-
--- all of a short list
-take-all : (n : ℕ) (xs : List ℕ) → length xs ≤ n → take n xs ≡ xs
-take-all zero [] h = refl
-take-all (suc n) [] h = refl
-take-all zero (x ∷ xs) h = absurd (omega arith)
-take-all (suc n) (x ∷ xs) h = ap (λ ys. x ∷ ys) (take-all n xs (omega arith))
-
--- a specification that is in the file goes on
-specified-only : (f : Files) (file : List ℕ) (s : Spec) (has : HasSpecification f file s) (next : Spec → Outcome) (status : Status) (text : List ℕ) (ticks : ℕ) → status ≢ Status.OutOfMemory → Specified f file next status text ticks → next s status text ticks
-specified-only f file s has next status text ticks memory p =
-    let read = read-only f file 65537 (Judged next) has.calm status text ticks memory p in
-    let all : take 65537 has.calm.bytes ≡ has.calm.bytes = take-all 65537 has.calm.bytes (let few = has.accepted.few in omega (arith, few)) in
-    judged-only next has.calm.bytes s has.accepted has.founded status text ticks memory (subst (λ b. Judged next b status text ticks) all read)
 
 only-printed : (s : Spec) → CanBePointed s → (status : Status) (text : List ℕ) (ticks : ℕ) → status ≢ Status.OutOfMemory → PointedPrinted s status text ticks → (status ≡ Status.Done) × (text ≡ form_text (pointed_spec s))
 only-printed s can status text ticks memory (point.refused fault m tells says) = absurd (no-fault s fault m tells can)
@@ -50,7 +30,7 @@ only-printed s can status text ticks memory (point.no_memory says) = absurd (mem
 only-printed s can status text ticks memory (point.printed can_too says) = (says.status_is, says.text_is)
 
 pub is-printed : (f : Files) (file : List ℕ) (s : Spec) (status : Status) (text : List ℕ) (ticks : ℕ) → HasSpecification f file s → CanBePointed s → status ≢ Status.OutOfMemory → CarriesPoint f file status text ticks → (status ≡ Status.Done) × (text ≡ form_text (pointed_spec s))
-is-printed f file s status text ticks has can memory h = only-printed s can status text ticks memory (specified-only f file s has PointedPrinted status text ticks memory h)
+is-printed f file s status text ticks has can memory h = only-printed s can status text ticks memory (specified-only f file s PointedPrinted status text ticks has memory h)
 
 only-refused : (s : Spec) (fault : PointFault) → fault ≢ PointFault.OutOfMemory → TellsFault s fault → (status : Status) (text : List ℕ) (ticks : ℕ) → status ≢ Status.OutOfMemory → PointedPrinted s status text ticks → (status ≡ Status.PointRefused) × (text ≡ point_line fault)
 only-refused s fault n tells status text ticks memory (point.refused other m tells_too says) = (says.status_is, says.text_is ∙ ap point_line (one-fault s other fault m n tells_too tells))
@@ -58,26 +38,12 @@ only-refused s fault n tells status text ticks memory (point.no_memory says) = a
 only-refused s fault n tells status text ticks memory (point.printed can says) = absurd (no-fault s fault n tells can)
 
 pub is-refused : (f : Files) (file : List ℕ) (s : Spec) (fault : PointFault) (status : Status) (text : List ℕ) (ticks : ℕ) → HasSpecification f file s → fault ≢ PointFault.OutOfMemory → TellsFault s fault → status ≢ Status.OutOfMemory → CarriesPoint f file status text ticks → (status ≡ Status.PointRefused) × (text ≡ point_line fault)
-is-refused f file s fault status text ticks has n tells memory h = only-refused s fault n tells status text ticks memory (specified-only f file s has PointedPrinted status text ticks memory h)
+is-refused f file s fault status text ticks has n tells memory h = only-refused s fault n tells status text ticks memory (specified-only f file s PointedPrinted status text ticks has memory h)
 
--- a call that is done read a specification
-not-done : {P : Type 0} (said status : Status) (line text : List ℕ) (most ticks : ℕ) → said ≢ Status.Done → status ≡ Status.Done → Says said line most status text ticks → P
-not-done said status line text most ticks other done says = absurd (other (sym says.status_is ∙ done))
-
-done-specified : (f : Files) (file : List ℕ) (next : Spec → Outcome) (status : Status) (text : List ℕ) (ticks : ℕ) → status ≡ Status.Done → Specified f file next status text ticks → (s : Spec) × IsSpecified f.content file s × next s status text ticks
-done-specified f file next status text ticks done (stages.failed rose says) = not-done Status.ReadFault status _ text _ ticks (λ e. absurd (cc)) done says
-done-specified f file next status text ticks done (stages.no_memory says) = not-done Status.OutOfMemory status _ text _ ticks (λ e. absurd (cc)) done says
-done-specified f file next status text ticks done (stages.read bytes are p) = go p
-  where
-    go : Judged next bytes status text ticks → (s : Spec) × IsSpecified f.content file s × next s status text ticks
-    go (stages.refused fault m refuses says) = not-done Status.SpecRefused status _ text _ ticks (λ e. absurd (cc)) done says
-    go (stages.unfounded s cause a m tells says) = not-done Status.SpecRefused status _ text _ ticks (λ e. absurd (cc)) done says
-    go (stages.no_memory says) = not-done Status.OutOfMemory status _ text _ ticks (λ e. absurd (cc)) done says
-    go (stages.founded s a g q) = (s, record { bytes = bytes; read = are; accepted = a; founded = g }, q)
-
+-- a call that is done pointed a specification
 done-pointed : (s : Spec) (status : Status) (text : List ℕ) (ticks : ℕ) → status ≡ Status.Done → PointedPrinted s status text ticks → CanBePointed s × (text ≡ form_text (pointed_spec s))
-done-pointed s status text ticks done (point.refused fault m tells says) = not-done Status.PointRefused status _ text _ ticks (λ e. absurd (cc)) done says
-done-pointed s status text ticks done (point.no_memory says) = not-done Status.OutOfMemory status _ text _ ticks (λ e. absurd (cc)) done says
+done-pointed s status text ticks done (point.refused fault m tells says) = says-other Status.PointRefused Status.Done status _ text _ ticks (λ e. absurd (cc)) done says
+done-pointed s status text ticks done (point.no_memory says) = says-other Status.OutOfMemory Status.Done status _ text _ ticks (λ e. absurd (cc)) done says
 done-pointed s status text ticks done (point.printed can says) = (can, says.text_is)
 
 -- what is printed is the pointed specification
@@ -103,11 +69,3 @@ module _ (atoms : (s : Spec) → IsPointable s → (c body : ℕ) → body_of s 
         is_pointed_body = b.1;
         corresponds = marks s able 0 p.0.body b.0 p.0.is_body (atoms s able 0 p.0.body p.0.is_body p.0.an_atom) b.1;
       }
-
--- the words of a limit
-pub limit-words : (fault : BuildFault) → fault ≢ BuildFault.OutOfMemory → limit_line fault ≡ codes "refused spec " ++ (limit_words fault ++ feed)
-limit-words (limit.TooManyClasses count) m = refl
-limit-words (limit.TooManyParts count) m = refl
-limit-words (limit.TooDeep depth) m = refl
-limit-words (limit.TooManyNodes count) m = refl
-limit-words limit.OutOfMemory m = absurd (m refl)

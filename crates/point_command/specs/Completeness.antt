@@ -6,14 +6,7 @@ use Rattle.pointing.specs.Atoms.{is_atomic_node}
 use Rattle.pointing.specs.Correspondence.{Corresponds}
 use Rattle.pointing.specs.PointedSpec.{pointed_spec}
 use Rattle.call_stages.specs.Lines.{spec_end_line}
-use Rattle.call_stages.specs.Stages.{Files, IsCalm, IsAccepted, IsSpecified}
-
--- The file's bytes are known and no read of it failed; they stand for this specification, which is
--- within the limits and well founded.
-pub record HasSpecification (f : Files) (file : List ℕ) (s : Spec) : Type 0 where
-  pub calm : IsCalm f file
-  pub accepted : IsAccepted calm.bytes s
-  pub founded : IsWellFounded s
+use Rattle.call_stages.specs.Stages.{Files, IsAccepted, IsSpecified}
 
 -- The text is that of the pointed specification of the one in the file, and a last line with its
 -- numbers of classes and nodes. As a file, the text before that line stands for the pointed

@@ -3,7 +3,6 @@ use Rattle.std.specs.Prelude.{◌≡◌, ◌≢◌, ℕ, List, [], ◌++◌, len
 use Rattle.bz_model.specs.Spec.{Spec, body_of}
 use Rattle.class_system.specs.CanonicalText.{canonical_text}
 use Rattle.class_system.specs.Limits.{IsWithinLimits}
-use Rattle.class_system.specs.declared.limits.BuildFault.{BuildFault}
 use Rattle.pointing.specs.Atoms.{HasAtom}
 use Rattle.pointing.specs.Calls.{TellsFault}
 use Rattle.pointing.specs.Correspondence.{IsPointable}
@@ -11,6 +10,7 @@ use Rattle.pointing.specs.PointedSpec.{pointed_spec}
 use Rattle.pointing.specs.declared.fault.PointFault.{PointFault}
 use Rattle.call_stages.specs.Lines.{feed, spec_end_line}
 use Rattle.call_stages.specs.Outcomes.{Outcome, Says}
+use Rattle.call_stages.specs.Refusals.{limit_line}
 use Rattle.call_stages.specs.Stages.{Files, Specified}
 use Rattle.call_stages.specs.declared.status.Status.{Status}
 
@@ -18,20 +18,12 @@ use Rattle.call_stages.specs.declared.status.Status.{Status}
 abbrev pub form_text : Spec → List ℕ
 form_text s = canonical_text s ++ spec_end_line (length s.names) (length s.nodes)
 
--- The limit that is broken, with the number that breaks it; none is named where memory ran out.
-abbrev pub limit_words : BuildFault → List ℕ
-limit_words (BuildFault.TooManyClasses count) = codes "too many classes " ++ decimal count
-limit_words (BuildFault.TooManyParts count) = codes "too many parts " ++ decimal count
-limit_words (BuildFault.TooDeep depth) = codes "too deep " ++ decimal depth
-limit_words (BuildFault.TooManyNodes count) = codes "too many nodes " ++ decimal count
-limit_words BuildFault.OutOfMemory = []
-
 -- Why a specification has no pointed one; there is no line where memory ran out.
 abbrev pub point_line : PointFault → List ℕ
 point_line PointFault.Labelled = codes "refused point labelled" ++ feed
 point_line (PointFault.Ranged e) = codes "refused point range node " ++ (decimal e.0 ++ feed)
 point_line PointFault.NoAtom = codes "refused point no atom" ++ feed
-point_line (PointFault.Limit fault) = codes "refused point " ++ (limit_words fault ++ feed)
+point_line (PointFault.Limit fault) = limit_line (codes "point") fault
 point_line PointFault.OutOfMemory = []
 
 -- A specification can be pointed where it is unlabelled with plain ranges, some object of its first

@@ -1,18 +1,16 @@
 //! Laws of the command's outcomes. Each function's contract is a law, and its body calls only laws.
 ghost use Rattle.std.specs.Prelude.{◌≡◌, ◌≢◌, ℕ, List, [], ◌∷◌, ◌++◌, codes};
 ghost use Rattle.bz_model.specs.Spec.{Spec};
-ghost use Rattle.class_system.specs.declared.limits.BuildFault.{BuildFault};
 ghost use Rattle.pointing.specs.Calls.{TellsFault};
 ghost use Rattle.pointing.specs.PointedSpec.{pointed_spec};
 ghost use Rattle.pointing.specs.Rows.{binary, row};
 ghost use Rattle.pointing.specs.declared.fault.PointFault.{PointFault};
-ghost use Rattle.call_stages.specs.Lines.{feed};
 ghost use Rattle.call_stages.specs.Outcomes.{IsOne};
-ghost use Rattle.call_stages.specs.Refusals.{limit_line};
-ghost use Rattle.call_stages.specs.Stages.{Files, AreCalm};
+ghost use Rattle.call_stages.specs.Stages.{Files, AreCalm, HasSpecification};
 ghost use Rattle.call_stages.specs.declared.status.Status.{Status};
-ghost use Rattle.point_command.specs.Completeness.{HasSpecification, PrintsPointed};
-ghost use Rattle.point_command.specs.PointCommand.{form_text, limit_words, point_line, CanBePointed, CarriesPoint};
+ghost use Rattle.point_command.specs.Completeness.{PrintsPointed};
+ghost use Rattle.point_command.specs.PointCommand.{form_text, point_line, CanBePointed};
+ghost use Rattle.point_command.specs.PointCommand.{CarriesPoint};
 
 use pointing::laws::{
     a_pointed_specification_is_sound_and_founded, pointing_marks_one_atom,
@@ -30,7 +28,8 @@ pub fn the_command_has_one_outcome()
 /// What can be pointed has no other answer than the text of the pointed specification, and what
 /// can't no other than the line of its fault.
 pub fn what_can_be_pointed_is_printed()
-    ensures printed { (f : Files) (file : List ℕ) (s : Spec) (status : Status) (text : List ℕ) (ticks : ℕ)
+    ensures printed { (f : Files) (file : List ℕ) (s : Spec) (status : Status) (text : List ℕ)
+        (ticks : ℕ)
         → HasSpecification f file s → CanBePointed s → status ≢ Status.OutOfMemory
         → CarriesPoint f file status text ticks
         → (status ≡ Status.Done) × (text ≡ form_text (pointed_spec s)) }
@@ -54,13 +53,6 @@ pub fn what_is_printed_is_the_pointed_specification()
     a_canonical_text_stands_for_its_specification();
     a_canonical_text_is_short();
 }
-
-/// A limit that the pointed specification breaks has the words and the number of one that a
-/// specification in a file breaks.
-pub fn a_limit_has_the_words_of_a_specification()
-    ensures words { (fault : BuildFault) → fault ≢ BuildFault.OutOfMemory
-        → limit_line fault ≡ codes "refused spec " ++ (limit_words fault ++ feed) }
-{}
 
 /// What is printed of binary trees and of sequences of atoms.
 pub fn worked_specifications_are_printed()

@@ -6,7 +6,8 @@ ghost use Rattle.call_stages.specs.Reports.{refusal_status, refusal_text};
 ghost use Rattle.call_stages.specs.Stages.{files, AreCalm};
 ghost use Rattle.call_stages.specs.declared.status.Status.{Status};
 ghost use Rattle.pointing.specs.PointedSpec.{pointed_spec};
-ghost use Rattle.point_command.specs.PointCommand.{form_text, CanBePointed, PointedPrinted, CarriesPoint};
+ghost use Rattle.point_command.specs.PointCommand.{form_text, CanBePointed, PointedPrinted};
+ghost use Rattle.point_command.specs.PointCommand.{CarriesPoint};
 
 use crate::refusals::point_refusal;
 use bz_outside::shelf::Shelf;

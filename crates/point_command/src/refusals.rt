@@ -1,14 +1,13 @@
 //! What is reported where a specification can't be pointed.
-ghost use Rattle.std.specs.Prelude.{◌≡◌, ◌≢◌, ◌++◌, codes, IfOk, OnOk, string_bytes};
-ghost use Rattle.call_stages.specs.Lines.{feed};
+ghost use Rattle.std.specs.Prelude.{◌≡◌, ◌≢◌, IfOk, OnOk, string_bytes};
 ghost use Rattle.call_stages.specs.Outcomes.{Says};
 ghost use Rattle.call_stages.specs.declared.status.Status.{Status};
 ghost use Rattle.pointing.specs.declared.fault.PointFault.{PointFault};
-ghost use Rattle.point_command.specs.PointCommand.{limit_words, point_line};
+ghost use Rattle.point_command.specs.PointCommand.{point_line};
 
-use call_stages::report::Report;
+use call_stages::refusals::limit_refusal;
+use call_stages::report::{Report, reported};
 use call_stages::status::Status;
-use class_system::limits::BuildFault;
 use pointing::fault::PointFault;
 use std::alloc::{AllocError, Global};
 
@@ -18,11 +17,8 @@ pub(crate) fn point_refusal(alloc: Global, fault: PointFault) -> Result<Report, 
         Says Status.PointRefused (point_line fault) 0 r.status r.text.items 0) }
     ensures memory { OnOk result (fault ≢ PointFault.OutOfMemory) }
 {
-    let text = line_for_fault(alloc, fault)?.into_bytes();
-    Ok(Report {
-        status: Status::PointRefused,
-        text,
-    })
+    let line = line_for_fault(alloc, fault)?;
+    Ok(reported(Status::PointRefused, line))
 }
 
 /// Why a specification can't be pointed; `Err` where memory ran out.
@@ -37,27 +33,7 @@ fn line_for_fault(alloc: Global, fault: PointFault) -> Result<String, AllocError
             format!(in alloc; "refused point range node {number}\n")
         }
         PointFault::NoAtom => format!(in alloc; "refused point no atom\n"),
-        PointFault::Limit(fault) => line_for_limit(alloc, fault),
+        PointFault::Limit(fault) => limit_refusal(alloc, "point", fault),
         PointFault::OutOfMemory => Err(AllocError),
-    }
-}
-
-/// Which limit the pointed specification breaks; `Err` also where memory ran out.
-fn line_for_limit(alloc: Global, fault: BuildFault) -> Result<String, AllocError>
-    ensures { IfOk result (λ text. string_bytes text
-        ≡ codes "refused point " ++ (limit_words fault ++ feed)) }
-{
-    match fault {
-        BuildFault::TooManyClasses { count } => {
-            format!(in alloc; "refused point too many classes {count}\n")
-        }
-        BuildFault::TooManyParts { count } => {
-            format!(in alloc; "refused point too many parts {count}\n")
-        }
-        BuildFault::TooDeep { depth } => format!(in alloc; "refused point too deep {depth}\n"),
-        BuildFault::TooManyNodes { count } => {
-            format!(in alloc; "refused point too many nodes {count}\n")
-        }
-        BuildFault::OutOfMemory => Err(AllocError),
     }
 }

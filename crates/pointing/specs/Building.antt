@@ -1,5 +1,6 @@
 -- How forms are laid out: task by task, the forms that are laid out so far standing in a list.
-use Rattle.std.specs.Prelude.{◌≡◌, ℕ, zero, suc, ◌-◌, ◌<◌, List, [], ◌∷◌, ◌++◌, Bool, map, take, drop, length, replicate, option_to_list, if◌then◌else◌}
+use Rattle.std.specs.Prelude.{◌≡◌, ℕ, zero, suc, ◌-◌, ◌<◌, List, [], ◌∷◌, ◌++◌, Bool, map, take}
+use Rattle.std.specs.Prelude.{drop, length, replicate, option_to_list, if◌then◌else◌}
 use Rattle.std.specs.List.{AllByRecursion}
 use Rattle.bz_model.specs.Spec.{Spec, Mode}
 use Rattle.class_system.specs.declared.ids.ExprId.{ExprId}
@@ -69,7 +70,8 @@ alternatives n marks before (part ∷ later) =
     (if answer_at marks part.0 then alternative n before part later else [])
     ++ alternatives n marks (before ++ part ∷ []) later
 
--- A task was done, or others put in its place: from any forms, the tasks that are left make the same
+-- A task was done, or others put in its place: from any forms, the tasks that are left make the
+-- same
 -- forms.
 pub record IsTaskDone (s : Spec) (classes : List Bool) (done : Task) (left now : List Task)
     (before after : Layout) : Type 0 where

@@ -1,6 +1,7 @@
 -- The way down to an atom of an object: at each tuple and each list on it, the place of the part
 -- that holds the atom.
-use Rattle.std.specs.Prelude.{◌≡◌, ℕ, zero, suc, ◌-◌, ◌<◌, List, [], ◌∷◌, ◌++◌, Bool, true, false, map, reverse}
+use Rattle.std.specs.Prelude.{◌≡◌, ℕ, zero, suc, ◌-◌, ◌<◌, List, [], ◌∷◌, ◌++◌, Bool, true, false}
+use Rattle.std.specs.Prelude.{map, reverse}
 use Rattle.bz_model.specs.Spec.{Spec}
 use Rattle.bz_model.specs.Object.{Object, Objects, none, more}
 use Rattle.bz_model.specs.Object.Object.{Unit_, Dot, Pick, Tuple, SeqOf, SetOf, CycOf}

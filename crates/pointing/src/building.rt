@@ -1,13 +1,16 @@
 //! The nodes of the pointed specification, laid out task by task.
 //!
-//! The copy or the pointed form of a node becomes those of its parts, from left to right, and a task
+//! The copy or the pointed form of a node becomes those of its parts, from left to right, and a
+//! task
 //! that puts them together. Nothing recurses over an expression.
-ghost use Rattle.std.specs.Prelude.{◌≡◌, ◌+◌, ◌<◌, ◌++◌, ◌∷◌, [], ℕ, List, Some, map, take, drop, slice_get, length, IfOk, OnOk};
+ghost use Rattle.std.specs.Prelude.{◌≡◌, ◌+◌, ◌<◌, ◌++◌, ◌∷◌, [], ℕ, List, Some, map, take, drop};
+ghost use Rattle.std.specs.Prelude.{slice_get, length, IfOk, OnOk};
 ghost use Rattle.bz_model.specs.Spec as model;
 ghost use Rattle.pointing.specs.Forms.{all_forms, body_forms, parts_from};
 ghost use Rattle.pointing.specs.Atoms.{is_atomic};
 ghost use Rattle.pointing.specs.PointedForm.{pointed_parts, copied};
-ghost use Rattle.pointing.specs.Building.{IsLayout, IsTaskDone, IsInside, alternative, alternatives};
+ghost use Rattle.pointing.specs.Building.{IsLayout, IsTaskDone, IsInside, alternative};
+ghost use Rattle.pointing.specs.Building.{alternatives};
 ghost use Rattle.pointing.specs.declared.tasks.Task.TheVariants.{Copy, Point};
 
 use crate::atoms::{count_first, count_marked, is_marked};
@@ -131,7 +134,8 @@ fn copy_parts(
     tasks.push_all(&more)
 }
 
-/// Lays out the pointed form of an atom or a reference to a class with an atom; that of another node
+/// Lays out the pointed form of an atom or a reference to a class with an atom; that of another
+/// node
 /// becomes those of its parts.
 fn point(
     alloc: Global,

@@ -1,5 +1,6 @@
 //! Forms laid out one after the other.
-ghost use Rattle.std.specs.Prelude.{◌≡◌, ◌-◌, ◌∷◌, ◌++◌, [], ℕ, List, map, take, drop, length, option_map, option_to_list, IfNone, IfOk, OnOk};
+ghost use Rattle.std.specs.Prelude.{◌≡◌, ◌-◌, ◌∷◌, ◌++◌, [], ℕ, List, map, take, drop, length};
+ghost use Rattle.std.specs.Prelude.{option_map, option_to_list, IfNone, IfOk, OnOk};
 ghost use Rattle.bz_model.specs.Spec.{plain_range};
 ghost use Rattle.class_system.specs.Drafting.{with_node};
 ghost use Rattle.class_system.specs.Views.{spec_node, number};

@@ -1,9 +1,11 @@
 //! An object with an atom marked, visit by visit.
 //!
 //! Off the way to the atom all tokens stay. On it a pick tells the choice among the parts that have
-//! an atom, a tuple is picked likewise, and a sequence comes apart into what stands before the marked
+//! an atom, a tuple is picked likewise, and a sequence comes apart into what stands before the
+//! marked
 //! part, that part, and what stands after it.
-ghost use Rattle.std.specs.Prelude.{◌≡◌, ℕ, ◌-◌, ◌<◌, ◌++◌, [], ◌∷◌, List, length, option_to_list, IfOk, OnOk, IfNone};
+ghost use Rattle.std.specs.Prelude.{◌≡◌, ℕ, ◌-◌, ◌<◌, ◌++◌, [], ◌∷◌, List, length, option_to_list};
+ghost use Rattle.std.specs.Prelude.{IfOk, OnOk, IfNone};
 ghost use Rattle.bz_model.specs.Spec.{Spec, node_at};
 ghost use Rattle.bz_model.specs.Object.{none};
 ghost use Rattle.object_store.specs.Seen.{nodes_below, parts_at};
@@ -14,7 +16,8 @@ ghost use Rattle.pointing.specs.Atoms.{atomic_nodes, is_atomic_node};
 ghost use Rattle.pointing.specs.Calls.{AreMarked};
 ghost use Rattle.pointing.specs.Marking.{choices, choice_at};
 ghost use Rattle.pointing.specs.Ways.{way};
-ghost use Rattle.pointing.specs.Writing.{token_at, pick_of, WritesOn, IsDue, SameWriting, HasWritten, with_first};
+ghost use Rattle.pointing.specs.Writing.{token_at, pick_of, WritesOn, IsDue, SameWriting};
+ghost use Rattle.pointing.specs.Writing.{HasWritten, with_first};
 ghost use Rattle.pointing.specs.declared.pieces.Piece.TheVariants.{Copied, Marked};
 
 use crate::atoms::count_marked;

@@ -1,5 +1,6 @@
 //! Names of the classes of a pointed specification.
-ghost use Rattle.std.specs.Prelude.{◌≡◌, ◌++◌, ◌<◌, ◌≤◌, ◌^◌, map, length, string_bytes, codes, IfOk, OnOk};
+ghost use Rattle.std.specs.Prelude.{◌≡◌, ◌++◌, ◌<◌, ◌≤◌, ◌^◌, map, length, string_bytes, codes};
+ghost use Rattle.std.specs.Prelude.{IfOk, OnOk};
 ghost use Rattle.bz_model.specs.Spec as model;
 ghost use Rattle.class_system.specs.Drafting.{empty_draft, with_name};
 ghost use Rattle.pointing.specs.PointedSpec.{marked_from, all_from, named, pointed_names};

@@ -48,9 +48,11 @@ pub struct Marked {
     pub atom: u64,
 }
 
-/// Points a specification: class `Pi` of the result has the objects of class i with one atom marked.
+/// Points a specification: class `Pi` of the result has the objects of class i with one atom
+/// marked.
 ///
-/// Refused are labels, then ranges that aren't plain, then a class 0 without an atom, then the limits
+/// Refused are labels, then ranges that aren't plain, then a class 0 without an atom, then the
+/// limits
 /// of the pointed specification.
 pub fn point(alloc: Global, founded: &Founded) -> Result<Pointed, PointFault>
     ensures system { IfOk result (λ p. p.system ≡ pointed_spec founded.now) }

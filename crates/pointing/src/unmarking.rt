@@ -2,7 +2,8 @@
 //!
 //! A walk passes the marked object. The calls give up where a visit isn't that of an object with an
 //! atom marked, which the walk rules out.
-ghost use Rattle.std.specs.Prelude.{◌≡◌, ℕ, ◌<◌, ◌++◌, [], ◌∷◌, List, length, option_to_list, IfOk, OnOk, IfSome, IfNone};
+ghost use Rattle.std.specs.Prelude.{◌≡◌, ℕ, ◌<◌, ◌++◌, [], ◌∷◌, List, length, option_to_list, IfOk};
+ghost use Rattle.std.specs.Prelude.{OnOk, IfSome, IfNone};
 ghost use Rattle.bz_model.specs.Spec.{Spec, node_at};
 ghost use Rattle.bz_model.specs.Object.{none};
 ghost use Rattle.class_system.specs.Views.{spec_node};
@@ -14,7 +15,8 @@ ghost use Rattle.pointing.specs.Calls.{AreMarked};
 ghost use Rattle.pointing.specs.Correspondence.{IsPointable};
 ghost use Rattle.pointing.specs.PointedSpec.{pointed_spec};
 ghost use Rattle.pointing.specs.Writing.{token_at};
-ghost use Rattle.pointing.specs.Unmarking.{ReadsOn, with_dues, IsSome, SameReading, IsResolved, LeadsTo, HasRead, IsChoice};
+ghost use Rattle.pointing.specs.Unmarking.{ReadsOn, with_dues, IsSome, SameReading, IsResolved};
+ghost use Rattle.pointing.specs.Unmarking.{LeadsTo, HasRead, IsChoice};
 ghost use Rattle.pointing.specs.declared.dues.Due.TheVariants.{Copied, Marked, Tuple, Split, Last};
 
 use crate::dues::{Due, Dues};

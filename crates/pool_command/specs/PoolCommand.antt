@@ -1,5 +1,7 @@
 -- The command `pool`.
-use Rattle.std.specs.Prelude.{◌≡◌, ℕ, zero, suc, ◌+◌, ◌≤◌, ◌&&◌, max, Bool, true, false, List, [], ◌∷◌, ◌++◌, length, flat_map, decimal, codes, slice_get, Some, if◌then◌else◌}
+use Rattle.std.specs.Prelude.{◌≡◌, ℕ, zero, suc, ◌+◌, ◌≤◌, ◌&&◌, max, Bool, true, false, List, []}
+use Rattle.std.specs.Prelude.{◌∷◌, ◌++◌, length, flat_map, decimal, codes, slice_get, Some}
+use Rattle.std.specs.Prelude.{if◌then◌else◌}
 use Rattle.std.specs.Str.{bytes_eq}
 use Rattle.bz_model.specs.Fraction.{ratio}
 use Rattle.bz_model.specs.declared.cell.Bounds.{Bounds}
@@ -12,7 +14,8 @@ use Rattle.session_pool.specs.Interleaving.{RoseBy}
 use Rattle.size_window.specs.RunByBits.{Limits as Window, Course, Ending}
 use Rattle.size_window.specs.Drawing.{limits_of}
 use Rattle.size_window.specs.declared.limits.Limits.{Limits}
-use Rattle.sample_command.specs.Drawn.{IsCourse, IsDrawn, Lists, closing_lines, drawn_header, ending_status}
+use Rattle.sample_command.specs.Drawn.{IsCourse, IsDrawn, Lists, closing_lines, drawn_header}
+use Rattle.sample_command.specs.Drawn.{ending_status}
 use Rattle.sample_command.specs.UnderWay.{met}
 use Rattle.call_stages.specs.Lines.{feed, lines_below, certified_format}
 use Rattle.call_stages.specs.Outcomes.{Outcome, Says}

@@ -1,6 +1,7 @@
 -- The schedule of a pool: which drawing is asked for each turn, and in which order the drawings
 -- end.
-use Rattle.std.specs.Prelude.{ℕ, zero, suc, ◌+◌, ◌-◌, ◌%◌, nat_eq, List, [], ◌∷◌, ◌++◌, map, replicate, if◌then◌else◌}
+use Rattle.std.specs.Prelude.{ℕ, zero, suc, ◌+◌, ◌-◌, ◌%◌, nat_eq, List, [], ◌∷◌, ◌++◌, map}
+use Rattle.std.specs.Prelude.{replicate, if◌then◌else◌}
 use Rattle.session_pool.specs.Interleaving.{times}
 use Rattle.size_window.specs.RunByBits.{Ending}
 

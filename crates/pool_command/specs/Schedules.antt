@@ -2,7 +2,8 @@
 use Rattle.std.specs.Prelude.{◌≡◌, ℕ, List, ◌++◌}
 use Rattle.call_stages.specs.declared.status.Status.{Status}
 use Rattle.pool_command.specs.Schedule.{order_of}
-use Rattle.pool_command.specs.PoolCommand.{PoolSetting, PoolDrawing, drawings_text, order_line, pool_end_line, asks_of}
+use Rattle.pool_command.specs.PoolCommand.{PoolSetting, PoolDrawing, drawings_text, order_line}
+use Rattle.pool_command.specs.PoolCommand.{pool_end_line, asks_of}
 
 -- By two schedules n drawings end with one status, and their texts differ in the line of the order
 -- alone: it is the function of each schedule's bytes and of the drawings' closings.

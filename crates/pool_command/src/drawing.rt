@@ -1,5 +1,6 @@
 //! A pool over a base: its memo, its tapes, its turns and its text.
 ghost use Rattle.std.specs.Prelude.{◌≡◌, ℕ, ◌≤◌, List, [], length, map, IfOk, OnErr};
+ghost use Rattle.bz_model.specs.Fraction.{IsFractionBits};
 ghost use Rattle.rounded_map.specs.RoundedMap.{setting, IsPostFixed};
 ghost use Rattle.size_window.specs.Drawing.{AreLimits, limits_of};
 ghost use Rattle.call_stages.specs.Ends.{EndsBy, output};
@@ -49,7 +50,7 @@ pub(crate) fn drawn<const F: u32, S: Shelf, K: Sink, L: Ledger>(
     out: &mut K,
     steps: &mut Steps<L>,
 ) -> Status
-    requires fraction_bits { (24 ≤ F) × (F ≤ 56) }
+    requires fraction_bits { IsFractionBits F }
     requires post_fixed { IsPostFixed (setting founded.now x.num x.den F) base }
     requires limits { AreLimits (limits_of limits) }
     requires number { (1 ≤ length names.now) × (length names.now ≤ 64) }
@@ -84,7 +85,7 @@ fn reported<const F: u32, S: Shelf, L: Ledger>(
     shelf: &mut S,
     steps: &mut Steps<L>,
 ) -> Result<Report, AllocError>
-    requires fraction_bits { (24 ≤ F) × (F ≤ 56) }
+    requires fraction_bits { IsFractionBits F }
     requires post_fixed { IsPostFixed (setting founded.now x.num x.den F) base }
     requires limits { AreLimits (limits_of limits) }
     requires number { (1 ≤ length names.now) × (length names.now ≤ 64) }

@@ -1,5 +1,6 @@
 //! The text of a pool whose drawings have ended.
-ghost use Rattle.std.specs.Prelude.{◌≡◌, ℕ, ◌<◌, ◌≤◌, ◌++◌, List, length, map, slice_get, flat_map, codes, IfOk, OnOk, string_bytes};
+ghost use Rattle.std.specs.Prelude.{◌≡◌, ℕ, ◌<◌, ◌≤◌, ◌++◌, List, length, map, slice_get, flat_map};
+ghost use Rattle.std.specs.Prelude.{codes, IfOk, OnOk, string_bytes};
 ghost use Rattle.std.specs.List.{All};
 ghost use Rattle.object_store.specs.Tokens.{IsOf};
 ghost use Rattle.size_window.specs.Turn.{HasLabels, entry_of};
@@ -9,7 +10,8 @@ ghost use Rattle.call_stages.specs.Refusals.{number_field};
 ghost use Rattle.call_stages.specs.declared.status.Status as status;
 ghost use Rattle.sample_command.specs.Drawn.{Lists};
 ghost use Rattle.pool_command.specs.PoolCommand as printed;
-ghost use Rattle.pool_command.specs.Pages.{told_session, closing_of_member, status_by, AreLinesOfMember, AreAppended, AllCanPrint};
+ghost use Rattle.pool_command.specs.Pages.{told_session, closing_of_member, status_by};
+ghost use Rattle.pool_command.specs.Pages.{AreLinesOfMember, AreAppended, AllCanPrint};
 
 use call_stages::status::Status;
 use sample_command::entries::{append_entry, closing, status_of};

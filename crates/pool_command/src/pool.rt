@@ -1,5 +1,6 @@
 //! The command `pool`: several drawings that take turns by a schedule.
 ghost use Rattle.std.specs.Prelude.{◌≡◌, ◌≢◌, ℕ, ◌≤◌, ◌⊎◌, List, ◌∷◌, length};
+ghost use Rattle.bz_model.specs.Fraction.{IsFractionBits};
 ghost use Rattle.bz_outside.specs.Outside.{Rose, Appends};
 ghost use Rattle.command_words.specs.Fractions.{fraction_bits};
 ghost use Rattle.rounded_map.specs.RoundedMap.{setting, IsPostFixed};
@@ -116,7 +117,7 @@ fn pooled<const F: u32, S: Shelf, K: Sink, L: Ledger>(
     out: &mut K,
     steps: &mut Steps<L>,
 ) -> Status
-    requires fraction_bits { (24 ≤ F) × (F ≤ 56) }
+    requires fraction_bits { IsFractionBits F }
     requires limits { AreLimits (limits_of limits) }
     requires number { (1 ≤ length tapes.now) × (length tapes.now ≤ 64) }
     ensures ends { (before : List ℕ → ℕ)
@@ -151,7 +152,7 @@ fn pooled_over<const F: u32, S: Shelf, K: Sink, L: Ledger>(
     out: &mut K,
     steps: &mut Steps<L>,
 ) -> Status
-    requires fraction_bits { (24 ≤ F) × (F ≤ 56) }
+    requires fraction_bits { IsFractionBits F }
     requires post_fixed { IsPostFixed (setting founded.now x.num x.den F) base }
     requires limits { AreLimits (limits_of limits) }
     requires number { (1 ≤ length tapes.now) × (length tapes.now ≤ 64) }

@@ -1,10 +1,14 @@
 //! The turns of a pool: those that its schedule names, and then those of each drawing until it
 //! ends.
-ghost use Rattle.std.specs.Prelude.{◌≡◌, ◌≢◌, ℕ, ◌+◌, ◌-◌, ◌<◌, ◌≤◌, [], ◌∷◌, ◌++◌, List, length, replicate, IfOk, OnOk, OnErr, IsSome};
+ghost use Rattle.std.specs.Prelude.{◌≡◌, ◌≢◌, ℕ, ◌+◌, ◌-◌, ◌<◌, ◌≤◌, [], ◌∷◌, ◌++◌, List, length};
+ghost use Rattle.std.specs.Prelude.{replicate, IfOk, OnOk, OnErr, IsSome};
+ghost use Rattle.bz_model.specs.Fraction.{IsFractionBits};
 ghost use Rattle.session_pool.specs.Interleaving.{setting, times};
 ghost use Rattle.session_pool.specs.Pool.{ending_at};
 ghost use Rattle.pool_command.specs.Schedule.{all_asked, named};
-ghost use Rattle.pool_command.specs.UnderWay.{asked_by, ended_now, moment, Beginning, IsSoFar, IsUnderWay, IsBroken, IsEnded, CanAsk, IsAsked, IsFinished};
+ghost use Rattle.pool_command.specs.UnderWay.{asked_by, ended_now, moment, Beginning, IsSoFar};
+ghost use Rattle.pool_command.specs.UnderWay.{IsUnderWay, IsBroken, IsEnded, CanAsk, IsAsked};
+ghost use Rattle.pool_command.specs.UnderWay.{IsFinished};
 
 use bit_tape::tape::Tape;
 use bz_model::oracle::Oracle;
@@ -32,7 +36,7 @@ pub(crate) fn take_turns<const F: u32, O: Oracle<F>, S: Shelf, L: Ledger>(
     shelf: &mut S,
     steps: &mut Steps<L>,
 ) -> Result<Vec<usize>, AllocError>
-    requires fraction { (24 ≤ F) × (F ≤ 56) }
+    requires fraction_bits { IsFractionBits F }
     requires some { 1 ≤ count }
     requires can { CanAsk founded.now (O.spec oracle.old) (O.x oracle.old) (S.content shelf.old)
         count pool.old }
@@ -76,7 +80,7 @@ fn follow<const F: u32, O: Oracle<F>, S: Shelf, L: Ledger>(
     shelf: &mut S,
     steps: &mut Steps<L>,
 ) -> Result<(), AllocError>
-    requires fraction { (24 ≤ F) × (F ≤ 56) }
+    requires fraction_bits { IsFractionBits F }
     requires some { 1 ≤ count }
     requires can { CanAsk founded.now (O.spec oracle.old) (O.x oracle.old) (S.content shelf.old)
         count pool.old }
@@ -120,7 +124,7 @@ fn finish_all<const F: u32, O: Oracle<F>, S: Shelf, L: Ledger>(
     shelf: &mut S,
     steps: &mut Steps<L>,
 ) -> Result<(), AllocError>
-    requires fraction { (24 ≤ F) × (F ≤ 56) }
+    requires fraction_bits { IsFractionBits F }
     requires can { CanAsk founded.now (O.spec oracle.old) (O.x oracle.old) (S.content shelf.old)
         count pool.old }
     ensures under_way { OnOk result ((b : Beginning) (asked : List ℕ)
@@ -133,7 +137,8 @@ fn finish_all<const F: u32, O: Oracle<F>, S: Shelf, L: Ledger>(
         (S.content shelf.new))
         (S.faults shelf.new) (O.cost oracle.new) (O.raised oracle.new) steps.new pool.new)
         order.new.items) }
-    ensures ended { OnOk result ((number : ℕ) → number < count → IsSome (ending_at pool.new number)) }
+    ensures ended { OnOk result ((number : ℕ) → number < count
+        → IsSome (ending_at pool.new number)) }
     ensures broken { OnErr result ((b : Beginning) (asked : List ℕ)
         → IsUnderWay b asked (moment
         (setting (O.spec oracle.old) (O.x oracle.old) F (O.table oracle.old) (S.content shelf.old))
@@ -164,7 +169,7 @@ fn finish<const F: u32, O: Oracle<F>, S: Shelf, L: Ledger>(
     shelf: &mut S,
     steps: &mut Steps<L>,
 ) -> Result<(), AllocError>
-    requires fraction { (24 ≤ F) × (F ≤ 56) }
+    requires fraction_bits { IsFractionBits F }
     requires number { number < count }
     requires can { CanAsk founded.now (O.spec oracle.old) (O.x oracle.old) (S.content shelf.old)
         count pool.old }
@@ -209,7 +214,7 @@ fn ask<const F: u32, O: Oracle<F>, S: Shelf, L: Ledger>(
     shelf: &mut S,
     steps: &mut Steps<L>,
 ) -> Result<(), AllocError>
-    requires fraction { (24 ≤ F) × (F ≤ 56) }
+    requires fraction_bits { IsFractionBits F }
     requires number { number < count }
     requires can { CanAsk founded.now (O.spec oracle.old) (O.x oracle.old) (S.content shelf.old)
         count pool.old }
@@ -254,7 +259,7 @@ fn turn_once<const F: u32, O: Oracle<F>, S: Shelf, L: Ledger>(
     shelf: &mut S,
     steps: &mut Steps<L>,
 ) -> Result<bool, AllocError>
-    requires fraction { (24 ≤ F) × (F ≤ 56) }
+    requires fraction_bits { IsFractionBits F }
     requires number { number < count }
     requires can { CanAsk founded.now (O.spec oracle.old) (O.x oracle.old) (S.content shelf.old)
         count pool.old }

@@ -1,7 +1,6 @@
 -- What is certain to be counted, made or ranked: the outcome is shown, and a command has one alone.
 use Rattle.std.proofs.Common.{◌≡◌, ◌≢◌, ℕ, ◌<◌, ◌≤◌, arith, List, [], length, refl, sym, ap, subst, ◌∙◌}
-use Rattle.std.specs.Prelude.{take, Option, Some, None, IfSome}
-use Rattle.std.proofs.lemmas.List.{take_all}
+use Rattle.std.specs.Prelude.{Option, Some, None}
 use Rattle.bz_model.specs.Spec.{Spec, Mode, body_of}
 use Rattle.bz_model.specs.Object.{Object, Belongs}
 use Rattle.bz_model.specs.Measures.{size}
@@ -13,11 +12,10 @@ use Rattle.object_text.specs.Reading.{IsRead}
 use Rattle.rank_tables.specs.RankOrder.{IsCount, IsRank, IsRanked}
 use Rattle.rank_tables.specs.Refusals.{IsFirstRanged, HasPlainRanges, IsTooMany, HasSmallCounts}
 use Rattle.rank_tables.specs.Shapes.{IsRankOf}
-use Rattle.call_stages.specs.Outcomes.{Outcome, Says}
-use Rattle.call_stages.specs.Stages.{Files, IsCalm, AreRead, FileRead, Judged, Specified}
+use Rattle.call_stages.specs.Stages.{Files, HasSpecification}
 use Rattle.call_stages.specs.Stages as reading
 use Rattle.call_stages.specs.declared.status.Status.{Status}
-use Rattle.call_stages.proofs.OneReading.{read-only, judged-only}
+use Rattle.call_stages.proofs.Completing.{said, whole-read, specified-on}
 use Rattle.object_stage.specs.ObjectStage.{without_feed, ObjectRead}
 use Rattle.object_stage.specs.ObjectStage as objects
 use Rattle.rank_commands.specs.RankStages.{labelled_line, range_line, too_many_line, too_large_line, Rankable, Counted, SizeJudged}
@@ -28,46 +26,20 @@ use Rattle.rank_commands.specs.UnrankCommand.{number_line, object_page, ObjectOf
 use Rattle.rank_commands.specs.UnrankCommand as unranking
 use Rattle.rank_commands.specs.RankCommand.{rank_text, RankPrinted, ObjectRanked, RankedIn, CarriesRank}
 use Rattle.rank_commands.specs.RankCommand as ranking
-use Rattle.rank_commands.specs.Fit.{IsFit, CanBeCounted, IsTextIn, ComesOf}
+use Rattle.rank_commands.specs.Fit.{CanBeCounted, IsTextIn, ComesOf}
 use Rattle.rank_commands.specs.Fit as fits
 use Rattle.rank_commands.proofs.OneStage.{labelled-only, ranged-only, plain-only, many-only, fits-only}
 use Rattle.rank_commands.proofs.OneOutcome.{one-count, one-unrank, one-rank}
 
--- a file that is known and short is read whole
-whole-read : (f : Files) (file bytes : List ℕ) (most : ℕ) → f.content file ≡ Some bytes → length bytes ≤ most → AreRead f.content file most bytes
-whole-read f file bytes most known few = record { are = subst (λ o. IfSome o (λ all. bytes ≡ take most all)) (sym known) (sym (take_all most bytes few)); few = few }
-
--- such a file is calm
-abbrev calm-fit : (f : Files) (file : List ℕ) (s : Spec) → IsFit f file s → IsCalm f file
-calm-fit f file s fit = record { bytes = fit.bytes; known = fit.is_known; unfailed = fit.no_fault }
-
-abbrev calm-text : (f : Files) (file : List ℕ) (s : Spec) (body : ℕ) (o : Object) (belongs : Belongs s body o) → IsTextIn f file s body o belongs → IsCalm f file
-calm-text f file s body o belongs text_in = record { bytes = text_in.bytes; known = text_in.is_known; unfailed = text_in.no_fault }
-
--- a fit specification goes on
-pub fit-only : (f : Files) (file : List ℕ) (s : Spec) (next : Spec → Outcome) (status : Status) (text : List ℕ) (ticks : ℕ) → IsFit f file s → status ≢ Status.OutOfMemory → Specified f file next status text ticks → next s status text ticks
-fit-only f file s next status text ticks fit memory p =
-    let read = read-only f file 65537 (Judged next) (calm-fit f file s fit) status text ticks memory p in
-    let all : take 65537 fit.bytes ≡ fit.bytes = take_all 65537 fit.bytes (let few = fit.accepted.few in omega (arith, few)) in
-    judged-only next fit.bytes s fit.accepted fit.founded status text ticks memory (subst (λ b. Judged next b status text ticks) all read)
-
--- what comes of it comes of the command
-fit-goes-on : (f : Files) (file : List ℕ) (s : Spec) (next : Spec → Outcome) (status : Status) (text : List ℕ) → IsFit f file s → next s status text 0 → Specified f file next status text 0
-fit-goes-on f file s next status text fit p = reading.read fit.bytes (whole-read f file fit.bytes 65537 fit.is_known (let few = fit.accepted.few in omega (arith, few))) (reading.founded s fit.accepted fit.founded p)
-
--- a line is said
-said : (status : Status) (line : List ℕ) → Says status line 0 status line 0
-said status line = record { status_is = refl; text_is = refl; ticks_are = refl }
-
-pub counted : (f : Files) (file : List ℕ) (s : Spec) (most : ℕ) (count : ℕ → ℕ) (status : Status) (text : List ℕ) (ticks : ℕ) → IsFit f file s → CanBeCounted s most → AreCountsTo s most count → status ≢ Status.OutOfMemory → CarriesCount f file most status text ticks → (status ≡ Status.Done) × (text ≡ counts_text count most)
+pub counted : (f : Files) (file : List ℕ) (s : Spec) (most : ℕ) (count : ℕ → ℕ) (status : Status) (text : List ℕ) (ticks : ℕ) → HasSpecification f file s → CanBeCounted s most → AreCountsTo s most count → status ≢ Status.OutOfMemory → CarriesCount f file most status text ticks → (status ≡ Status.Done) × (text ≡ counts_text count most)
 counted f file s most count status text ticks fit can are memory h =
-    let shown : CarriesCount f file most Status.Done (counts_text count most) 0 = fit-goes-on f file s (CountedTo most) Status.Done (counts_text count most) fit (stages.plain can.unlabelled can.plain (stages.counted can.small (counts.printed count are (said Status.Done (counts_text count most))))) in
-    (one-count f file most (calm-fit f file s fit)).one status Status.Done text (counts_text count most) ticks 0 memory (λ e. absurd (cc)) h shown
+    let shown : CarriesCount f file most Status.Done (counts_text count most) 0 = specified-on f file s (CountedTo most) Status.Done (counts_text count most) 0 fit (stages.plain can.unlabelled can.plain (stages.counted can.small (counts.printed count are (said Status.Done (counts_text count most))))) in
+    (one-count f file most fit.calm).one status Status.Done text (counts_text count most) ticks 0 memory (λ e. absurd (cc)) h shown
 
-module _ (f : Files) (file : List ℕ) (s : Spec) (n r : ℕ) (status : Status) (text : List ℕ) (ticks : ℕ) (fit : IsFit f file s) (can : CanBeCounted s n) (memory : status ≢ Status.OutOfMemory) (h : CarriesUnrank f file n r status text ticks) where
+module _ (f : Files) (file : List ℕ) (s : Spec) (n r : ℕ) (status : Status) (text : List ℕ) (ticks : ℕ) (fit : HasSpecification f file s) (can : CanBeCounted s n) (memory : status ≢ Status.OutOfMemory) (h : CarriesUnrank f file n r status text ticks) where
   -- an outcome that was shown is the one
   unranked-as : (shown : Status) (line : List ℕ) → shown ≢ Status.OutOfMemory → ObjectOfRank s n r shown line 0 → (status ≡ shown) × (text ≡ line)
-  unranked-as shown line told p = (one-unrank f file n r (calm-fit f file s fit)).one status shown text line ticks 0 memory told h (fit-goes-on f file s (Unranked n r) shown line fit (stages.plain can.unlabelled can.plain (stages.counted can.small p)))
+  unranked-as shown line told p = (one-unrank f file n r fit.calm).one status shown text line ticks 0 memory told h (specified-on f file s (Unranked n r) shown line 0 fit (stages.plain can.unlabelled can.plain (stages.counted can.small p)))
 
   pub printed : (body : ℕ) (o : Object) (belongs : Belongs s body o) → body_of s 0 ≡ Some body → IsRanked s body n r o → (status ≡ Status.Done) × (text ≡ object_page s body o belongs)
   printed body o belongs is ranked = unranked-as Status.Done (object_page s body o belongs) (λ e. absurd (cc)) (unranking.printed body o belongs is ranked (said Status.Done (object_page s body o belongs)))
@@ -79,17 +51,17 @@ module _ (f : Files) (file : List ℕ) (s : Spec) (n r : ℕ) (status : Status) 
 abbrev pub ReadsPrinted : Spec → Type 0
 ReadsPrinted s = (c : ℕ) (tokens : List Token) (of : IsOf s c tokens) → s.mode ≡ Mode.Unlabelled → (text : List ℕ) → text ≡ object_text s of.body of.object of.belongs [] → IsRead s c text tokens None
 
-module _ (f : Files) (file object : List ℕ) (s : Spec) (body : ℕ) (o : Object) (belongs : Belongs s body o) (status : Status) (text : List ℕ) (ticks : ℕ) (fit : IsFit f file s) (mode : s.mode ≡ Mode.Unlabelled) (plain : HasPlainRanges s) (is : body_of s 0 ≡ Some body) (text_in : IsTextIn f object s body o belongs) (reads : ReadsPrinted s) (memory : status ≢ Status.OutOfMemory) (h : CarriesRank f file object status text ticks) where
+module _ (f : Files) (file object : List ℕ) (s : Spec) (body : ℕ) (o : Object) (belongs : Belongs s body o) (status : Status) (text : List ℕ) (ticks : ℕ) (fit : HasSpecification f file s) (mode : s.mode ≡ Mode.Unlabelled) (plain : HasPlainRanges s) (is : body_of s 0 ≡ Some body) (text_in : IsTextIn f object s body o belongs) (reads : ReadsPrinted s) (memory : status ≢ Status.OutOfMemory) (h : CarriesRank f file object status text ticks) where
   -- the object is read
-  read-in : IsRead s 0 (without_feed text_in.bytes) (tokens_of o) None
-  read-in = reads 0 (tokens_of o) (record { body = body; is_body = is; object = o; belongs = belongs; spelled = refl }) mode (without_feed text_in.bytes) text_in.is_text
+  read-in : IsRead s 0 (without_feed text_in.calm.bytes) (tokens_of o) None
+  read-in = reads 0 (tokens_of o) (record { body = body; is_body = is; object = o; belongs = belongs; spelled = refl }) mode (without_feed text_in.calm.bytes) text_in.is_text
 
   -- an outcome that was shown is the one
   ranked-as : (shown : Status) (line : List ℕ) → shown ≢ Status.OutOfMemory → ObjectRanked s (tokens_of o) None shown line 0 → (status ≡ shown) × (text ≡ line)
   ranked-as shown line told p =
-      let few : length text_in.bytes ≤ 16777217 = let most = text_in.few in omega (arith, most) in
-      let object_read : ObjectRead f s object (ObjectRanked s) shown line 0 = reading.read text_in.bytes (whole-read f object text_in.bytes 16777217 text_in.is_known few) (objects.read (tokens_of o) None text_in.few read-in p) in
-      (one-rank f file object (calm-fit f file s fit) (calm-text f object s body o belongs text_in)).one status shown text line ticks 0 memory told h (fit-goes-on f file s (RankedIn f object) shown line fit (stages.plain mode plain object_read))
+      let few : length text_in.calm.bytes ≤ 16777217 = let most = text_in.few in omega (arith, most) in
+      let object_read : ObjectRead f s object (ObjectRanked s) shown line 0 = reading.read text_in.calm.bytes (whole-read f object 16777217 text_in.calm few) (objects.read (tokens_of o) None text_in.few read-in p) in
+      (one-rank f file object fit.calm text_in.calm).one status shown text line ticks 0 memory told h (specified-on f file s (RankedIn f object) shown line 0 fit (stages.plain mode plain object_read))
 
   pub ranked : HasSmallCounts s (size o) → size o ≤ 500 → (count r : ℕ) → IsCount s body (size o) count → IsRank s body o r → (status ≡ Status.Done) × (text ≡ rank_text r count)
   ranked small few count r counted is_rank =

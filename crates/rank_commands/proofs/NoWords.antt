@@ -1,12 +1,13 @@
 -- No outcome of these commands has the status of refused words.
-use Rattle.std.proofs.Common.{◌≡◌, ◌≢◌, ℕ, List, sym, ◌∙◌}
+use Rattle.std.proofs.Common.{◌≡◌, ℕ, List}
 use Rattle.std.specs.Prelude.{Option}
 use Rattle.bz_model.specs.Spec.{Spec}
 use Rattle.object_store.specs.declared.token.Token.{Token}
 use Rattle.object_store.specs.Tokens.{size_of}
-use Rattle.call_stages.specs.Outcomes.{Outcome, Says}
+use Rattle.call_stages.specs.Outcomes.{Outcome}
 use Rattle.call_stages.specs.Stages.{Files}
 use Rattle.call_stages.specs.declared.status.Status.{Status}
+use Rattle.call_stages.proofs.Completing.{says-other}
 use Rattle.object_stage.specs.ObjectStage.{ObjectRead}
 use Rattle.object_stage.proofs.OneObject.{object-no-words}
 use Rattle.rank_commands.specs.RankStages.{Rankable, Counted, SizeJudged}
@@ -22,18 +23,15 @@ use Rattle.rank_commands.specs.RankCommand as ranking
 abbrev pub IsWordless : Outcome → Type 0
 IsWordless P = (status : Status) (text : List ℕ) (ticks : ℕ) → P status text ticks → status ≡ Status.WordsRefused → ⊥
 
-not-words : (said status : Status) (line text : List ℕ) (ticks : ℕ) → said ≢ Status.WordsRefused → Says said line 0 status text ticks → status ≡ Status.WordsRefused → ⊥
-not-words said status line text ticks other says is = other (sym says.status_is ∙ is)
-
 rankable-no-words : (s : Spec) (next : Outcome) → IsWordless next → IsWordless (Rankable s next)
-rankable-no-words s next on status text ticks (stages.labelled mode says) is = not-words Status.RankRefused status _ text ticks (λ e. absurd (cc)) says is
-rankable-no-words s next on status text ticks (stages.ranged e mode first says) is = not-words Status.RankRefused status _ text ticks (λ e. absurd (cc)) says is
-rankable-no-words s next on status text ticks (stages.no_memory says) is = not-words Status.OutOfMemory status _ text ticks (λ e. absurd (cc)) says is
+rankable-no-words s next on status text ticks (stages.labelled mode says) is = says-other Status.RankRefused Status.WordsRefused status _ text _ ticks (λ e. absurd (cc)) is says
+rankable-no-words s next on status text ticks (stages.ranged e mode first says) is = says-other Status.RankRefused Status.WordsRefused status _ text _ ticks (λ e. absurd (cc)) is says
+rankable-no-words s next on status text ticks (stages.no_memory says) is = says-other Status.OutOfMemory Status.WordsRefused status _ text _ ticks (λ e. absurd (cc)) is says
 rankable-no-words s next on status text ticks (stages.plain mode plain p) is = on status text ticks p is
 
 counted-no-words : (s : Spec) (most : ℕ) (next : Outcome) → IsWordless next → IsWordless (Counted s most next)
-counted-no-words s most next on status text ticks (stages.too_many e n many says) is = not-words Status.RankRefused status _ text ticks (λ e. absurd (cc)) says is
-counted-no-words s most next on status text ticks (stages.no_memory says) is = not-words Status.OutOfMemory status _ text ticks (λ e. absurd (cc)) says is
+counted-no-words s most next on status text ticks (stages.too_many e n many says) is = says-other Status.RankRefused Status.WordsRefused status _ text _ ticks (λ e. absurd (cc)) is says
+counted-no-words s most next on status text ticks (stages.no_memory says) is = says-other Status.OutOfMemory Status.WordsRefused status _ text _ ticks (λ e. absurd (cc)) is says
 counted-no-words s most next on status text ticks (stages.counted small p) is = on status text ticks p is
 
 -- `count`, once the specification is judged
@@ -41,27 +39,27 @@ pub count-no-words : (most : ℕ) (s : Spec) → IsWordless (CountedTo most s)
 count-no-words most s = rankable-no-words s (Counted s most (CountsPrinted s most)) (counted-no-words s most (CountsPrinted s most) go)
   where
     go : IsWordless (CountsPrinted s most)
-    go status text ticks (counts.printed count are says) is = not-words Status.Done status _ text ticks (λ e. absurd (cc)) says is
-    go status text ticks (counts.no_memory says) is = not-words Status.OutOfMemory status _ text ticks (λ e. absurd (cc)) says is
+    go status text ticks (counts.printed count are says) is = says-other Status.Done Status.WordsRefused status _ text _ ticks (λ e. absurd (cc)) is says
+    go status text ticks (counts.no_memory says) is = says-other Status.OutOfMemory Status.WordsRefused status _ text _ ticks (λ e. absurd (cc)) is says
 
 -- `unrank`, once the specification is judged
 pub unrank-no-words : (n r : ℕ) (s : Spec) → IsWordless (Unranked n r s)
 unrank-no-words n r s = rankable-no-words s (Counted s n (ObjectOfRank s n r)) (counted-no-words s n (ObjectOfRank s n r) go)
   where
     go : IsWordless (ObjectOfRank s n r)
-    go status text ticks (unranking.beyond body count is_body counted le says) is = not-words Status.RankRefused status _ text ticks (λ e. absurd (cc)) says is
-    go status text ticks (unranking.no_memory says) is = not-words Status.OutOfMemory status _ text ticks (λ e. absurd (cc)) says is
-    go status text ticks (unranking.printed body o belongs is_body ranked says) is = not-words Status.Done status _ text ticks (λ e. absurd (cc)) says is
+    go status text ticks (unranking.beyond body count is_body counted le says) is = says-other Status.RankRefused Status.WordsRefused status _ text _ ticks (λ e. absurd (cc)) is says
+    go status text ticks (unranking.no_memory says) is = says-other Status.OutOfMemory Status.WordsRefused status _ text _ ticks (λ e. absurd (cc)) is says
+    go status text ticks (unranking.printed body o belongs is_body ranked says) is = says-other Status.Done Status.WordsRefused status _ text _ ticks (λ e. absurd (cc)) is says
 
 -- an object that was read
 object-ranked-no-words : (s : Spec) (tokens : List Token) (labels : Option (List ℕ)) → IsWordless (ObjectRanked s tokens labels)
-object-ranked-no-words s tokens labels status text ticks (stages.too_large large says) is = not-words Status.ObjectRefused status _ text ticks (λ e. absurd (cc)) says is
-object-ranked-no-words s tokens labels status text ticks (stages.no_memory says) is = not-words Status.OutOfMemory status _ text ticks (λ e. absurd (cc)) says is
+object-ranked-no-words s tokens labels status text ticks (stages.too_large large says) is = says-other Status.ObjectRefused Status.WordsRefused status _ text _ ticks (λ e. absurd (cc)) is says
+object-ranked-no-words s tokens labels status text ticks (stages.no_memory says) is = says-other Status.OutOfMemory Status.WordsRefused status _ text _ ticks (λ e. absurd (cc)) is says
 object-ranked-no-words s tokens labels status text ticks (stages.fits fits p) is = counted-no-words s (size_of tokens) (RankPrinted s tokens) go status text ticks p is
   where
     go : IsWordless (RankPrinted s tokens)
-    go status text ticks (ranking.printed body count r is_body counted ranked says) is = not-words Status.Done status _ text ticks (λ e. absurd (cc)) says is
-    go status text ticks (ranking.no_memory says) is = not-words Status.OutOfMemory status _ text ticks (λ e. absurd (cc)) says is
+    go status text ticks (ranking.printed body count r is_body counted ranked says) is = says-other Status.Done Status.WordsRefused status _ text _ ticks (λ e. absurd (cc)) is says
+    go status text ticks (ranking.no_memory says) is = says-other Status.OutOfMemory Status.WordsRefused status _ text _ ticks (λ e. absurd (cc)) is says
 
 -- `rank`, once the specification is judged
 pub rank-no-words : (f : Files) (object : List ℕ) (s : Spec) → IsWordless (RankedIn f object s)

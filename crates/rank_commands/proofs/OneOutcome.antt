@@ -13,14 +13,14 @@ use Rattle.rank_tables.proofs.Counting.{count-unique}
 use Rattle.rank_tables.proofs.Rankable.{rankable}
 use Rattle.rank_tables.proofs.Ranking.{rank-small, rank-one}
 use Rattle.rank_tables.proofs.Shaped.{shape-rank}
-use Rattle.call_stages.specs.Lines.{feed, lines_below}
+use Rattle.call_stages.specs.Lines.{feed, end_done_line, lines_below}
 use Rattle.call_stages.specs.Outcomes.{Says, IsOne}
 use Rattle.call_stages.specs.Stages.{Files, IsCalm}
 use Rattle.call_stages.specs.declared.status.Status.{Status}
 use Rattle.call_stages.proofs.OneReading.{one-specified-founded}
 use Rattle.object_stage.specs.ObjectStage.{ObjectRead}
 use Rattle.object_stage.proofs.OneObject.{one-object}
-use Rattle.rank_commands.specs.RankStages.{done_line, Counted}
+use Rattle.rank_commands.specs.RankStages.{Counted}
 use Rattle.rank_commands.specs.CountCommand.{size_line, counts_text, AreCountsTo, CountsPrinted, CountedTo, CarriesCount}
 use Rattle.rank_commands.specs.CountCommand as counts
 use Rattle.rank_commands.specs.UnrankCommand.{number_line, object_page, ObjectOfRank, Unranked, CarriesUnrank}
@@ -43,14 +43,14 @@ same-lines a b (suc k) each = ap (λ t. t ++ a k) (same-lines a b k (λ n lt. ea
 pub one-counts : (s : Spec) (most : ℕ) (a b : ℕ → ℕ) → AreCountsTo s most a → AreCountsTo s most b → counts_text a most ≡ counts_text b most
 one-counts s most a b h k =
     let same : h.body ≡ k.body = let p = h.is_body in let q = k.is_body in cc in
-    ap (λ t. t ++ done_line) (same-lines (size_line a) (size_line b) (suc most) (λ n lt. let le : n ≤ most = omega (arith, lt) in one-line n (one-number s h.body k.body n (a n) (b n) same (h.counts n le) (k.counts n le))))
+    ap (λ t. t ++ end_done_line) (same-lines (size_line a) (size_line b) (suc most) (λ n lt. let le : n ≤ most = omega (arith, lt) in one-line n (one-number s h.body k.body n (a n) (b n) same (h.counts n le) (k.counts n le))))
   where
     one-line : (n : ℕ) → a n ≡ b n → size_line a n ≡ size_line b n
     one-line n e = ap (λ z. size_line (λ m. z) n) e
 
 -- an object has one page
 pub one-page : (s : Spec) (d e : ℕ) (o p : Object) (b : Belongs s d o) (c : Belongs s e p) → d ≡ e → o ≡ p → object_page s d o b ≡ object_page s e p c
-one-page s d e o p b c body same = subst (λ z. (k : Belongs s z p) → object_page s d o b ≡ object_page s z p k) body (subst (λ q. (k : Belongs s d q) → object_page s d o b ≡ object_page s d q k) same (λ k. ap (λ t. t ++ (feed ++ done_line)) (one_text Arrangement.Canonical s d o [] b k))) c
+one-page s d e o p b c body same = subst (λ z. (k : Belongs s z p) → object_page s d o b ≡ object_page s z p k) body (subst (λ q. (k : Belongs s d q) → object_page s d o b ≡ object_page s d q k) same (λ k. ap (λ t. t ++ (feed ++ end_done_line)) (one_text Arrangement.Canonical s d o [] b k))) c
 
 -- what is said twice in one line is the same
 same-line : (said status other : Status) (line line_too text others : List ℕ) (ticks more : ℕ) → line ≡ line_too → Says said line 0 status text ticks → Says said line_too 0 other others more → (status ≡ other) × (text ≡ others)

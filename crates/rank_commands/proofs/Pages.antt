@@ -12,8 +12,7 @@ use Rattle.rank_tables.specs.Shapes.{IsRankOf}
 use Rattle.rank_tables.specs.Tables.{Table, AreCounts, IsNumberOf, told}
 use Rattle.call_stages.specs.Outcomes.{Says}
 use Rattle.call_stages.specs.declared.status.Status.{Status}
-use Rattle.call_stages.specs.Lines.{feed, lines_below}
-use Rattle.rank_commands.specs.RankStages.{done_line}
+use Rattle.call_stages.specs.Lines.{feed, end_done_line, lines_below}
 use Rattle.rank_commands.specs.CountCommand.{size_line, counts_text, AreCountsTo, CountsPrinted}
 use Rattle.rank_commands.specs.CountCommand as counts
 use Rattle.rank_commands.specs.UnrankCommand.{number_line, object_page, ObjectOfRank}
@@ -35,16 +34,16 @@ module _ (s : Spec) (sound : IsSound s) (most : ℕ) (t : Table) (are : AreCount
   counts_printed body text is same = counts.printed (told t body) (record { body = body; is_body = is; counts = λ n le. count_of body n is le }) (record { status_is = refl; text_is = same; ticks_are = refl })
 
 -- the lines of the sizes were appended to no text, and the last line to them
-pub counts_joined : (count : ℕ → ℕ) (start : List ℕ) (most : ℕ) (text page : List ℕ) → start ≡ [] → text ≡ start ++ lines_below (size_line count) (most + 1) → page ≡ text ++ done_line → page ≡ counts_text count most
-counts_joined count start most text page none lines last = last ∙ ap (λ t. t ++ done_line) (lines ∙ ap (λ t. t ++ lines_below (size_line count) (most + 1)) none ∙ ap (lines_below (size_line count)) (add-one most))
+pub counts_joined : (count : ℕ → ℕ) (start : List ℕ) (most : ℕ) (text page : List ℕ) → start ≡ [] → text ≡ start ++ lines_below (size_line count) (most + 1) → page ≡ text ++ end_done_line → page ≡ counts_text count most
+counts_joined count start most text page none lines last = last ∙ ap (λ t. t ++ end_done_line) (lines ∙ ap (λ t. t ++ lines_below (size_line count) (most + 1)) none ∙ ap (lines_below (size_line count)) (add-one most))
 
 -- an object with a rank is one of its class
 pub ranked_object : (s : Spec) (c r : ℕ) (tokens : List Token) → IsRankOf s c tokens r → IsOf s c tokens
 ranked_object s c r tokens h = record { body = h.body; is_body = h.is_body; object = h.object; belongs = h.ranked.sized.0; spelled = h.spelled }
 
 -- the text of an object and the last line, in the specification's own tables
-pub page_of : (s r : Spec) (tokens : List Token) (text page : List ℕ) → s ≡ r → ((of : IsOf s 0 tokens) → text ≡ object_text s of.body of.object of.belongs []) → page ≡ text ++ (feed ++ done_line) → (of : IsOf r 0 tokens) → page ≡ object_page r of.body of.object of.belongs
-page_of s r tokens text page same printed last = subst (λ (k : Spec). (of : IsOf k 0 tokens) → page ≡ object_page k of.body of.object of.belongs) same (λ of. last ∙ ap (λ t. t ++ (feed ++ done_line)) (printed of))
+pub page_of : (s r : Spec) (tokens : List Token) (text page : List ℕ) → s ≡ r → ((of : IsOf s 0 tokens) → text ≡ object_text s of.body of.object of.belongs []) → page ≡ text ++ (feed ++ end_done_line) → (of : IsOf r 0 tokens) → page ≡ object_page r of.body of.object of.belongs
+page_of s r tokens text page same printed last = subst (λ (k : Spec). (of : IsOf k 0 tokens) → page ≡ object_page k of.body of.object of.belongs) same (λ of. last ∙ ap (λ t. t ++ (feed ++ end_done_line)) (printed of))
 
 -- the object of a rank is printed
 pub object_printed : (s : Spec) (n r : ℕ) (tokens : List Token) (text : List ℕ) → size_of tokens ≡ n → IsRankOf s 0 tokens r → ((of : IsOf s 0 tokens) → text ≡ object_page s of.body of.object of.belongs) → ObjectOfRank s n r Status.Done text 0

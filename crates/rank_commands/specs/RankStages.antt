@@ -8,10 +8,6 @@ use Rattle.call_stages.specs.Lines.{feed}
 use Rattle.call_stages.specs.Outcomes.{Outcome, Says}
 use Rattle.call_stages.specs.declared.status.Status.{Status}
 
--- The last line.
-abbrev pub done_line : List ℕ
-done_line = codes "end done" ++ feed
-
 -- The specification is labelled.
 abbrev pub labelled_line : List ℕ
 labelled_line = codes "refused rank labelled" ++ feed
@@ -29,19 +25,23 @@ too_many_line e n =
 abbrev pub too_large_line : (size : ℕ) → List ℕ
 too_large_line n = codes "refused object too large " ++ (decimal n ++ feed)
 
--- A specification that is labelled, or has a range that isn't plain, is refused. Objects of any other can be ranked.
-pub data Rankable (s : Spec) (next : Outcome) (status : Status) (text : List ℕ) (ticks : ℕ) : Type 0 where
-  labelled : s.mode ≡ Mode.Labelled → Says Status.RankRefused labelled_line 0 status text ticks
-      → Rankable s next status text ticks
-  ranged : (e : ℕ) → s.mode ≡ Mode.Unlabelled → IsFirstRanged s e
-      → Says Status.RankRefused (range_line e) 0 status text ticks
-      → Rankable s next status text ticks
-  no_memory : Says Status.OutOfMemory [] 0 status text ticks → Rankable s next status text ticks
-  plain : s.mode ≡ Mode.Unlabelled → HasPlainRanges s → next status text ticks
-      → Rankable s next status text ticks
+-- A specification that is labelled, or has a range that isn't plain, is refused. Objects of any
+-- other can be ranked.
+pub data Rankable (s : Spec) (next : Outcome) (status : Status) (text : List ℕ) (ticks : ℕ) : Type 0
+  where
+    labelled : s.mode ≡ Mode.Labelled → Says Status.RankRefused labelled_line 0 status text ticks
+        → Rankable s next status text ticks
+    ranged : (e : ℕ) → s.mode ≡ Mode.Unlabelled → IsFirstRanged s e
+        → Says Status.RankRefused (range_line e) 0 status text ticks
+        → Rankable s next status text ticks
+    no_memory : Says Status.OutOfMemory [] 0 status text ticks → Rankable s next status text ticks
+    plain : s.mode ≡ Mode.Unlabelled → HasPlainRanges s → next status text ticks
+        → Rankable s next status text ticks
 
--- The objects of all nodes are counted for the sizes up to the greatest: a count passes 2^128 - 1, or none does.
-pub data Counted (s : Spec) (most : ℕ) (next : Outcome) (status : Status) (text : List ℕ) (ticks : ℕ) : Type 0 where
+-- The objects of all nodes are counted for the sizes up to the greatest: a count passes 2^128 - 1,
+-- or none does.
+pub data Counted (s : Spec) (most : ℕ) (next : Outcome) (status : Status) (text : List ℕ)
+    (ticks : ℕ) : Type 0 where
   too_many : (e n : ℕ) → IsTooMany s most e n
       → Says Status.RankRefused (too_many_line e n) 0 status text ticks
       → Counted s most next status text ticks
@@ -49,7 +49,8 @@ pub data Counted (s : Spec) (most : ℕ) (next : Outcome) (status : Status) (tex
   counted : HasSmallCounts s most → next status text ticks → Counted s most next status text ticks
 
 -- The size of an object is judged: it is above 500, or it isn't.
-pub data SizeJudged (tokens : List Token) (next : Outcome) (status : Status) (text : List ℕ) (ticks : ℕ) : Type 0 where
+pub data SizeJudged (tokens : List Token) (next : Outcome) (status : Status) (text : List ℕ)
+    (ticks : ℕ) : Type 0 where
   too_large : 500 < size_of tokens
       → Says Status.ObjectRefused (too_large_line (size_of tokens)) 0 status text ticks
       → SizeJudged tokens next status text ticks

@@ -6,7 +6,8 @@ ghost use Rattle.call_stages.specs.Lines.{lines_below};
 ghost use Rattle.call_stages.specs.Reports.{refusal_status, refusal_text};
 ghost use Rattle.call_stages.specs.Stages.{files};
 ghost use Rattle.call_stages.specs.declared.status.Status.{Status};
-ghost use Rattle.rank_commands.specs.CountCommand.{size_line, CountsPrinted, CountedTo, CarriesCount};
+ghost use Rattle.rank_commands.specs.CountCommand.{size_line, CountsPrinted, CountedTo};
+ghost use Rattle.rank_commands.specs.CountCommand.{CarriesCount};
 
 use crate::stages::tables_up_to;
 use bz_outside::shelf::Shelf;
@@ -20,7 +21,8 @@ use rank_tables::rank_tables::RankTables;
 use std::alloc::{AllocError, Global};
 use well_founded::examination::Founded;
 
-/// Reads a specification, judges it, and prints the counts of its first class for the sizes up to `n`.
+/// Reads a specification, judges it, and prints the counts of its first class for the sizes up to
+/// `n`.
 pub fn count<S: Shelf, K: Sink>(
     alloc: Global,
     file: &Word,
@@ -61,7 +63,8 @@ fn page<S: Shelf>(alloc: Global, file: &Word, n: u64, shelf: &mut S) -> Result<V
     }
 }
 
-/// What is printed of a specification: its tables are made, and the counts of its first class are taken.
+/// What is printed of a specification: its tables are made, and the counts of its first class are
+/// taken.
 fn counted(alloc: Global, founded: &Founded, n: u64) -> Result<Vec<u8>, Refusal>
     requires greatest { n ≤ 500 }
     ensures ok { IfOk result (λ page. CountedTo n founded.now Status.Done page.items 0) }

@@ -10,7 +10,8 @@ ghost use Rattle.call_stages.specs.Reports.{refusal_status, refusal_text};
 ghost use Rattle.call_stages.specs.Stages.{files};
 ghost use Rattle.call_stages.specs.declared.status.Status.{Status};
 ghost use Rattle.rank_commands.specs.RankStages.{SizeJudged};
-ghost use Rattle.rank_commands.specs.RankCommand.{rank_text, RankPrinted, ObjectRanked, RankedIn, CarriesRank};
+ghost use Rattle.rank_commands.specs.RankCommand.{rank_text, RankPrinted, ObjectRanked, RankedIn};
+ghost use Rattle.rank_commands.specs.RankCommand.{CarriesRank};
 
 use crate::refusals::size_refusal;
 use crate::stages::{rankable, tables_up_to};
@@ -30,7 +31,8 @@ use well_founded::examination::Founded;
 /// The greatest size up to which objects are counted.
 const MOST_ATOMS: u64 = 500;
 
-/// Reads a specification, judges it, reads an object of its first class, and prints the object's rank.
+/// Reads a specification, judges it, reads an object of its first class, and prints the object's
+/// rank.
 ///
 /// Labels and ranges are refused before the object is read. Its size is the greatest one counted.
 pub fn rank<S: Shelf, K: Sink>(
@@ -103,7 +105,8 @@ fn ranked<S: Shelf>(
     }
 }
 
-/// What is printed of an object: its size is judged, tables are made up to it, and its rank is taken.
+/// What is printed of an object: its size is judged, tables are made up to it, and its rank is
+/// taken.
 fn object_ranked(alloc: Global, founded: &Founded, shape: &Shape) -> Result<Vec<u8>, Refusal>
     requires unlabelled { founded.now.mode ≡ model.Mode.Unlabelled }
     requires plain { HasPlainRanges founded.now }

@@ -7,7 +7,7 @@ ghost use Rattle.rank_commands.specs.Faults.{fault_line};
 ghost use Rattle.rank_commands.specs.RankStages.{too_large_line};
 ghost use Rattle.rank_commands.specs.UnrankCommand.{number_line};
 
-use call_stages::report::Report;
+use call_stages::report::{Report, reported};
 use call_stages::status::Status;
 use rank_tables::rank_tables::RankFault;
 use std::alloc::{AllocError, Global};
@@ -18,11 +18,8 @@ pub(crate) fn fault_refusal(alloc: Global, fault: RankFault) -> Result<Report, A
         Says Status.RankRefused (fault_line fault) 0 r.status r.text.items 0) }
     ensures memory { OnOk result (fault ≢ RankFault.OutOfMemory) }
 {
-    let text = line_for_fault(alloc, fault)?.into_bytes();
-    Ok(Report {
-        status: Status::RankRefused,
-        text,
-    })
+    let line = line_for_fault(alloc, fault)?;
+    Ok(reported(Status::RankRefused, line))
 }
 
 /// Why no table is made; `Err` where that is out of memory.
@@ -48,11 +45,8 @@ fn line_for_fault(alloc: Global, fault: RankFault) -> Result<String, AllocError>
 pub(crate) fn number_refusal(alloc: Global) -> Result<Report, AllocError>
     ensures { IfOk result (λ r. Says Status.RankRefused number_line 0 r.status r.text.items 0) }
 {
-    let text = Vec::from_slice(alloc, b"refused rank number\n")?;
-    Ok(Report {
-        status: Status::RankRefused,
-        text,
-    })
+    let line = format!(in alloc; "refused rank number\n")?;
+    Ok(reported(Status::RankRefused, line))
 }
 
 /// An object has more atoms than are counted.
@@ -60,9 +54,6 @@ pub(crate) fn size_refusal(alloc: Global, size: u64) -> Result<Report, AllocErro
     ensures { IfOk result (λ r.
         Says Status.ObjectRefused (too_large_line size) 0 r.status r.text.items 0) }
 {
-    let text = format!(in alloc; "refused object too large {size}\n")?.into_bytes();
-    Ok(Report {
-        status: Status::ObjectRefused,
-        text,
-    })
+    let line = format!(in alloc; "refused object too large {size}\n")?;
+    Ok(reported(Status::ObjectRefused, line))
 }

@@ -7,7 +7,8 @@ ghost use Rattle.call_stages.specs.Ends.{EndsBy, output};
 ghost use Rattle.call_stages.specs.Reports.{refusal_status, refusal_text};
 ghost use Rattle.call_stages.specs.Stages.{files};
 ghost use Rattle.call_stages.specs.declared.status.Status.{Status};
-ghost use Rattle.rank_commands.specs.UnrankCommand.{object_page, ObjectOfRank, Unranked, CarriesUnrank};
+ghost use Rattle.rank_commands.specs.UnrankCommand.{object_page, ObjectOfRank, Unranked};
+ghost use Rattle.rank_commands.specs.UnrankCommand.{CarriesUnrank};
 
 use crate::refusals::number_refusal;
 use crate::stages::tables_up_to;
@@ -24,7 +25,8 @@ use rank_tables::rank_tables::RankTables;
 use std::alloc::{AllocError, Global};
 use well_founded::examination::Founded;
 
-/// Reads a specification, judges it, and prints the object of its first class with this size and rank.
+/// Reads a specification, judges it, and prints the object of its first class with this size and
+/// rank.
 pub fn unrank<S: Shelf, K: Sink>(
     alloc: Global,
     file: &Word,

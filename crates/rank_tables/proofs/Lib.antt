@@ -20,6 +20,7 @@ pub mod LowHeights
 pub mod Visited
 pub mod Parting
 pub mod Cells
+pub mod Known
 pub mod Suffixes
 pub mod Same
 pub mod Apart

@@ -1,4 +1,5 @@
--- Tables with a cap, as they are filled: a number is exact below the cap, and at the cap tells that there are so many objects or more.
+-- Tables with a cap, as they are filled: a number is exact below the cap, and at the cap tells that
+-- there are so many objects or more.
 use Rattle.std.specs.Prelude.{◌≡◌, ℕ, ◌^◌, ◌≤◌, ◌⊎◌, List, length, Option, Some, None}
 use Rattle.bz_model.specs.Spec.{Spec, Node, node_at}
 use Rattle.bz_model.specs.Object.{Object, ClassHas}
@@ -17,11 +18,13 @@ pub record IsSameUpTo (cap a b : ℕ) : Type 0 where
 
 -- The table's numbers are at least those of the rule, or have reached the cap.
 pub record IsCovering (s : Spec) (cap most : ℕ) (t : ℕ → ℕ → ℕ) : Type 0 where
-  pub rows : (e n : ℕ) (node : Node) → n ≤ most → node_at s e ≡ Some node → IsUpTo cap (rule (entries s t) t e node n) (t e n)
+  pub rows : (e n : ℕ) (node : Node) → n ≤ most → node_at s e ≡ Some node
+      → IsUpTo cap (rule (entries s t) t e node n) (t e n)
 
 -- The table's numbers are those of the rule up to the cap, from these numbers of the classes.
 pub record AreRows (s : Spec) (cap most : ℕ) (entry t : ℕ → ℕ → ℕ) : Type 0 where
-  pub rows : (e n : ℕ) (node : Node) → n ≤ most → node_at s e ≡ Some node → IsSameUpTo cap (rule entry t e node n) (t e n)
+  pub rows : (e n : ℕ) (node : Node) → n ≤ most → node_at s e ≡ Some node
+      → IsSameUpTo cap (rule entry t e node n) (t e n)
 
 -- An object of a class, of this size.
 abbrev pub IsOfClass : Spec → ℕ → ℕ → Object → Type 0
@@ -44,7 +47,8 @@ abbrev pub Tells : Option ℕ → ℕ → Type 0
 Tells None x = 2 ^ 128 ≤ x
 Tells (Some k) x = k ≡ x
 
--- A pass that changed nothing: its rows are those of the rule up to the cap, from numbers of the classes that are reached and that the rows give again.
+-- A pass that changed nothing: its rows are those of the rule up to the cap, from numbers of the
+-- classes that are reached and that the rows give again.
 pub record IsSettled (s : Spec) (cap most : ℕ) (t : ℕ → ℕ → ℕ) : Type 0 where
   pub reached : AreReached s cap most (entries s t)
   pub rows : AreRows s cap most (entries s t) t

@@ -1,5 +1,6 @@
 -- A counting table in the making: what one pass sets, and what stands between passes.
-use Rattle.std.specs.Prelude.{◌≡◌, ◌≢◌, ℕ, ◌^◌, ◌<◌, ◌≤◌, List, length, Option, Some, slice_get, unwrap_or}
+use Rattle.std.specs.Prelude.{◌≡◌, ◌≢◌, ℕ, ◌^◌, ◌<◌, ◌≤◌, List, length, Option, Some, slice_get}
+use Rattle.std.specs.Prelude.{unwrap_or}
 use Rattle.bz_model.specs.Spec.{Spec, Node, node_at}
 use Rattle.rank_tables.specs.Capped.{Tells, IsSettled}
 use Rattle.rank_tables.specs.Grids.{Cells, cell, number_of, number_at, AreSuffixes}
@@ -16,13 +17,17 @@ pub record IsGridOf (s : Spec) (n : ℕ) (g : Cells) : Type 0 where
 abbrev pub class_number : List (Option ℕ) → ℕ → ℕ
 class_number classes c = number_of (unwrap_or (slice_get classes c) (Some 0))
 
--- At this size, each part of a product has the number of the lists of one object of it and of each part behind it.
+-- At this size, each part of a product has the number of the lists of one object of it and of each
+-- part behind it.
 abbrev pub HasTails : Spec → (rows tails : Cells) → ℕ → Type 0
-HasTails s rows tails n = (e : ℕ) → AreSuffixes (number_at rows) tails (product_parts (node_at s e)) n
+HasTails s rows tails n = (e : ℕ)
+    → AreSuffixes (number_at rows) tails (product_parts (node_at s e)) n
 
--- One pass at a size: each node's number tells what the rule gives from the classes' numbers and the other nodes' ones.
+-- One pass at a size: each node's number tells what the rule gives from the classes' numbers and
+-- the other nodes' ones.
 pub record IsPass (s : Spec) (classes : List (Option ℕ)) (rows tails : Cells) (n : ℕ) : Type 0 where
-  pub each_number : (e : ℕ) (node : Node) → node_at s e ≡ Some node → Tells (cell rows e n) (rule (λ c m. class_number classes c) (number_at rows) e node n)
+  pub each_number : (e : ℕ) (node : Node) → node_at s e ≡ Some node
+      → Tells (cell rows e n) (rule (λ c m. class_number classes c) (number_at rows) e node n)
   pub each_tail : HasTails s rows tails n
 
 -- Nothing but numbers of this size was changed.

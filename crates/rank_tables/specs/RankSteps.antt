@@ -1,4 +1,5 @@
--- A rank from the tokens: steps in preorder, and what stands on the stack when they are taken from the last to the first.
+-- A rank from the tokens: steps in preorder, and what stands on the stack when they are taken from
+-- the last to the first.
 use Rattle.std.specs.Prelude.{◌≡◌, ℕ, ◌+◌, ◌-◌, ◌*◌, ◌<◌, List, [], ◌∷◌, map}
 use Rattle.bz_model.specs.Spec.{Spec}
 use Rattle.bz_model.specs.Object.{more, none}
@@ -53,8 +54,13 @@ pub record IsFirstTold (p : Placed) (told : List Told) : Type 0 where
   pub rest : List Placed
   pub all : TellStack (p ∷ rest) told
 
--- Whatever the two rows tell, the whole tells the size and the place of a first object before others.
-pub record IsJoined (left : Cells) (e : ℕ) (right : Cells) (d : ℕ) (first rest whole : Placed) : Type 0 where
+-- Whatever the two rows tell, the whole tells the size and the place of a first object before
+-- others.
+pub record IsJoined (left : Cells) (e : ℕ) (right : Cells) (d : ℕ) (first rest whole : Placed)
+    : Type 0 where
   pub size : whole.size ≡ first.size + rest.size
   pub fits : whole.size < left.sizes
-  pub place : (f g : ℕ → ℕ) (x y : ℕ) → TellRow left e whole.size f → TellRow right d whole.size g → Tells first.place x → Tells rest.place y → Tells whole.place (sum_below first.size (λ j. f j * g (whole.size - j)) + x * g rest.size + y)
+  pub place : (f g : ℕ → ℕ) (x y : ℕ) → TellRow left e whole.size f → TellRow right d whole.size g
+      → Tells first.place x → Tells rest.place y
+      → Tells whole.place (sum_below first.size (λ j. f j * g (whole.size - j)) + x * g rest.size
+      + y)

@@ -7,9 +7,11 @@ use Rattle.rank_tables.specs.Grids.{Cells, cell, number_at}
 use Rattle.rank_tables.specs.Refusals.{IsFirstRanged, HasPlainRanges, IsTooMany}
 use Rattle.rank_tables.specs.TableRule.{IsTable}
 use Rattle.rank_tables.specs.declared.rank_tables.RankFault.{RankFault}
-use Rattle.rank_tables.specs.declared.rank_tables.RankFault.TheVariants.{Labelled, Ranged, TooMany, OutOfMemory}
+use Rattle.rank_tables.specs.declared.rank_tables.RankFault.TheVariants.{Labelled, Ranged, TooMany}
+use Rattle.rank_tables.specs.declared.rank_tables.RankFault.TheVariants.{OutOfMemory}
 
--- The numbers of all nodes and sizes and, for each part of a product, those of the lists of one object of it and of each part behind it.
+-- The numbers of all nodes and sizes and, for each part of a product, those of the lists of one
+-- object of it and of each part behind it.
 pub record Table : Type 0 where
   pub counts : Cells
   pub tails : Cells
@@ -23,7 +25,9 @@ pub record AreKnown (g : Cells) : Type 0 where
   pub few : g.sizes ≤ 501
   pub known : (e n : ℕ) → e < g.nodes → n < g.sizes → cell g e n ≢ None
 
--- The specification is unlabelled and has plain ranges alone, and the table has the counts of all its nodes for the sizes up to the greatest, by the table rule, and the numbers of the tails of its products.
+-- The specification is unlabelled and has plain ranges alone, and the table has the counts of all
+-- its nodes for the sizes up to the greatest, by the table rule, and the numbers of the tails of
+-- its products.
 pub record AreCounts (s : Spec) (most : ℕ) (table : Table) : Type 0 where
   pub unlabelled : s.mode ≡ Mode.Unlabelled
   pub plain : HasPlainRanges s
@@ -33,11 +37,13 @@ pub record AreCounts (s : Spec) (most : ℕ) (table : Table) : Type 0 where
   pub each_row : IsTable s most (told table)
   pub each_tail : (n : ℕ) → n ≤ most → HasTails s table.counts table.tails n
 
--- Why no table is made: the specification is labelled; else the first node whose range isn't plain; else the first size and node with too many objects.
+-- Why no table is made: the specification is labelled; else the first node whose range isn't plain;
+-- else the first size and node with too many objects.
 abbrev pub TellsFault : Spec → ℕ → RankFault → Type 0
 TellsFault s most Labelled = s.mode ≡ Mode.Labelled
 TellsFault s most (Ranged e) = (s.mode ≡ Mode.Unlabelled) × IsFirstRanged s e.0
-TellsFault s most (TooMany e n) = (s.mode ≡ Mode.Unlabelled) × HasPlainRanges s × IsTooMany s most e.0 n
+TellsFault s most (TooMany e n) = (s.mode ≡ Mode.Unlabelled) × HasPlainRanges s
+    × IsTooMany s most e.0 n
 TellsFault s most OutOfMemory = Unit {0}
 
 -- The number is below the count of the class's body at the size.

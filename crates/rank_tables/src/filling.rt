@@ -1,15 +1,18 @@
 //! The filling of a table: passes from zero at each size.
 //!
-//! At one size the classes begin with no object. A pass computes the numbers of all nodes from those
+//! At one size the classes begin with no object. A pass computes the numbers of all nodes from
+//! those
 //! of the classes, and the numbers of the classes' bodies are the next ones of the classes. A pass
 //! that changes nothing ends the size. This is Kleene iteration for counts.
-ghost use Rattle.std.specs.Prelude.{◌≡◌, ◌≢◌, ℕ, ◌+◌, ◌^◌, ◌<◌, ◌≤◌, ◌⊎◌, length, replicate, slice_get, Some, IfSome, IfNone, IfOk, IfErr, OnOk};
+ghost use Rattle.std.specs.Prelude.{◌≡◌, ◌≢◌, ℕ, ◌+◌, ◌^◌, ◌<◌, ◌≤◌, ◌⊎◌, length, replicate};
+ghost use Rattle.std.specs.Prelude.{slice_get, Some, IfSome, IfNone, IfOk, IfErr, OnOk};
 ghost use Rattle.std.specs.Bool.{OnFalse};
 ghost use Rattle.bz_laws.specs.Lists.{IsOneOf};
 ghost use Rattle.bz_model.specs.Spec.{Node, node_at, body_of};
 ghost use Rattle.bz_model.specs.Spec as model;
 ghost use Rattle.rank_tables.specs.Capped.{Tells, IsSettled};
-ghost use Rattle.rank_tables.specs.Filling.{IsGridOf, class_number, HasTails, IsPass, ChangesSize, IsFilledBelow};
+ghost use Rattle.rank_tables.specs.Filling.{IsGridOf, class_number, HasTails, IsPass, ChangesSize};
+ghost use Rattle.rank_tables.specs.Filling.{IsFilledBelow};
 ghost use Rattle.rank_tables.specs.Grids.{cell, number_at, AreSuffixes};
 ghost use Rattle.rank_tables.specs.TableRule.{rule, IsRankable};
 ghost use Rattle.rank_tables.specs.Visits.{product_parts};

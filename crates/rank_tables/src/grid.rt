@@ -1,11 +1,13 @@
 //! Numbers of nodes and sizes in the making, each of which may pass `2^128 - 1`.
-ghost use Rattle.std.specs.Prelude.{◌≡◌, ◌≢◌, ℕ, suc, ◌+◌, ◌-◌, ◌*◌, ◌^◌, ◌<◌, ◌≤◌, ◌⊎◌, IfOk, map, sum_by};
+ghost use Rattle.std.specs.Prelude.{◌≡◌, ◌≢◌, ℕ, suc, ◌+◌, ◌-◌, ◌*◌, ◌^◌, ◌<◌, ◌≤◌, ◌⊎◌, IfOk, map};
+ghost use Rattle.std.specs.Prelude.{sum_by};
 ghost use Rattle.std.specs.List.{AllByRecursion};
 ghost use Rattle.bz_model.specs.Totals.{IsDistinct};
 ghost use Rattle.bz_laws.specs.Lists.{IsOneOf};
 ghost use Rattle.class_system.specs.Views.{number};
 ghost use Rattle.rank_tables.specs.Capped.{Tells};
-ghost use Rattle.rank_tables.specs.Grids.{cell, number_of, number_at, TellRow, AreSuffixes};
+ghost use Rattle.rank_tables.specs.Grids.{known_number, cell, number_of, number_at, TellRow};
+ghost use Rattle.rank_tables.specs.Grids.{AreSuffixes};
 ghost use Rattle.rank_tables.specs.TableRule.{one_at, sum_below};
 
 use crate::capped::{plus, times};
@@ -14,22 +16,48 @@ use std::alloc::{AllocError, Global};
 use std::marker::Model;
 
 /// For each node one number for each size from 0 on.
+///
+/// The numbers and whether each is known stand apart, so that a number takes 17 bytes.
 #[derive(Drop)]
 pub struct Grid {
-    cells: Vec<Option<u128>>,
+    known: Vec<bool>,
+    numbers: Vec<u128>,
     nodes: usize,
     sizes: usize,
 }
 
 impl Model for Grid {
     ghost use Rattle.std.specs.Prelude.{◌≡◌, ◌*◌, length};
-    ghost use Rattle.rank_tables.specs.Grids.{Cells};
+    ghost use Rattle.rank_tables.specs.Grids.{Cells, known_numbers};
 
     ghost Value = { Cells };
 
-    ghost view = { λ g. record { cells = g.cells.items; nodes = g.nodes; sizes = g.sizes } };
+    ghost view = { λ g. record {
+      cells = known_numbers g.known.items g.numbers.items;
+      nodes = g.nodes;
+      sizes = g.sizes;
+    } };
 
-    ghost invariant = { λ g. length g.cells.items ≡ g.nodes * g.sizes };
+    ghost invariant = { λ g. (length g.known.items ≡ g.nodes * g.sizes)
+        × (length g.numbers.items ≡ g.nodes * g.sizes) };
+}
+
+/// A number from whether it is known and what it is then.
+fn number_of_parts(known: bool, plain: u128) -> Option<u128>
+    ensures exact { result ≡ known_number known plain }
+    ensures small { number_of result ≤ 2 ^ 128 }
+{
+    if known { Some(plain) } else { None }
+}
+
+/// Whether a number is known, and what it is then.
+fn parts_of_number(number: Option<u128>) -> (bool, u128)
+    ensures { known_number result.0 result.1 ≡ number }
+{
+    match number {
+        Some(plain) => (true, plain),
+        None => (false, 0),
+    }
 }
 
 impl Grid {
@@ -40,9 +68,11 @@ impl Grid {
         ensures nodes { IfOk result (λ grid. grid.nodes ≡ nodes) }
         ensures sizes { IfOk result (λ grid. grid.sizes ≡ sizes) }
     {
-        let cells = vec![in alloc; Some(0); nodes * sizes]?;
+        let known = vec![in alloc; true; nodes * sizes]?;
+        let numbers = vec![in alloc; 0; nodes * sizes]?;
         Ok(Grid {
-            cells,
+            known,
+            numbers,
             nodes,
             sizes,
         })
@@ -50,7 +80,7 @@ impl Grid {
 
     /// Where the grid takes its memory from.
     pub fn allocator(&self) -> Global {
-        *self.cells.allocator()
+        *self.numbers.allocator()
     }
 
     /// The number of a node at a size. Takes no memory.
@@ -60,11 +90,8 @@ impl Grid {
         ensures exact { result ≡ cell self.now e.0 n }
         ensures small { number_of result ≤ 2 ^ 128 }
     {
-        let number = self.cells[e.0 as usize * self.sizes + n];
-        match number {
-            Some(k) => Some(k),
-            None => None,
-        }
+        let place = e.0 as usize * self.sizes + n;
+        number_of_parts(self.known[place], self.numbers[place])
     }
 
     /// Changes the number of a node at a size, and no other. Takes no memory.
@@ -77,7 +104,10 @@ impl Grid {
         ensures others { (d m : ℕ) → m < self.old.sizes → (d ≢ e.0) ⊎ (m ≢ n) → cell self.new d m
             ≡ cell self.old d m }
     {
-        self.cells[e.0 as usize * self.sizes + n] = number;
+        let place = e.0 as usize * self.sizes + n;
+        let (known, plain) = parts_of_number(number);
+        self.known[place] = known;
+        self.numbers[place] = plain;
     }
 
     /// How many sizes there are. Takes no memory.
@@ -155,7 +185,8 @@ impl Grid {
         sum
     }
 
-    /// Sets, for each part of a product, the number at size n of the lists of one object of this part
+    /// Sets, for each part of a product, the number at size n of the lists of one object of this
+    /// part
     /// and of each part behind it, from the last part on. Takes no memory.
     pub fn set_suffixes(&mut self, rows: &Grid, parts: &[ExprId], n: usize)
         requires nodes { self.old.nodes ≡ rows.now.nodes }

@@ -2,18 +2,21 @@
 //! first.
 //!
 //! The calls give up where a stack is too short or a size too great, which the walk rules out.
-ghost use Rattle.std.specs.Prelude.{◌≡◌, ℕ, ◌+◌, ◌-◌, ◌*◌, ◌<◌, ◌≤◌, List, map, length, option_to_list, IfOk, OnOk};
+ghost use Rattle.std.specs.Prelude.{◌≡◌, ℕ, ◌+◌, ◌-◌, ◌*◌, ◌<◌, ◌≤◌, List, map, length};
+ghost use Rattle.std.specs.Prelude.{option_to_list, IfOk, OnOk};
 ghost use Rattle.std.specs.List.{AllByRecursion};
 ghost use Rattle.bz_model.specs.Spec as model;
 ghost use Rattle.class_system.specs.Views.{number};
 ghost use Rattle.object_store.specs.Tokens.{IsOf};
 ghost use Rattle.rank_tables.specs.Capped.{Tells};
 ghost use Rattle.rank_tables.specs.Grids.{number_at, TellRow, AreSuffixes};
-ghost use Rattle.rank_tables.specs.RankSteps.{visit_of, step_at, AreStepsOf, IsTold, TellStack, IsFirstTold, IsJoined};
+ghost use Rattle.rank_tables.specs.RankSteps.{visit_of, step_at, AreStepsOf, IsTold, TellStack};
+ghost use Rattle.rank_tables.specs.RankSteps.{IsFirstTold, IsJoined};
 ghost use Rattle.rank_tables.specs.TableRule.{sum_below};
 ghost use Rattle.rank_tables.specs.Unranking.{IsCounted};
 ghost use Rattle.rank_tables.specs.Visits.{Visit as model_visit};
-ghost use Rattle.rank_tables.specs.Visits.{Told, whole_size, tuple_place, list_place, visited, all_visited};
+ghost use Rattle.rank_tables.specs.Visits.{Told, whole_size, tuple_place, list_place, visited};
+ghost use Rattle.rank_tables.specs.Visits.{all_visited};
 
 use crate::capped::{plus, times};
 use crate::grid::Grid;

@@ -1,5 +1,6 @@
 //! Counting tables, and ranks by them.
-ghost use Rattle.std.specs.Prelude.{◌≡◌, ℕ, ◌^◌, ◌<◌, ◌≤◌, IfOk, IfErr, IfSome, IfNone, OnOk, length};
+ghost use Rattle.std.specs.Prelude.{◌≡◌, ℕ, ◌^◌, ◌<◌, ◌≤◌, IfOk, IfErr, IfSome, IfNone, OnOk};
+ghost use Rattle.std.specs.Prelude.{length};
 ghost use Rattle.bz_model.specs.Spec.{Spec};
 ghost use Rattle.bz_model.specs.Spec as model;
 ghost use Rattle.bz_model.specs.WellFounded.{IsWellFounded};
@@ -69,7 +70,7 @@ impl Model for RankTables {
 impl RankTables {
     /// Counts the objects of all nodes for the sizes up to `most`.
     ///
-    /// Refused are labels, then ranges, then counts above `2^128 - 1`, of whichever node. Takes 64
+    /// Refused are labels, then ranges, then counts above `2^128 - 1`, of whichever node. Takes 34
     /// bytes for each node and size.
     pub fn make(alloc: Global, founded: &Founded, most: u64) -> Result<RankTables, RankFault>
         requires small { most ≤ 500 }

@@ -1,4 +1,5 @@
-//! How a number comes apart: into a size and two lesser numbers, or into an option and a lesser one.
+//! How a number comes apart: into a size and two lesser numbers, or into an option and a lesser
+//! one.
 ghost use Rattle.std.specs.Prelude.{◌≡◌, ℕ, suc, ◌+◌, ◌-◌, ◌*◌, ◌<◌, ◌≤◌, map, length, sum_by};
 ghost use Rattle.std.specs.List.{AllByRecursion};
 ghost use Rattle.class_system.specs.Views.{number};
@@ -61,7 +62,8 @@ pub fn split_number(
     }
 }
 
-/// The number of a first object of a size, and that of the rest, where each first object has so many
+/// The number of a first object of a size, and that of the rest, where each first object has so
+/// many
 /// rests. A number of rests that passes is above every number.
 fn divide(first: usize, number: u128, rests: Option<u128>) -> Split
     ensures first { result.first ≡ first }

@@ -2,14 +2,16 @@
 //!
 //! A task is an object of a node and a size, by its number. A union's task becomes that of a part,
 //! a product's or a sequence's those of its parts, from left to right.
-ghost use Rattle.std.specs.Prelude.{◌≡◌, ℕ, suc, ◌+◌, ◌-◌, ◌*◌, ◌<◌, ◌≤◌, map, length, IfOk, OnOk, Some};
+ghost use Rattle.std.specs.Prelude.{◌≡◌, ℕ, suc, ◌+◌, ◌-◌, ◌*◌, ◌<◌, ◌≤◌, map, length, IfOk, OnOk};
+ghost use Rattle.std.specs.Prelude.{Some};
 ghost use Rattle.std.specs.List.{AllByRecursion};
 ghost use Rattle.bz_model.specs.Spec.{Spec};
 ghost use Rattle.bz_model.specs.Spec as model;
 ghost use Rattle.class_system.specs.Views.{number};
 ghost use Rattle.rank_tables.specs.Grids.{number_at, AreSuffixes};
 ghost use Rattle.rank_tables.specs.TableRule.{one_at, sum_below, tuples};
-ghost use Rattle.rank_tables.specs.Unranking.{AreTupleTasks, AreListTasks, Fulfils, IsTask, IsReplaced, IsCounted};
+ghost use Rattle.rank_tables.specs.Unranking.{AreTupleTasks, AreListTasks, Fulfils, IsTask};
+ghost use Rattle.rank_tables.specs.Unranking.{IsReplaced, IsCounted};
 
 use crate::grid::Grid;
 use crate::splits::{find_part, split_number};

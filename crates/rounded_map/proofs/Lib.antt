@@ -11,3 +11,4 @@ pub mod EachValued
 pub mod SlopesRunning
 pub mod Replaced
 pub mod SlopesLess
+pub mod FixedTests

@@ -1,6 +1,6 @@
 -- Which series belongs to a counted construction of the code.
-use Rattle.rounded_map.specs.declared.slopes.Counted.{Counted}
-use Rattle.rounded_map.specs.declared.slopes.Counted.TheVariants.{Sequence, Set, Cycle}
+use Rattle.rounded_map.specs.declared.counted_derivative.Counted.{Counted}
+use Rattle.rounded_map.specs.declared.counted_derivative.Counted.TheVariants.{Sequence, Set, Cycle}
 use Rattle.series_bounds.specs.Series.{Kind}
 
 abbrev pub kind_of : Counted → Kind

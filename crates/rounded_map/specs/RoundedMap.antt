@@ -1,6 +1,9 @@
--- The rounded map: the values of nodes from a vector of class values, its sweeps, and what post-fixed means. A
+-- The rounded map: the values of nodes from a vector of class values, its sweeps, and what
+-- post-fixed means. A
 -- vector has one number for each class. An upper value is None where there is no value.
-use Rattle.std.specs.Prelude.{◌≡◌, ◌≢◌, ◌<◌, ℕ, zero, suc, ◌^◌, min, max, Bool, false, nat_le, List, [], ◌∷◌, map, length, slice_index, slice_index_or, Option, Some, None, option_map, option_and_then}
+use Rattle.std.specs.Prelude.{◌≡◌, ◌≢◌, ◌<◌, ℕ, zero, suc, ◌^◌, min, max, Bool, false, nat_le, List}
+use Rattle.std.specs.Prelude.{[], ◌∷◌, map, length, slice_index, slice_index_or, Option, Some, None}
+use Rattle.std.specs.Prelude.{option_map, option_and_then}
 use Rattle.std.specs.List.{list_all}
 use Rattle.bz_model.specs.Spec.{Spec, Node, Range}
 use Rattle.class_system.specs.NodeResults.{node_results, ranged_nodes}
@@ -48,21 +51,30 @@ value_down t classes before (Node.Empty word) range = 2 ^ t.bits
 value_down t classes before (Node.Atom word) range = atom_down t.bits t.num t.den
 value_down t classes before (Node.Class c) range = slice_index classes c
 value_down t classes before (Node.Union parts) range = total_down (map (slice_index before) parts)
-value_down t classes before (Node.Product parts) range = product_down t.bits (map (slice_index before) parts)
-value_down t classes before (Node.Seq part) range = counted_down Kind.Seq t.bits range (slice_index before part)
-value_down t classes before (Node.Set part) range = counted_down Kind.Set t.bits range (slice_index before part)
-value_down t classes before (Node.Cyc part) range = counted_down Kind.Cyc t.bits range (slice_index before part)
+value_down t classes before (Node.Product parts) range =
+    product_down t.bits (map (slice_index before) parts)
+value_down t classes before (Node.Seq part) range =
+    counted_down Kind.Seq t.bits range (slice_index before part)
+value_down t classes before (Node.Set part) range =
+    counted_down Kind.Set t.bits range (slice_index before part)
+value_down t classes before (Node.Cyc part) range =
+    counted_down Kind.Cyc t.bits range (slice_index before part)
 
 -- A node's upper value from the class vector and the values of the nodes before it.
-abbrev pub value_up : Setting → (classes : List ℕ) → (before : List (Option ℕ)) → Node → Range → Option ℕ
+abbrev pub value_up : Setting → (classes : List ℕ) → (before : List (Option ℕ)) → Node → Range
+    → Option ℕ
 value_up t classes before (Node.Empty word) range = Some (2 ^ t.bits)
 value_up t classes before (Node.Atom word) range = atom_up t.bits t.num t.den
 value_up t classes before (Node.Class c) range = Some (slice_index classes c)
 value_up t classes before (Node.Union parts) range = total_up (map (value_at before) parts)
-value_up t classes before (Node.Product parts) range = product_up t.bits (map (value_at before) parts)
-value_up t classes before (Node.Seq part) range = option_and_then (counted_up Kind.Seq t.bits range) (value_at before part)
-value_up t classes before (Node.Set part) range = option_and_then (counted_up Kind.Set t.bits range) (value_at before part)
-value_up t classes before (Node.Cyc part) range = option_and_then (counted_up Kind.Cyc t.bits range) (value_at before part)
+value_up t classes before (Node.Product parts) range =
+    product_up t.bits (map (value_at before) parts)
+value_up t classes before (Node.Seq part) range =
+    option_and_then (counted_up Kind.Seq t.bits range) (value_at before part)
+value_up t classes before (Node.Set part) range =
+    option_and_then (counted_up Kind.Set t.bits range) (value_at before part)
+value_up t classes before (Node.Cyc part) range =
+    option_and_then (counted_up Kind.Cyc t.bits range) (value_at before part)
 
 -- The lower and the upper values of all nodes.
 abbrev pub values_down : Setting → (classes : List ℕ) → List ℕ
@@ -98,14 +110,18 @@ is_at_most (Some v) entry = nat_le v entry
 
 -- Each body has an upper value that is at most its class's entry.
 abbrev pub is_post_fixed : Setting → List ℕ → Bool
-is_post_fixed t classes = list_all (λ b. b) (at_each is_at_most (bodies_up t (values_up t classes)) classes)
+is_post_fixed t classes =
+    list_all (λ b. b) (at_each is_at_most (bodies_up t (values_up t classes)) classes)
 
--- The same as a fact: where a vector is post-fixed, there is an entry for each class, and no body's upper value is greater than its class's entry.
+-- The same as a fact: where a vector is post-fixed, there is an entry for each class, and no body's
+-- upper value is greater than its class's entry.
 pub record IsPostFixed (t : Setting) (classes : List ℕ) : Type 0 where
   pub each : AreNoGreater (bodies_up t (values_up t classes)) (map Some classes)
 
--- At the first place where one of some values is greater than its class's entry, it is this value, or there is none.
-pub record IsFirstAbove (values : List (Option ℕ)) (classes : List ℕ) (place : ℕ) (got : Option ℕ) : Type 0 where
+-- At the first place where one of some values is greater than its class's entry, it is this value,
+-- or there is none.
+pub record IsFirstAbove (values : List (Option ℕ)) (classes : List ℕ) (place : ℕ) (got : Option ℕ)
+    : Type 0 where
   pub within : place < length classes
   pub value : got ≡ value_at values place
   pub above : ¬ IsNoGreater got (Some (slice_index classes place))

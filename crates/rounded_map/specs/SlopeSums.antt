@@ -8,10 +8,12 @@ use Rattle.rounded_map.specs.Derivative.{slope_kind, slope_term, slope_sum}
 abbrev pub slope_kept : Kind → (low j p : ℕ) → ℕ
 slope_kept kind low j p = if nat_lt j low then 0 else slope_term kind j p
 
--- The sum s, with what the terms of a list add, the first for j parts. It has no value where a term or the sum doesn't fit.
+-- The sum s, with what the terms of a list add, the first for j parts. It has no value where a term
+-- or the sum doesn't fit.
 abbrev pub slope_run : Kind → (low j s : ℕ) → List ℕ → Option ℕ
 slope_run kind low j s [] = if_fits s
-slope_run kind low j s (p ∷ ps) = let further = slope_run kind low (suc j) (s + slope_kept kind low j p) ps in if fits p then further else None
+slope_run kind low j s (p ∷ ps) = let further =
+    slope_run kind low (suc j) (s + slope_kept kind low j p) ps in if fits p then further else None
 
 -- The sum of what the derivative adds from low parts to high parts.
 unfoldable pub slope_between : Kind → (f low high v : ℕ) → Option ℕ

@@ -1,13 +1,16 @@
 //! Whether the rounded map contracts along some weights: whether each body's derivative along them
 //! is less than the class's weight.
-ghost use Rattle.std.specs.Prelude.{◌≡◌, ℕ, ◌+◌, ◌<◌, ◌≤◌, map, length, Some, OnOk, IfErr, IsTrue, ◌↔◌};
+ghost use Rattle.std.specs.Prelude.{◌≡◌, ℕ, ◌+◌, ◌<◌, ◌≤◌, map, length, Some, OnOk, IfErr, IsTrue};
+ghost use Rattle.std.specs.Prelude.{◌↔◌};
 ghost use Rattle.std.specs.List.{AllZip};
+ghost use Rattle.bz_model.specs.Fraction.{IsFractionBits};
 ghost use Rattle.class_system.specs.Each.{Each};
 ghost use Rattle.class_system.specs.Views.{number};
 ghost use Rattle.rounded_map.specs.RoundedMap.{setting, value_at};
-ghost use Rattle.rounded_map.specs.Contracting.{IsLess, body_slopes, AreContracting, IsFirstNotLess};
+ghost use Rattle.rounded_map.specs.Contracting.{IsLess, body_slopes, AreContracting};
+ghost use Rattle.rounded_map.specs.Contracting.{IsFirstNotLess};
 
-use crate::dual::fill_derivatives;
+use crate::derivative::fill_derivatives;
 use crate::upper::MOST_NODES;
 use bz_model::fraction::Fraction;
 use bz_model::steps::Steps;
@@ -28,7 +31,7 @@ pub fn is_contracting<const F: u32, L: Ledger>(
     weights: &[u64],
     steps: &mut Steps<L>,
 ) -> Result<(), ClassId>
-    requires fraction_bits { (24 ≤ F) × (F ≤ 56) }
+    requires fraction_bits { IsFractionBits F }
     requires one_per_class { length weights.now ≡ length system.now.bodies }
     requires one_value_per_node { length values.now ≡ length system.now.nodes }
     ensures ok { OnOk result (AreContracting (setting system.now _x.num _x.den F)

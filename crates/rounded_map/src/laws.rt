@@ -2,13 +2,16 @@
 //! are monotone.
 //!
 //! Each law is a function without effect, whose clauses hold of all values that they name.
-ghost use Rattle.std.specs.Prelude.{◌≡◌, ℕ, suc, ◌<◌, List, length, replicate, Some};
+ghost use Rattle.std.specs.Prelude.{◌≡◌, ℕ, suc, ◌<◌, List, length, replicate, Some, IsTrue, ◌↔◌};
 ghost use Rattle.bz_model.specs.Fraction.{Fraction};
 ghost use Rattle.bz_model.specs.Spec.{Spec};
 ghost use Rattle.class_system.specs.Sound.{IsSound};
 ghost use Rattle.fixed_enclosure.specs.UpperValues.{AreNoGreater, AreAtMost};
-ghost use Rattle.rounded_map.specs.RoundedMap.{Setting, setting, value_at, repeated, values_down, values_up, sweep_down, sweep_up, IsPostFixed};
-ghost use Rattle.rounded_map.specs.Bounding.{AreAbove, AreAboveWithin, AreBelow, ValuesAbove, ValuesAboveWithin, ValuesBelow};
+ghost use Rattle.rounded_map.specs.RoundedMap.{Setting, setting, value_at, repeated, values_down};
+ghost use Rattle.rounded_map.specs.RoundedMap.{values_up, sweep_down, sweep_up, is_post_fixed};
+ghost use Rattle.rounded_map.specs.RoundedMap.{IsPostFixed};
+ghost use Rattle.rounded_map.specs.Bounding.{AreAbove, AreAboveWithin, AreBelow, ValuesAbove};
+ghost use Rattle.rounded_map.specs.Bounding.{ValuesAboveWithin, ValuesBelow};
 
 /// Where the entries bound the classes, the upper values bound the nodes. By height: of one height
 /// more; and of height 0 whatever the entries are.
@@ -24,7 +27,8 @@ pub fn bounding_entries_give_bounding_values()
 
 /// Where the entries are reached by the classes, the lower values are reached by the nodes.
 pub fn reached_entries_give_reached_values()
-    ensures { (s : Spec) (x : Fraction) (F : ℕ) (classes : List ℕ) → IsSound s → AreBelow s x F classes
+    ensures { (s : Spec) (x : Fraction) (F : ℕ) (classes : List ℕ) → IsSound s
+        → AreBelow s x F classes
         → ValuesBelow s x F (values_down (setting s x.num x.den F) classes) }
 {}
 
@@ -66,5 +70,15 @@ pub fn lower_sweeps_are_reached()
         → length classes ≡ length s.bodies → AreBelow s x F classes
         → AreBelow s x F (sweep_down (setting s x.num x.den F) classes) }
     ensures from_zero { (s : Spec) (x : Fraction) (F n : ℕ) → IsSound s
-        → AreBelow s x F (repeated (sweep_down (setting s x.num x.den F)) n (replicate (length s.bodies) 0)) }
+        → AreBelow s x F (repeated (sweep_down (setting s x.num x.den F)) n
+        (replicate (length s.bodies) 0)) }
+{}
+
+/// The test whether a vector is post-fixed and the fact that it is agree on vectors that have an
+/// entry for each class, and a vector for which the fact holds is one of these.
+pub fn the_test_and_the_fact_agree()
+    ensures same { (t : Setting) (classes : List ℕ) → length classes ≡ length t.spec.bodies
+        → IsTrue (is_post_fixed t classes) ↔ IsPostFixed t classes }
+    ensures length { (t : Setting) (classes : List ℕ) → IsPostFixed t classes
+        → length classes ≡ length t.spec.bodies }
 {}

@@ -1,4 +1,5 @@
-//! Node values by the rounded map, sweeps of class vectors, and the test that a vector is post-fixed.
+//! Node values by the rounded map, sweeps of class vectors, and the test that a vector is
+//! post-fixed.
 //!
 //! A class vector has one number for each class, in units of `2^-F`. The values of all nodes, lower
 //! and upper, the sweeps and the derivative are those of `specs/RoundedMap.antt` and
@@ -8,13 +9,13 @@
 #![tactic(auto)]
 
 pub mod contraction;
-pub mod dual;
+mod counted_derivative;
+pub mod derivative;
 pub mod laws;
 pub mod lower;
-mod slopes;
 pub mod upper;
 
 pub use contraction::is_contracting;
-pub use dual::sweep_dual;
+pub use derivative::sweep_dual;
 pub use lower::{eval_lo, sweep_lo};
 pub use upper::{NoValue, PostFault, eval_hi, is_post_fixed, sweep_hi};

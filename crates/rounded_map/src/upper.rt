@@ -1,7 +1,8 @@
 //! Upper values of the nodes, upper sweeps, and the test that a vector is post-fixed.
-ghost use Rattle.std.specs.Prelude.{◌≡◌, ℕ, ◌+◌, ◌<◌, ◌≤◌, map, length, Some, option_and_then, OnOk, IfErr, IsTrue, ◌↔◌};
+ghost use Rattle.std.specs.Prelude.{◌≡◌, ℕ, ◌+◌, ◌<◌, ◌≤◌, map, length, Some, option_and_then};
+ghost use Rattle.std.specs.Prelude.{OnOk, IfErr, IsTrue, ◌↔◌};
 ghost use Rattle.fixed_enclosure.specs.UpperValues.{IsNoGreater, AreNoGreater};
-ghost use Rattle.bz_model.specs.Fraction.{ratio};
+ghost use Rattle.bz_model.specs.Fraction.{ratio, IsFractionBits};
 ghost use Rattle.bz_model.specs.Spec.{Spec};
 ghost use Rattle.class_system.specs.Each.{Each};
 ghost use Rattle.class_system.specs.Sound.{RefersBelow, HasTextRange, IsTextRange};
@@ -10,7 +11,9 @@ ghost use Rattle.class_system.specs.NodeOrder.{parts_of};
 ghost use Rattle.fixed_enclosure.specs.Rounded.{atom_up, add_up, mul_up, of_both};
 ghost use Rattle.series_bounds.specs.Series.{Kind, counted_up};
 ghost use Rattle.series_bounds.specs.Lists.{total_up, product_up};
-ghost use Rattle.rounded_map.specs.RoundedMap.{setting, at_each, lesser, value_at, value_up, values_up, bodies_up, sweep_up, IsPostFixed, IsFirstAbove, IsFirstMissing};
+ghost use Rattle.rounded_map.specs.RoundedMap.{setting, at_each, lesser, value_at, value_up};
+ghost use Rattle.rounded_map.specs.RoundedMap.{values_up, bodies_up, sweep_up, IsPostFixed};
+ghost use Rattle.rounded_map.specs.RoundedMap.{IsFirstAbove, IsFirstMissing};
 ghost use Rattle.rounded_map.specs.Bounding.{AreAbove, ValuesAbove};
 
 use bz_model::fraction::Fraction;
@@ -57,12 +60,16 @@ pub fn eval_hi<const F: u32, L: Ledger>(
     nodes: &mut [u64],
     steps: &mut Steps<L>,
 ) -> Result<(), NoValue>
-    requires fraction_bits { (24 ≤ F) × (F ≤ 56) }
+    requires fraction_bits { IsFractionBits F }
     requires one_per_class { length classes.now ≡ length system.now.bodies }
     requires one_per_node { length nodes.old ≡ length system.now.nodes }
-    ensures values { OnOk result (map Some nodes.new ≡ values_up (setting system.now x.num x.den F) classes.now) }
-    ensures bounds { OnOk result (AreAbove system.now (ratio x.num x.den) F classes.now → ValuesAbove system.now (ratio x.num x.den) F (map Some nodes.new)) }
-    ensures fault { IfErr result (λ fault. IsFirstMissing (values_up (setting system.now x.num x.den F) classes.now) fault.node.0) }
+    ensures values { OnOk result (map Some nodes.new ≡ values_up (setting system.now x.num x.den F)
+        classes.now) }
+    ensures bounds { OnOk result (AreAbove system.now (ratio x.num x.den) F classes.now
+        → ValuesAbove system.now (ratio x.num x.den) F (map Some nodes.new)) }
+    ensures fault { IfErr result
+        (λ fault. IsFirstMissing (values_up (setting system.now x.num x.den F) classes.now)
+        fault.node.0) }
     ensures ticks { steps.new ≡ steps.old + 1 }
 {
     steps.tick();
@@ -99,7 +106,7 @@ fn fill_values<const F: u32>(
     classes: &[u64],
     values: &mut [Option<u64>],
 )
-    requires fraction_bits { (24 ≤ F) × (F ≤ 56) }
+    requires fraction_bits { IsFractionBits F }
     requires one_per_class { length classes.now ≡ length system.now.bodies }
     requires one_per_node { length values.old ≡ length system.now.nodes }
     ensures values { values.new ≡ values_up (setting system.now x.num x.den F) classes.now }
@@ -115,7 +122,7 @@ fn fill_values<const F: u32>(
 
 /// The upper value of an atom.
 fn atom_hi<const F: u32>(x: Fraction) -> Option<u64>
-    requires fraction_bits { (24 ≤ F) × (F ≤ 56) }
+    requires fraction_bits { IsFractionBits F }
     ensures { result ≡ atom_up F x.num x.den }
 {
     let atom = Hi::<F>::atom(x.num, x.den)?;
@@ -130,11 +137,13 @@ fn node_hi<const F: u32>(
     classes: &[u64],
     before: &[Option<u64>],
 ) -> Option<u64>
-    requires fraction_bits { (24 ≤ F) × (F ≤ 56) }
+    requires fraction_bits { IsFractionBits F }
     requires parts { Each (λ p. p < length before.now) (parts_of (spec_node node.now)) }
     requires class { RefersBelow (length classes.now) (spec_node node.now) }
     requires range { HasTextRange (spec_node node.now) (spec_range range) }
-    ensures value { (s : Spec) (num den : ℕ) → atom ≡ atom_up F num den → result ≡ value_up (setting s num den F) classes.now before.now (spec_node node.now) (spec_range range) }
+    ensures value { (s : Spec) (num den : ℕ) → atom ≡ atom_up F num den
+        → result ≡ value_up (setting s num den F) classes.now before.now (spec_node node.now)
+        (spec_range range) }
 {
     match node {
         Expr::Empty(_) => Some(power_of_two(F) as u64),
@@ -173,7 +182,7 @@ pub(crate) fn add_hi(a: Option<u64>, b: Option<u64>) -> Option<u64>
 
 /// The upper product of the values of parts, multiplied from left to right.
 fn product_hi<const F: u32>(parts: &[ExprId], before: &[Option<u64>]) -> Option<u64>
-    requires fraction_bits { (24 ≤ F) × (F ≤ 56) }
+    requires fraction_bits { IsFractionBits F }
     requires parts { Each (λ p. p < length before.now) (map number parts.now) }
     ensures product { result ≡ product_up F (map (value_at before.now) (map number parts.now)) }
 {
@@ -189,7 +198,7 @@ fn product_hi<const F: u32>(parts: &[ExprId], before: &[Option<u64>]) -> Option<
 
 /// The upper product of two values, where both are there.
 pub(crate) fn mul_hi<const F: u32>(a: Option<u64>, b: Option<u64>) -> Option<u64>
-    requires fraction_bits { (24 ≤ F) × (F ≤ 56) }
+    requires fraction_bits { IsFractionBits F }
     ensures { result ≡ of_both (mul_up F) a b }
 {
     let product = Hi::<F>(a?).mul(Hi(b?))?;
@@ -198,7 +207,7 @@ pub(crate) fn mul_hi<const F: u32>(a: Option<u64>, b: Option<u64>) -> Option<u64
 
 /// The upper value of sequences whose parts have the value.
 fn sequence_hi<const F: u32>(part: Option<u64>, range: Range) -> Option<u64>
-    requires fraction_bits { (24 ≤ F) × (F ≤ 56) }
+    requires fraction_bits { IsFractionBits F }
     requires range { IsTextRange 0 (spec_range range) }
     ensures { result ≡ option_and_then (counted_up Kind.Seq F (spec_range range)) part }
 {
@@ -213,7 +222,7 @@ fn sequence_hi<const F: u32>(part: Option<u64>, range: Range) -> Option<u64>
 
 /// The upper value of sets whose parts have the value.
 fn set_hi<const F: u32>(part: Option<u64>, range: Range) -> Option<u64>
-    requires fraction_bits { (24 ≤ F) × (F ≤ 56) }
+    requires fraction_bits { IsFractionBits F }
     requires range { IsTextRange 0 (spec_range range) }
     ensures { result ≡ option_and_then (counted_up Kind.Set F (spec_range range)) part }
 {
@@ -228,7 +237,7 @@ fn set_hi<const F: u32>(part: Option<u64>, range: Range) -> Option<u64>
 
 /// The upper value of cycles whose parts have the value.
 fn cycle_hi<const F: u32>(part: Option<u64>, range: Range) -> Option<u64>
-    requires fraction_bits { (24 ≤ F) × (F ≤ 56) }
+    requires fraction_bits { IsFractionBits F }
     requires range { IsTextRange 1 (spec_range range) }
     ensures { result ≡ option_and_then (counted_up Kind.Cyc F (spec_range range)) part }
 {
@@ -241,11 +250,13 @@ fn cycle_hi<const F: u32>(part: Option<u64>, range: Range) -> Option<u64>
     Some(value.0)
 }
 
-/// One upper sweep: each class gets the lesser of its entry and its body's upper value, and keeps its
+/// One upper sweep: each class gets the lesser of its entry and its body's upper value, and keeps
+/// its
 /// entry where there is none.
 ///
 /// `classes` has one entry per class and `nodes` one per node, both in units of `2^-F`. `nodes` is
-/// overwritten. Where the old entries bound the classes, the new ones do. One tick. Takes no memory.
+/// overwritten. Where the old entries bound the classes, the new ones do. One tick. Takes no
+/// memory.
 pub fn sweep_hi<const F: u32, L: Ledger>(
     system: &System,
     x: Fraction,
@@ -253,11 +264,12 @@ pub fn sweep_hi<const F: u32, L: Ledger>(
     nodes: &mut [u64],
     steps: &mut Steps<L>,
 )
-    requires fraction_bits { (24 ≤ F) × (F ≤ 56) }
+    requires fraction_bits { IsFractionBits F }
     requires one_per_class { length classes.old ≡ length system.now.bodies }
     requires one_per_node { length nodes.old ≡ length system.now.nodes }
     ensures swept { classes.new ≡ sweep_up (setting system.now x.num x.den F) classes.old }
-    ensures bounds { AreAbove system.now (ratio x.num x.den) F classes.old → AreAbove system.now (ratio x.num x.den) F classes.new }
+    ensures bounds { AreAbove system.now (ratio x.num x.den) F classes.old
+        → AreAbove system.now (ratio x.num x.den) F classes.new }
     ensures length { length nodes.new ≡ length nodes.old }
     ensures ticks { steps.new ≡ steps.old + 1 }
 {
@@ -274,7 +286,8 @@ pub fn sweep_hi<const F: u32, L: Ledger>(
 fn lower_entries(bodies: &[ExprId], values: &[Option<u64>], classes: &mut [u64])
     requires lengths { length classes.old ≡ length bodies.now }
     requires bodies { Each (λ body. body < length values.now) (map number bodies.now) }
-    ensures lowered { classes.new ≡ at_each lesser classes.old (map (value_at values.now) (map number bodies.now)) }
+    ensures lowered { classes.new
+        ≡ at_each lesser classes.old (map (value_at values.now) (map number bodies.now)) }
 {
     for c in 0..classes.len() {
         classes[c] = lesser_of(classes[c], values[bodies[c].0 as usize]);
@@ -294,9 +307,12 @@ fn lesser_of(entry: u64, value: Option<u64>) -> u64
 /// Tests that each class's body has an upper value that is at most the class's entry.
 ///
 /// `classes` has one entry per class and `nodes` one per node, both in units of `2^-F`. `nodes` is
-/// overwritten. `PostFault` comes exactly where some body has no value or one above its class's entry,
-/// with the least such class and that value. Where it answers Ok, each entry bounds what the objects
-/// of its class total, of whatever height. One tick. Takes no memory. Post-fixed is called pre-fixed
+/// overwritten. `PostFault` comes exactly where some body has no value or one above its class's
+/// entry,
+/// with the least such class and that value. Where it answers Ok, each entry bounds what the
+/// objects
+/// of its class total, of whatever height. One tick. Takes no memory. Post-fixed is called
+/// pre-fixed
 /// in some books.
 pub fn is_post_fixed<const F: u32, L: Ledger>(
     system: &System,
@@ -305,12 +321,16 @@ pub fn is_post_fixed<const F: u32, L: Ledger>(
     nodes: &mut [u64],
     steps: &mut Steps<L>,
 ) -> Result<(), PostFault>
-    requires fraction_bits { (24 ≤ F) × (F ≤ 56) }
+    requires fraction_bits { IsFractionBits F }
     requires one_per_class { length classes.now ≡ length system.now.bodies }
     requires one_per_node { length nodes.old ≡ length system.now.nodes }
     ensures post_fixed { OnOk result (IsPostFixed (setting system.now x.num x.den F) classes.now) }
     ensures bounds { OnOk result (AreAbove system.now (ratio x.num x.den) F classes.now) }
-    ensures fault { IfErr result (λ fault. IsFirstAbove (bodies_up (setting system.now x.num x.den F) (values_up (setting system.now x.num x.den F) classes.now)) classes.now fault.class_id.0 fault.got) }
+    ensures fault { IfErr result
+        (λ fault. IsFirstAbove
+        (bodies_up (setting system.now x.num x.den F)
+        (values_up (setting system.now x.num x.den F) classes.now)) classes.now fault.class_id.0
+        fault.got) }
     ensures length { length nodes.new ≡ length nodes.old }
     ensures ticks { steps.new ≡ steps.old + 1 }
 {
@@ -328,8 +348,10 @@ fn test_entries(bodies: &[ExprId], values: &[Option<u64>], classes: &[u64]) -> R
     requires lengths { length classes.now ≡ length bodies.now }
     requires few { length classes.now ≤ 64 }
     requires bodies { Each (λ body. body < length values.now) (map number bodies.now) }
-    ensures ok { OnOk result (AreNoGreater (map (value_at values.now) (map number bodies.now)) (map Some classes.now)) }
-    ensures fault { IfErr result (λ fault. IsFirstAbove (map (value_at values.now) (map number bodies.now)) classes.now fault.class_id.0 fault.got) }
+    ensures ok { OnOk result (AreNoGreater (map (value_at values.now) (map number bodies.now))
+        (map Some classes.now)) }
+    ensures fault { IfErr result (λ fault. IsFirstAbove (map (value_at values.now) (map number bodies.now))
+        classes.now fault.class_id.0 fault.got) }
 {
     for c in 0..classes.len() {
         let got = values[bodies[c].0 as usize];

@@ -8,7 +8,8 @@ use Rattle.bit_tape.specs.Tape.{TapeState, TapeSource, Belongs}
 use Rattle.choice_draw.specs.Decision.{level_for}
 use Rattle.class_system.specs.Sound.{IsSound}
 use Rattle.size_window.specs.declared.ending.Ending.{Ending}
-use Rattle.size_window.specs.declared.ending.Ending.TheVariants.{Done, Undecided, TurnLimit, ReadFault}
+use Rattle.size_window.specs.declared.ending.Ending.TheVariants.{Done, Undecided, TurnLimit}
+use Rattle.size_window.specs.declared.ending.Ending.TheVariants.{ReadFault}
 use Rattle.size_window.specs.declared.ending.Straddle.TheVariants as straddle
 use Rattle.size_window.specs.RunByBits.{Limits, Course, Entry}
 use Rattle.size_window.specs.Drawing.{DrawingState, DrawingBelongs, state_of, ending_of}
@@ -19,8 +20,15 @@ use Rattle.call_stages.specs.Ends.{IsHeld}
 use Rattle.call_stages.specs.Lines.{open_line, open_label_line}
 
 -- A tape over a shelf, in a call that began with these counts.
-abbrev pub met : (source : TapeSource) (contents : List ℕ → Option (List ℕ)) (before now : List ℕ → ℕ) → TapeMet
-met source contents before now = record { source = source; contents = contents; before = before; now = now }
+abbrev pub met : (source : TapeSource) (contents : List ℕ → Option (List ℕ)) (before now : List ℕ
+    → ℕ) → TapeMet
+met source contents before now = record {
+  source = source;
+  contents = contents;
+  before =
+      before;
+  now = now;
+}
 
 -- A drawing ended with a failed read.
 abbrev pub has_failed : Option Ending → Bool
@@ -28,19 +36,23 @@ has_failed (Some ReadFault) = true
 has_failed ending = false
 
 -- A drawing that was asked for so many turns has a course so far: its trace.
-pub record IsCourseSoFar (s : Spec) (x : Fraction) (F : ℕ) (table : (level node : ℕ) → Bounds) (limits : Limits) (told : Option (ℕ → Option Bool)) (d : DrawingState) (used most : ℕ) : Type 0 where
+pub record IsCourseSoFar (s : Spec) (x : Fraction) (F : ℕ) (table : (level node : ℕ)
+    → Bounds) (limits : Limits) (told : Option (ℕ → Option Bool)) (d : DrawingState) (used most : ℕ)
+    : Type 0 where
   pub turns : ℕ
   pub course : Course
   pub drawing : HasTrace s x F table limits told turns d used most course
 
 -- A drawing has a course that goes as ideal runs do, this many bits being used.
-pub record HasCourse (s : Spec) (x : Fraction) (limits : Limits) (d : DrawingState) (used : ℕ) : Type 0 where
+pub record HasCourse (s : Spec) (x : Fraction) (limits : Limits) (d : DrawingState) (used : ℕ)
+    : Type 0 where
   pub course : Course
   pub state : course.state ≡ state_of d used
   pub goes : Goes s x limits course
 
 -- A drawing from a sound specification over a tape can make a turn.
-pub record CanTurn (s : Spec) (x : Fraction) (contents : List ℕ → Option (List ℕ)) (limits : Limits) (d : DrawingState) (tape : TapeState) : Type 0 where
+pub record CanTurn (s : Spec) (x : Fraction) (contents : List ℕ
+    → Option (List ℕ)) (limits : Limits) (d : DrawingState) (tape : TapeState) : Type 0 where
   pub sound : IsSound s
   pub belongs : DrawingBelongs s x d
   pub within : d.limits ≡ limits
@@ -48,21 +60,27 @@ pub record CanTurn (s : Spec) (x : Fraction) (contents : List ℕ → Option (Li
   pub ahead : Belongs contents tape
   pub so_far : HasCourse s x limits d tape.used
 
--- The line of a number that was left open, with the bounds that the ending states of a node. Other endings have none.
+-- The line of a number that was left open, with the bounds that the ending states of a node. Other
+-- endings have none.
 abbrev pub told_open : Ending → List ℕ
-told_open (Undecided (straddle.Node node cell lo hi)) = open_line node.0 cell (record { lo = lo; hi = hi })
+told_open (Undecided (straddle.Node node cell lo hi)) =
+    open_line node.0 cell (record { lo = lo; hi = hi })
 told_open (Undecided (straddle.Label m cell)) = open_label_line m cell
 told_open _ = []
 
 -- A drawing has come to this end, and states why.
-pub record IsAtEnd (table : (level node : ℕ) → Bounds) (limits : Limits) (d : DrawingState) (ending : Ending) : Type 0 where
+pub record IsAtEnd (table : (level node : ℕ)
+    → Bounds) (limits : Limits) (d : DrawingState) (ending : Ending) : Type 0 where
   pub ended : d.ending ≡ Some ending
   pub kept : ending ≡ Done → d.kept ≡ limits.count
   pub out_of_turns : ending ≡ TurnLimit → d.turns ≡ limits.turns
   pub open_is : told_open ending ≡ open_lines table (ending_of ending)
 
--- A drawing is under way: its levels are raised for the bits that its numbers were given, and of the header with the lines of its entries a part was written and the rest is held back.
-pub record IsUnderWay (s : Spec) (x : Fraction) (F : ℕ) (table : (level node : ℕ) → Bounds) (limits : Limits) (told : Option (ℕ → Option Bool)) (d : DrawingState) (used raised : ℕ) (header : List ℕ) (start now : Option (List ℕ)) (held : List ℕ) : Type 0 where
+-- A drawing is under way: its levels are raised for the bits that its numbers were given, and of
+-- the header with the lines of its entries a part was written and the rest is held back.
+pub record IsUnderWay (s : Spec) (x : Fraction) (F : ℕ) (table : (level node : ℕ)
+    → Bounds) (limits : Limits) (told : Option (ℕ → Option Bool)) (d : DrawingState)
+    (used raised : ℕ) (header : List ℕ) (start now : Option (List ℕ)) (held : List ℕ) : Type 0 where
   pub most : ℕ
   pub so_far : IsCourseSoFar s x F table limits told d used most
   pub lines : List ℕ
@@ -70,8 +88,11 @@ pub record IsUnderWay (s : Spec) (x : Fraction) (F : ℕ) (table : (level node :
   pub raised_is : raised ≡ level_for most
   pub held_is : IsHeld start now held (header ++ lines)
 
--- A drawing was broken off: of the header with the lines of the first entries of its course a prefix was written.
-pub record IsBroken (s : Spec) (x : Fraction) (F : ℕ) (table : (level node : ℕ) → Bounds) (limits : Limits) (told : Option (ℕ → Option Bool)) (d : DrawingState) (used raised : ℕ) (header : List ℕ) (start now : Option (List ℕ)) : Type 0 where
+-- A drawing was broken off: of the header with the lines of the first entries of its course a
+-- prefix was written.
+pub record IsBroken (s : Spec) (x : Fraction) (F : ℕ) (table : (level node : ℕ)
+    → Bounds) (limits : Limits) (told : Option (ℕ → Option Bool)) (d : DrawingState)
+    (used raised : ℕ) (header : List ℕ) (start now : Option (List ℕ)) : Type 0 where
   pub most : ℕ
   pub so_far : IsCourseSoFar s x F table limits told d used most
   pub first : List Entry
@@ -82,7 +103,11 @@ pub record IsBroken (s : Spec) (x : Fraction) (F : ℕ) (table : (level node : �
   pub raised_is : raised ≡ level_for most
   pub front : AppendsFront start now (header ++ lines)
 
--- Where a drawing goes on it can make another turn, and has made one more; else it has come to its end.
-abbrev pub GoesOn : (s : Spec) (x : Fraction) (table : (level node : ℕ) → Bounds) (contents : List ℕ → Option (List ℕ)) (limits : Limits) (before d : DrawingState) (tape : TapeState) → Option Ending → Type 0
-GoesOn s x table contents limits before d tape None = CanTurn s x contents limits d tape × (d.turns ≡ before.turns + 1)
+-- Where a drawing goes on it can make another turn, and has made one more; else it has come to its
+-- end.
+abbrev pub GoesOn : (s : Spec) (x : Fraction) (table : (level node : ℕ) → Bounds) (contents : List ℕ
+    → Option (List ℕ)) (limits : Limits) (before d : DrawingState) (tape : TapeState)
+    → Option Ending → Type 0
+GoesOn s x table contents limits before d tape None = CanTurn s x contents limits d tape
+    × (d.turns ≡ before.turns + 1)
 GoesOn s x table contents limits before d tape (Some ending) = IsAtEnd table limits d ending

@@ -1,5 +1,7 @@
 //! Drawings, whose lines are written while they go on.
-ghost use Rattle.std.specs.Prelude.{◌≡◌, ◌≢◌, ◌+◌, ℕ, ◌≤◌, [], ◌++◌, List, length, max, Option, None, Some, IfOk, IfErr, OnErr, IfSome, IfNone, string_bytes};
+ghost use Rattle.std.specs.Prelude.{◌≡◌, ◌≢◌, ◌+◌, ℕ, ◌≤◌, [], ◌++◌, List, length, max, Option};
+ghost use Rattle.std.specs.Prelude.{None, Some, IfOk, IfErr, OnErr, IfSome, IfNone, string_bytes};
+ghost use Rattle.bz_model.specs.Fraction.{IsFractionBits};
 ghost use Rattle.bz_model.specs.Oracle.{AreCosts, LeavesOracle};
 ghost use Rattle.bz_outside.specs.Outside.{Rose};
 ghost use Rattle.bit_tape.specs.Tape.{Belongs, LeavesTape, bits_of};
@@ -9,7 +11,8 @@ ghost use Rattle.sample_command.specs.Drawn.{Drawn, ending_word, ending_status};
 ghost use Rattle.call_stages.specs.Ends.{EndsBy, output};
 ghost use Rattle.call_stages.specs.Lines.{end_line};
 ghost use Rattle.call_stages.specs.Outcomes.{MaySay};
-ghost use Rattle.sample_command.specs.UnderWay.{met, has_failed, CanTurn, IsAtEnd, IsUnderWay, IsBroken, GoesOn, told_open};
+ghost use Rattle.sample_command.specs.UnderWay.{met, has_failed, CanTurn, IsAtEnd, IsUnderWay};
+ghost use Rattle.sample_command.specs.UnderWay.{IsBroken, GoesOn, told_open};
 ghost use Rattle.call_stages.specs.declared.report.Stop.TheVariants as stop;
 
 use crate::entries::{append_entry, closing, status_of};
@@ -33,10 +36,12 @@ use std::alloc::{AllocError, Global};
 use std::sync::ledger::Ledger;
 use well_founded::examination::Founded;
 
-/// Draws objects by the bounds of an oracle, after the lines of a header, and writes the lines of each
+/// Draws objects by the bounds of an oracle, after the lines of a header, and writes the lines of
+/// each
 /// when there are enough.
 ///
-/// No level is raised and no bit of the tape is used before. A level is raised where a number needs it.
+/// No level is raised and no bit of the tape is used before. A level is raised where a number needs
+/// it.
 pub fn drawn<const F: u32, O: Oracle<F>, S: Shelf, K: Sink, L: Ledger>(
     alloc: Global,
     founded: &Founded,
@@ -48,7 +53,7 @@ pub fn drawn<const F: u32, O: Oracle<F>, S: Shelf, K: Sink, L: Ledger>(
     out: &mut K,
     steps: &mut Steps<L>,
 ) -> Status
-    requires fraction_bits { (24 ≤ F) × (F ≤ 56) }
+    requires fraction_bits { IsFractionBits F }
     requires spec { O.spec oracle.old ≡ founded.now }
     requires costs { O.cost oracle.old ≡ costs }
     requires none_raised { O.raised oracle.old ≡ 0 }
@@ -114,7 +119,8 @@ fn finished<K: Sink>(
     }
 }
 
-/// Makes turns until the drawing ends, and writes the lines of the kept objects when there are enough.
+/// Makes turns until the drawing ends, and writes the lines of the kept objects when there are
+/// enough.
 fn draw_to_the_end<const F: u32, O: Oracle<F>, S: Shelf, K: Sink, L: Ledger>(
     alloc: Global,
     founded: &Founded,
@@ -126,7 +132,7 @@ fn draw_to_the_end<const F: u32, O: Oracle<F>, S: Shelf, K: Sink, L: Ledger>(
     steps: &mut Steps<L>,
     page: &mut Vec<u8>,
 ) -> Result<Ending, Stop>
-    requires fraction { (24 ≤ F) × (F ≤ 56) }
+    requires fraction_bits { IsFractionBits F }
     requires spec { O.spec oracle.old ≡ founded.now }
     requires costs { AreCosts (O.cost oracle.old) }
     requires levels { O.raised oracle.old ≤ 6 }
@@ -180,7 +186,7 @@ fn turn_once<const F: u32, O: Oracle<F>, S: Shelf, L: Ledger>(
     steps: &mut Steps<L>,
     page: &mut Vec<u8>,
 ) -> Result<Option<Ending>, AllocError>
-    requires fraction { (24 ≤ F) × (F ≤ 56) }
+    requires fraction_bits { IsFractionBits F }
     requires spec { O.spec oracle.old ≡ founded.now }
     requires can_turn { CanTurn founded.now (O.x oracle.old) (S.content shelf.old)
         drawing.old.limits drawing.old tape.old }

@@ -32,7 +32,8 @@ pub fn header<const F: u32>(
     base: &[u64],
 ) -> Result<Vec<u8>, AllocError>
     requires one_per_class { length base.now ≡ length system.now.bodies }
-    ensures { IfOk result (λ text. text.items ≡ drawn_header format.now (setting system.now x.num x.den F) base.now (limits_of limits)) }
+    ensures { IfOk result (λ text. text.items
+        ≡ drawn_header format.now (setting system.now x.num x.den F) base.now (limits_of limits)) }
 {
     let window = window(alloc, limits.min, limits.max)?;
     let mut text = header_lines::<F>(alloc, format, system, x)?.into_bytes();
@@ -50,7 +51,8 @@ pub fn append_entry(
 ) -> Result<(), AllocError>
     requires is_of { IsOf founded.now 0 kept.now.shape.items }
     requires labels { HasLabels founded.now.mode kept.now }
-    ensures { IfOk result (λ _. (more : List ℕ) × AreLinesOf founded.now (entry_of kept.now) more × (page.new.items ≡ page.old.items ++ more)) }
+    ensures { IfOk result (λ _. (more : List ℕ) × AreLinesOf founded.now (entry_of kept.now) more
+        × (page.new.items ≡ page.old.items ++ more)) }
 {
     let system = founded.system();
     system.known();
@@ -80,7 +82,8 @@ pub fn closing(
     counts: Counts,
     bits: u64,
 ) -> Result<String, AllocError>
-    ensures { IfOk result (λ text. string_bytes text ≡ told_open ending ++ end_line (ending_word (ending_of ending)) counts.kept counts.thrown bits counts.turns) }
+    ensures { IfOk result (λ text. string_bytes text ≡ told_open ending
+        ++ end_line (ending_word (ending_of ending)) counts.kept counts.thrown bits counts.turns) }
 {
     let word = word_of(ending);
     let last = end(alloc, word, counts.kept, counts.thrown, bits, counts.turns)?;

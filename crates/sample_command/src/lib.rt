@@ -11,6 +11,5 @@
 
 pub mod drawing;
 pub mod entries;
-mod reading;
 pub mod sample;
 mod starts;

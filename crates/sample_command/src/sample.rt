@@ -1,5 +1,6 @@
 //! The command `sample`: objects drawn with the bits of a tape.
 ghost use Rattle.std.specs.Prelude.{◌≡◌, ℕ, ◌≤◌, List, Option, IfOk};
+ghost use Rattle.bz_model.specs.Fraction.{IsFractionBits};
 ghost use Rattle.bit_tape.specs.Tape.{Belongs};
 ghost use Rattle.command_words.specs.Fractions.{fraction_bits};
 ghost use Rattle.rounded_map.specs.RoundedMap.{setting};
@@ -9,7 +10,6 @@ ghost use Rattle.sample_command.specs.SampleCommand.{CarriesSample, DrawnOver, s
 ghost use Rattle.call_stages.specs.Stages.{files, Based};
 ghost use Rattle.sample_command.specs.UnderWay.{met};
 
-use crate::reading::specified;
 use crate::starts::drawn_over;
 use bit_tape::tape::Tape;
 use bz_model::fraction::Fraction;
@@ -19,7 +19,7 @@ use bz_outside::sink::Sink;
 use bz_outside::word::Word;
 use call_stages::at_fraction;
 use call_stages::report::refused;
-use call_stages::stages::based;
+use call_stages::stages::{based, specified};
 use call_stages::status::Status;
 use command_words::command::{FractionBits, TapeWord};
 use size_window::limits::Limits;
@@ -27,7 +27,8 @@ use std::alloc::{AllocError, Global};
 use std::sync::ledger::Ledger;
 use well_founded::examination::Founded;
 
-/// Reads a specification, judges it, searches a base at `x`, and draws objects of its first class. With
+/// Reads a specification, judges it, searches a base at `x`, and draws objects of its first class.
+/// With
 /// `fast` the lower sweeps start from the base's fast vector, where it has one.
 pub fn sample<S: Shelf, K: Sink, L: Ledger>(
     alloc: Global,
@@ -100,7 +101,7 @@ fn sampled<const F: u32, S: Shelf, K: Sink, L: Ledger>(
     out: &mut K,
     steps: &mut Steps<L>,
 ) -> Status
-    requires fraction_bits { (24 ≤ F) × (F ≤ 56) }
+    requires fraction_bits { IsFractionBits F }
     requires limits { AreLimits (limits_of limits) }
     ensures ends { EndsBy (Based (setting founded.now x.num x.den F)
         (DrawnOver fast (setting founded.now x.num x.den F) (limits_of limits)

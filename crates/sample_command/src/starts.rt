@@ -1,7 +1,8 @@
 //! Drawings over a base: the lower sweeps start from zero, or from the base's fast vector.
-ghost use Rattle.std.specs.Prelude.{◌≡◌, ◌+◌, ◌≤◌, true, false, ℕ, List, Option, Some, length, IfOk, IfErr};
+ghost use Rattle.std.specs.Prelude.{◌≡◌, ◌+◌, ◌≤◌, true, false, ℕ, List, Option, Some, length};
+ghost use Rattle.std.specs.Prelude.{IfOk, IfErr};
 ghost use Rattle.bit_tape.specs.Tape.{Belongs};
-ghost use Rattle.bz_model.specs.Fraction.{ratio};
+ghost use Rattle.bz_model.specs.Fraction.{ratio, IsFractionBits};
 ghost use Rattle.oracle_memo.specs.Memos.{Memory};
 ghost use Rattle.rounded_map.specs.Bounding.{AreBelow};
 ghost use Rattle.rounded_map.specs.RoundedMap.{setting, IsPostFixed};
@@ -31,7 +32,8 @@ use std::alloc::Global;
 use std::sync::ledger::Ledger;
 use well_founded::examination::Founded;
 
-/// Draws objects over the base, by levels whose lower sweeps start from its fast vector or from zero.
+/// Draws objects over the base, by levels whose lower sweeps start from its fast vector or from
+/// zero.
 pub(crate) fn drawn_over<const F: u32, S: Shelf, K: Sink, L: Ledger>(
     alloc: Global,
     founded: &Founded,
@@ -44,7 +46,7 @@ pub(crate) fn drawn_over<const F: u32, S: Shelf, K: Sink, L: Ledger>(
     out: &mut K,
     steps: &mut Steps<L>,
 ) -> Status
-    requires fraction_bits { (24 ≤ F) × (F ≤ 56) }
+    requires fraction_bits { IsFractionBits F }
     requires post_fixed { IsPostFixed (setting founded.now x.num x.den F) base }
     requires limits { AreLimits (limits_of limits) }
     requires unused { tape.used ≡ 0 }
@@ -77,7 +79,7 @@ fn drawn_from_zero<const F: u32, S: Shelf, K: Sink, L: Ledger>(
     out: &mut K,
     steps: &mut Steps<L>,
 ) -> Status
-    requires fraction_bits { (24 ≤ F) × (F ≤ 56) }
+    requires fraction_bits { IsFractionBits F }
     requires post_fixed { IsPostFixed (setting founded.now x.num x.den F) base }
     requires limits { AreLimits (limits_of limits) }
     requires unused { tape.used ≡ 0 }
@@ -104,7 +106,8 @@ fn drawn_from_zero<const F: u32, S: Shelf, K: Sink, L: Ledger>(
     )
 }
 
-/// Searches the fast vector of the base, and draws objects by levels whose lower sweeps start from it.
+/// Searches the fast vector of the base, and draws objects by levels whose lower sweeps start from
+/// it.
 fn drawn_fast<const F: u32, S: Shelf, K: Sink, L: Ledger>(
     alloc: Global,
     founded: &Founded,
@@ -116,7 +119,7 @@ fn drawn_fast<const F: u32, S: Shelf, K: Sink, L: Ledger>(
     out: &mut K,
     steps: &mut Steps<L>,
 ) -> Status
-    requires fraction_bits { (24 ≤ F) × (F ≤ 56) }
+    requires fraction_bits { IsFractionBits F }
     requires post_fixed { IsPostFixed (setting founded.now x.num x.den F) base }
     requires limits { AreLimits (limits_of limits) }
     requires unused { tape.used ≡ 0 }
@@ -147,7 +150,7 @@ fn fast_start<const F: u32, L: Ledger>(
     base: &Base<F>,
     steps: &mut Steps<L>,
 ) -> Result<Fast<F>, Refusal>
-    requires fraction_bits { (24 ≤ F) × (F ≤ 56) }
+    requires fraction_bits { IsFractionBits F }
     requires post_fixed { IsPostFixed (setting founded.now x.num x.den F) base.now }
     ensures start { IfOk result (λ start. start_of true (setting founded.now x.num x.den F) base.now
         ≡ Some start) }
@@ -177,7 +180,7 @@ fn drawn_from<const F: u32, S: Shelf, K: Sink, L: Ledger>(
     out: &mut K,
     steps: &mut Steps<L>,
 ) -> Status
-    requires fraction_bits { (24 ≤ F) × (F ≤ 56) }
+    requires fraction_bits { IsFractionBits F }
     requires post_fixed { IsPostFixed (setting founded.now x.num x.den F) base }
     requires below { AreBelow founded.now (ratio x.num x.den) F start }
     requires one_per_class { length start ≡ length founded.now.bodies }

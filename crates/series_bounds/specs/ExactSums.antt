@@ -1,11 +1,13 @@
--- The exact series of the counted constructions, their finite sums, and on which side of those a rounded value
+-- The exact series of the counted constructions, their finite sums, and on which side of those a
+-- rounded value
 -- lies. A number v stands for v / 2^f.
 use Rattle.std.specs.Prelude.{ℕ, zero, suc, ◌-◌}
 use Rattle.bz_model.specs.Fraction.{Fraction, AtMost, plus, times, whole, power, units}
 use Rattle.bz_model.specs.Measures.{set_share, cycle_share}
 use Rattle.series_bounds.specs.Series.{Kind}
 
--- The share of an object with k parts: all of it for a sequence, one part in k! for a set, one part in k for a cycle.
+-- The share of an object with k parts: all of it for a sequence, one part in k! for a set, one part
+-- in k for a cycle.
 abbrev pub share : Kind → (k : ℕ) → Fraction
 share Kind.Seq k = whole 1
 share Kind.Set k = set_share k

@@ -1,9 +1,11 @@
 -- How a sum of terms runs, term by term, as the code makes it.
-use Rattle.std.specs.Prelude.{ℕ, suc, ◌+◌, ◌*◌, ◌^◌, ◌≤◌, nat_le, nat_lt, List, [], ◌∷◌, Option, Some, None, if◌then◌else◌}
-use Rattle.series_bounds.specs.declared.carried.Construction.{Construction}
-use Rattle.series_bounds.specs.declared.carried.Construction.TheVariants.{Sequence, Set, Cycle}
+use Rattle.std.specs.Prelude.{ℕ, suc, ◌+◌, ◌*◌, ◌^◌, ◌≤◌, nat_le, nat_lt, List, [], ◌∷◌, Option}
+use Rattle.std.specs.Prelude.{Some, None, if◌then◌else◌}
+use Rattle.series_bounds.specs.declared.series_terms.Construction.{Construction}
+use Rattle.series_bounds.specs.declared.series_terms.Construction.TheVariants.{Sequence, Set, Cycle}
 use Rattle.fixed_enclosure.specs.Rounded.{greatest, saturated, fits, Side}
-use Rattle.series_bounds.specs.Series.{Kind, divisor, carried, terms, part_down, end_from, cyc_end, from_down, from_up}
+use Rattle.series_bounds.specs.Series.{Kind, divisor, carried, terms, part_down, end_from, cyc_end}
+use Rattle.series_bounds.specs.Series.{from_down, from_up}
 
 -- The kind of series that belongs to a construction.
 abbrev pub kind_of : Construction → Kind
@@ -15,7 +17,8 @@ kind_of Cycle = Kind.Cyc
 abbrev pub kept : (low j t : ℕ) → ℕ
 kept low j t = if nat_lt j low then 0 else t
 
--- The lower sum s, with the terms of a list added, of which the first is numbered j. A term that doesn't fit makes it 0 before low, and the greatest number from low on.
+-- The lower sum s, with the terms of a list added, of which the first is numbered j. A term that
+-- doesn't fit makes it 0 before low, and the greatest number from low on.
 abbrev pub run_down : (low j s : ℕ) → List ℕ → ℕ
 run_down low j s [] = s
 run_down low j s (t ∷ ts) =
@@ -26,14 +29,16 @@ run_down low j s (t ∷ ts) =
 abbrev pub up_to : (most n : ℕ) → Option ℕ
 up_to most n = if nat_le n most then Some n else None
 
--- The upper sum s, with the terms of a list added, of which the first is numbered j. It has no value where a term doesn't fit or the sum passes the bound.
+-- The upper sum s, with the terms of a list added, of which the first is numbered j. It has no
+-- value where a term doesn't fit or the sum passes the bound.
 abbrev pub run_up : (most low j s : ℕ) → List ℕ → Option ℕ
 run_up most low j s [] = up_to most s
 run_up most low j s (t ∷ ts) =
     let further = run_up most low (suc j) (s + kept low j t) ts in
     if fits t then further else None
 
--- The upper sum of the terms from low to i: no value where one of the terms up to i doesn't fit, or the sum passes the bound.
+-- The upper sum of the terms from low to i: no value where one of the terms up to i doesn't fit, or
+-- the sum passes the bound.
 unfoldable pub summed_up : Kind → (f a most low i : ℕ) → Option ℕ
 summed_up kind f a most low i = run_up most low 0 0 (terms Side.Up kind f a (suc i))
 
@@ -53,7 +58,8 @@ value_down kind f a low = from_down kind f a low
 unfoldable pub value_up : Kind → (f a low : ℕ) → Option ℕ
 value_up kind f a low = from_up kind f a low
 
--- The number of the last term that an upper logarithm sums, looked for from place j on, where p is the power.
+-- The number of the last term that an upper logarithm sums, looked for from place j on, where p is
+-- the power.
 unfoldable pub end_up : (f a n j p : ℕ) → ℕ
 end_up f a n j p = end_from Side.Up f a n j p
 
@@ -61,7 +67,8 @@ end_up f a n j p = end_from Side.Up f a n j p
 unfoldable pub last_up : (f a low : ℕ) → ℕ
 last_up f a low = cyc_end Side.Up f a low
 
--- Each later upper term is c, the number carried to term j: c is 0 or 1, and one step carries it on unchanged.
+-- Each later upper term is c, the number carried to term j: c is 0 or 1, and one step carries it on
+-- unchanged.
 pub record IsFlat (kind : Kind) (f a j c : ℕ) : Type 0 where
   pub small : c ≤ 1
   pub kept_up : c ≤ a

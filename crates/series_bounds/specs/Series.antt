@@ -1,9 +1,13 @@
--- The series of the counted constructions in units of 2^-f, rounded to a side: their terms, the sums of terms, and
+-- The series of the counted constructions in units of 2^-f, rounded to a side: their terms, the
+-- sums of terms, and
 -- the values of a range of numbers of parts.
-use Rattle.std.specs.Prelude.{ℕ, zero, suc, ◌+◌, ◌-◌, ◌*◌, ◌^◌, min, max, nat_le, nat_lt, List, [], ◌∷◌, sum, take, drop, Option, Some, None, option_and_then, if◌then◌else◌}
+use Rattle.std.specs.Prelude.{ℕ, zero, suc, ◌+◌, ◌-◌, ◌*◌, ◌^◌, min, max, nat_le, nat_lt, List, []}
+use Rattle.std.specs.Prelude.{◌∷◌, sum, take, drop, Option, Some, None, option_and_then}
+use Rattle.std.specs.Prelude.{if◌then◌else◌}
 use Rattle.std.specs.List.{list_all}
 use Rattle.bz_model.specs.Spec.{Range}
-use Rattle.fixed_enclosure.specs.Rounded.{greatest, saturated, fits, if_fits, Side, quotient_up, quotient, mul_down, mul_up, seq_down, seq_up}
+use Rattle.fixed_enclosure.specs.Rounded.{greatest, saturated, fits, if_fits, Side, quotient_up}
+use Rattle.fixed_enclosure.specs.Rounded.{quotient, mul_down, mul_up, seq_down, seq_up}
 
 -- The three counted constructions, each of which has a series.
 pub data Kind : Type 0 where
@@ -11,7 +15,8 @@ pub data Kind : Type 0 where
   Set : Kind
   Cyc : Kind
 
--- By what, beside 2^f, the number carried to term j is divided: the exponential's terms are divided by j.
+-- By what, beside 2^f, the number carried to term j is divided: the exponential's terms are divided
+-- by j.
 abbrev pub divisor : Kind → (j : ℕ) → ℕ
 divisor Kind.Seq j = 1
 divisor Kind.Set j = j
@@ -36,7 +41,8 @@ term side Kind.Cyc (suc j) c = quotient side c (suc j)
 -- n terms, from term j on, c being the number carried to it.
 abbrev pub terms_from : Side → Kind → (f a n j c : ℕ) → List ℕ
 terms_from side kind f a zero j c = []
-terms_from side kind f a (suc n) j c = term side kind j c ∷ terms_from side kind f a n (suc j) (carried_on side kind f a j c)
+terms_from side kind f a (suc n) j c = term side kind j c
+    ∷ terms_from side kind f a n (suc j) (carried_on side kind f a j c)
 
 -- The first n terms, numbered from 0.
 abbrev pub terms : Side → Kind → (f a n : ℕ) → List ℕ
@@ -60,20 +66,24 @@ part_down kind f a low i = sum_down low (terms Side.Down kind f a (suc i))
 
 -- The upper value from low to i parts, without a cap.
 abbrev pub range_up : Kind → (f a low i : ℕ) → Option ℕ
-range_up kind f a low i = if nat_lt i low then Some 0 else sum_up low (terms Side.Up kind f a (suc i)) 0
+range_up kind f a low i =
+    if nat_lt i low then Some 0 else sum_up low (terms Side.Up kind f a (suc i)) 0
 
 -- The upper value from low to i parts, with a cap.
 abbrev pub part_up : Kind → (f a low i cap : ℕ) → ℕ
-part_up kind f a low i cap = if nat_lt i low then 0 else sum_capped low (terms Side.Up kind f a (suc i)) cap
+part_up kind f a low i cap =
+    if nat_lt i low then 0 else sum_capped low (terms Side.Up kind f a (suc i)) cap
 
--- The first number from j on, at most n numbers later, at which the power p of a is at most 1 unit, or else the last.
+-- The first number from j on, at most n numbers later, at which the power p of a is at most 1 unit,
+-- or else the last.
 abbrev pub end_from : Side → (f a n j p : ℕ) → ℕ
 end_from side f a zero j p = j
 end_from side f a (suc n) j p =
     let later = end_from side f a n (suc j) (carried_on side Kind.Cyc f a j p) in
     if nat_le p 1 then j else later
 
--- The number of the logarithm's last summed term: the least j with a power of at most 1 unit, or 4096.
+-- The number of the logarithm's last summed term: the least j with a power of at most 1 unit, or
+-- 4096.
 abbrev pub log_end : Side → (f a : ℕ) → ℕ
 log_end side f a = end_from side f a 4095 1 a
 
@@ -92,16 +102,22 @@ cyc_up_to f a low j = sum_up low (terms Side.Up Kind.Cyc f a (suc j)) (log_rest 
 -- The lower value from low parts on, without end.
 abbrev pub from_down : Kind → (f a low : ℕ) → ℕ
 from_down Kind.Seq f a zero = seq_down f a
-from_down Kind.Seq f a (suc low) = mul_down f (carried Side.Down Kind.Seq f a (suc low)) (seq_down f a)
+from_down Kind.Seq f a (suc low) =
+    mul_down f (carried Side.Down Kind.Seq f a (suc low)) (seq_down f a)
 from_down Kind.Set f a low = part_down Kind.Set f a low 127
-from_down Kind.Cyc f a low = if nat_lt a (2 ^ f) then part_down Kind.Cyc f a low (cyc_end Side.Down f a low) else greatest
+from_down Kind.Cyc f a low =
+    if nat_lt a (2 ^ f) then part_down Kind.Cyc f a low (cyc_end Side.Down f a low) else greatest
 
 -- The upper value from low parts on, without end.
 abbrev pub from_up : Kind → (f a low : ℕ) → Option ℕ
 from_up Kind.Seq f a zero = seq_up f a
-from_up Kind.Seq f a (suc low) = option_and_then (mul_up f (carried Side.Up Kind.Seq f a (suc low))) (seq_up f a)
-from_up Kind.Set f a low = if nat_le a (16 * 2 ^ f) then sum_up low (terms Side.Up Kind.Set f a 128) (2 * carried Side.Up Kind.Set f a 128) else None
-from_up Kind.Cyc f a low = if nat_lt a (2 ^ f) then cyc_up_to f a low (cyc_end Side.Up f a low) else None
+from_up Kind.Seq f a (suc low) =
+    option_and_then (mul_up f (carried Side.Up Kind.Seq f a (suc low))) (seq_up f a)
+from_up Kind.Set f a low =
+    if nat_le a (16 * 2 ^ f) then sum_up low (terms Side.Up Kind.Set f a 128)
+    (2 * carried Side.Up Kind.Set f a 128) else None
+from_up Kind.Cyc f a low =
+    if nat_lt a (2 ^ f) then cyc_up_to f a low (cyc_end Side.Up f a low) else None
 
 -- The lower exponential.
 abbrev pub exp_down : (f a : ℕ) → ℕ

@@ -1,19 +1,22 @@
-//! The exponential, the logarithm and sums of powers, rounded to a side, for every `F` from 24 to 56.
+//! The exponential, the logarithm and sums of powers, rounded to a side, for every `F` from 24 to
+//! 56.
 //!
-//! For sequences, sets and cycles of parts of value a: the sum over a range of numbers of parts, with
+//! For sequences, sets and cycles of parts of value a: the sum over a range of numbers of parts,
+//! with
 //! and without a cap, and over all numbers of parts from a low on. Each result is the one that
 //! `specs/Series.antt` defines, and lies on its side of the finite sums of the exact terms `a^j`,
-//! `a^j / j!` or `a^j / j` (`specs/ExactSums.antt`). Upper values are monotone in the argument and in
+//! `a^j / j!` or `a^j / j` (`specs/ExactSums.antt`). Upper values are monotone in the argument and
+//! in
 //! the cap (`laws`). No clause says how far a result is from the exact one.
 #![tactic(auto)]
 
-mod carried;
 pub mod cycles;
 pub mod laws;
-mod ranges;
 pub mod sequences;
+mod series_terms;
 pub mod sets;
 mod sums;
+mod value_bounds;
 
 pub use cycles::{
     cyc_from_hi, cyc_from_lo, cyc_part_hi, cyc_part_lo, cyc_range_hi, log_hi, log_lo,

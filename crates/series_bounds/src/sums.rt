@@ -1,9 +1,11 @@
 //! Sums of the terms of a series, rounded to a side.
 
 ghost use Rattle.std.specs.Prelude.{◌≡◌, ◌+◌, ◌-◌, ◌*◌, ◌^◌, ◌<◌, ◌≤◌, option_map, IfSome};
-ghost use Rattle.series_bounds.specs.Running.{kind_of, kept, up_to, summed_down, summed_up, carried_up};
+ghost use Rattle.bz_model.specs.Fraction.{IsFractionBits};
+ghost use Rattle.series_bounds.specs.Running.{kind_of, kept, up_to, summed_down, summed_up};
+ghost use Rattle.series_bounds.specs.Running.{carried_up};
 
-use crate::carried::{Construction, carry_down, carry_up, is_flat, term_down, term_up};
+use crate::series_terms::{Construction, carry_down, carry_up, is_flat, term_down, term_up};
 use fixed_enclosure::narrow::{GREATEST, power_of_two};
 
 /// The lower sum of the terms from `low` to `i`, 0 where a term before `low` passes 64 bits.
@@ -11,7 +13,7 @@ use fixed_enclosure::narrow::{GREATEST, power_of_two};
 /// It ends at a term of 0, after which all are 0, and at a full sum.
 #[inline]
 pub fn lower_sum<const F: u32>(kind: Construction, a: u64, low: u64, i: u64) -> u64
-    requires fraction_bits { (24 ≤ F) × (F ≤ 56) }
+    requires fraction_bits { IsFractionBits F }
     requires places { (low ≤ 64) × (i ≤ 1000000) }
     ensures exact { result ≡ summed_down (kind_of kind) F a low i }
 {
@@ -41,7 +43,8 @@ pub struct Summed {
     pub carried: u128,
 }
 
-/// The upper sum of the terms from `low` to `i`, where all terms up to `i` fit and it is at most `most`.
+/// The upper sum of the terms from `low` to `i`, where all terms up to `i` fit and it is at most
+/// `most`.
 ///
 /// It ends at the first term of which all later ones are copies.
 #[inline]
@@ -52,7 +55,7 @@ pub fn upper_sum<const F: u32>(
     i: u64,
     most: u64,
 ) -> Option<Summed>
-    requires fraction_bits { (24 ≤ F) × (F ≤ 56) }
+    requires fraction_bits { IsFractionBits F }
     requires places { (low ≤ 64) × (i ≤ 1000000) }
     ensures exact { option_map (λ s. s.sum) result ≡ summed_up (kind_of kind) F a most low i }
     ensures last { IfSome result (λ s. s.carried ≡ carried_up (kind_of kind) F a i) }
@@ -85,7 +88,8 @@ pub fn upper_sum<const F: u32>(
 /// The sum with `count` further terms, from `place` on, that are all the number carried.
 fn flat_sum(low: u64, place: u64, count: u64, carried: u128, sum: u64, most: u64) -> Option<Summed>
     requires in_range { (carried ≤ 1) × (count ≤ 1000000) }
-    ensures exact { option_map (λ s. s.sum) result ≡ up_to most (sum + carried * (count - (low - place))) }
+    ensures exact { option_map (λ s. s.sum) result
+        ≡ up_to most (sum + carried * (count - (low - place))) }
     ensures last { IfSome result (λ s. s.carried ≡ carried) }
 {
     let counted = count.saturating_sub(low.saturating_sub(place));

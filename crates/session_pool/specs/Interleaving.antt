@@ -1,5 +1,6 @@
 -- Turns in any order: each drawing of a pool stands where it would stand alone.
-use Rattle.std.specs.Prelude.{◌≡◌, ◌≢◌, ℕ, ◌+◌, ◌-◌, ◌^◌, ◌≤◌, min, nat_eq, Bool, true, false, List, map, slice_get, Option, Some, None, IfSome, IsSome}
+use Rattle.std.specs.Prelude.{◌≡◌, ◌≢◌, ℕ, ◌+◌, ◌-◌, ◌^◌, ◌≤◌, min, nat_eq, Bool, true, false, List}
+use Rattle.std.specs.Prelude.{map, slice_get, Option, Some, None, IfSome, IsSome}
 use Rattle.std.specs.List.{count_by}
 use Rattle.std.specs.Str.{bytes_eq}
 use Rattle.bz_model.specs.declared.cell.Bounds.{Bounds}
@@ -60,7 +61,8 @@ pub record IsMemberAfter (w : Setting) (limits : Limits) (begun counts : List �
     (m : MemberState) : Type 0 where
   pub most : ℕ
   pub course : Course
-  pub trace : HasTrace w.spec w.x w.F w.table limits (bits_of m.tape.source w.contents) turns m.drawing m.tape.used most course
+  pub trace : HasTrace w.spec w.x w.F w.table limits (bits_of m.tape.source w.contents) turns
+      m.drawing m.tape.used most course
   pub entries : course.entries ≡ map entry_of m.entries
   pub asked : WasAsked turns m.drawing m.drawing.ending
   pub ended : IfSome m.drawing.ending (EndedRightly w limits m.tape.source begun counts m.drawing)
@@ -89,7 +91,8 @@ RoseBy number before now = min (before + number) (2 ^ 64 - 1) ≤ now
 
 -- A pool after these turns, each named by its drawing's number: each drawing stands where it would
 -- stand alone after as many turns as the list names it. The counts of failed reads never fell since
--- the beginning; for each name that count rose at least as often as drawings over its tape ended with
+-- the beginning; for each name that count rose at least as often as drawings over its tape ended
+-- with
 -- a failed read, and no count rose more often than drawings ended so.
 pub record IsPoolAfter (w : Setting) (limits : Limits) (sources : List TapeSource)
     (begun counts : List ℕ → ℕ) (turns : List ℕ) (pool : List MemberState) : Type 0 where
@@ -108,7 +111,8 @@ pub record AreAlike (m other : MemberState) : Type 0 where
   pub entries : map entry_of m.entries ≡ map entry_of other.entries
 
 -- Two pools over the same tapes made turns, in any orders. Where the bits of one of the tapes are
--- told, and its drawing ended with a failed read in neither pool, the two drawings over it are alike
+-- told, and its drawing ended with a failed read in neither pool, the two drawings over it are
+-- alike
 -- if the premise holds of how often the orders name them and of the two.
 abbrev pub AreAlikeWhere : (Premise : (times other_times : ℕ) → MemberState → MemberState → Type 0)
     → Type 0

@@ -1,5 +1,6 @@
 -- What one turn of a pool makes of it.
-use Rattle.std.specs.Prelude.{◌≡◌, ◌≢◌, ℕ, ◌+◌, ◌≤◌, ◌↔◌, List, [], ◌∷◌, ◌++◌, slice_get, slice_set, Option, Some, None, IfSome}
+use Rattle.std.specs.Prelude.{◌≡◌, ◌≢◌, ℕ, ◌+◌, ◌≤◌, ◌↔◌, List, [], ◌∷◌, ◌++◌, slice_get, slice_set}
+use Rattle.std.specs.Prelude.{Option, Some, None, IfSome}
 use Rattle.bz_model.specs.declared.cell.Bounds.{Bounds}
 use Rattle.bz_model.specs.Fraction.{Fraction}
 use Rattle.bz_model.specs.Spec.{Spec}
@@ -9,7 +10,8 @@ use Rattle.size_window.specs.declared.ending.Ending.TheVariants.{Done, TurnLimit
 use Rattle.size_window.specs.declared.turned.Entry.{Entry}
 use Rattle.size_window.specs.declared.turned.Turned.{Turned}
 use Rattle.size_window.specs.declared.turned.Turned.TheVariants as turned
-use Rattle.size_window.specs.Turn.{IsTurn, IsCounted, is_fault, IfKept, IsNext, HasLabels, most_bits, TellsOpen}
+use Rattle.size_window.specs.Turn.{IsTurn, IsCounted, is_fault, IfKept, IsNext, HasLabels}
+use Rattle.size_window.specs.Turn.{most_bits, TellsOpen}
 use Rattle.session_pool.specs.declared.pooled.Pooled.{Pooled}
 use Rattle.session_pool.specs.declared.pooled.Pooled.TheVariants.{Going, Finished}
 use Rattle.session_pool.specs.Member.{MemberState}
@@ -30,7 +32,8 @@ answer_of (Some ending) = Finished
 pub record AnswersRightly (table : (level node : ℕ) → Bounds) (m : MemberState)
     (told : Turned) : Type 0 where
   pub done : (told ≡ turned.Finished Done) ↔ (m.drawing.kept ≡ m.drawing.limits.count)
-  pub turn_limit : (told ≡ turned.Finished TurnLimit) ↔ ((m.drawing.kept ≢ m.drawing.limits.count) × (m.drawing.turns ≡ m.drawing.limits.turns))
+  pub turn_limit : (told ≡ turned.Finished TurnLimit) ↔ ((m.drawing.kept ≢ m.drawing.limits.count)
+      × (m.drawing.turns ≡ m.drawing.limits.turns))
   pub left_open : TellsOpen table told
 
 -- A turn of one drawing of a pool: the drawing makes its turn over its tape, and what it kept is
@@ -42,14 +45,16 @@ pub record IsMemberTurn (s : Spec) (x : Fraction) (F : ℕ) (table : (level node
     (answer : Pooled) (later : MemberState) : Type 0 where
   pub told : Turned
   pub made : told ≢ turned.OutOfMemory
-  pub turn : IsTurn s x F table (bits_of m.tape.source contents) m.drawing m.tape.used told later.drawing later.tape.used
+  pub turn : IsTurn s x F table (bits_of m.tape.source contents) m.drawing m.tape.used told
+      later.drawing later.tape.used
   pub again : IfSome m.drawing.ending (λ ending. (told ≡ turned.Finished ending) × (later ≡ m))
   pub counted : IsCounted m.drawing told later.drawing
   pub next : IfKept told (IsNext m.drawing.limits m.drawing.kept later.tape.used)
   pub rightly : m.drawing.ending ≡ None → AnswersRightly table m told
   pub labels : IfKept told (HasLabels s.mode)
   pub entries : later.entries ≡ m.entries ++ kept_in told
-  pub used : (m.tape.used ≤ later.tape.used) × (later.tape.used ≤ m.tape.used + most_bits m.drawing.waiting)
+  pub used : (m.tape.used ≤ later.tape.used)
+      × (later.tape.used ≤ m.tape.used + most_bits m.drawing.waiting)
   pub source : later.tape.source ≡ m.tape.source
   pub faults : CountsFault (is_fault told m.drawing.ending) m.tape.source before now
   pub answers : answer ≡ answer_of later.drawing.ending

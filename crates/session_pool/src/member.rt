@@ -1,6 +1,6 @@
 //! One drawing of a pool, with its tape and what it kept.
 ghost use Rattle.std.specs.Prelude.{◌≡◌, ◌≢◌, ◌≤◌, max, IfOk, IsSome};
-ghost use Rattle.bz_model.specs.Fraction.{Fraction};
+ghost use Rattle.bz_model.specs.Fraction.{Fraction, IsFractionBits};
 ghost use Rattle.bz_model.specs.Oracle.{LeavesOracle};
 ghost use Rattle.bit_tape.specs.Tape.{Belongs, LeavesTape};
 ghost use Rattle.choice_draw.specs.Decision.{level_for};
@@ -69,7 +69,7 @@ impl Member {
         shelf: &mut S,
         steps: &mut Steps<L>,
     ) -> Pooled
-        requires fraction { (24 ≤ F) × (F ≤ 56) }
+        requires fraction_bits { IsFractionBits F }
         requires spec { O.spec oracle.old ≡ founded.now }
         requires drawing { DrawingBelongs founded.now (O.x oracle.old) self.old.drawing }
         requires tape { Belongs (S.content shelf.old) self.old.tape }

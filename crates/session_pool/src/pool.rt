@@ -1,14 +1,16 @@
 //! A pool of drawings.
-ghost use Rattle.std.specs.Prelude.{◌≡◌, ◌≢◌, ℕ, ◌<◌, ◌≤◌, max, [], ◌∷◌, ◌++◌, List, length, map, slice_get, IfOk, IfSome, IsSome};
+ghost use Rattle.std.specs.Prelude.{◌≡◌, ◌≢◌, ℕ, ◌<◌, ◌≤◌, max, [], ◌∷◌, ◌++◌, List, length, map};
+ghost use Rattle.std.specs.Prelude.{slice_get, IfOk, IfSome, IsSome};
 ghost use Rattle.std.specs.List.{All};
-ghost use Rattle.bz_model.specs.Fraction.{Fraction};
+ghost use Rattle.bz_model.specs.Fraction.{Fraction, IsFractionBits};
 ghost use Rattle.bz_model.specs.Oracle.{LeavesOracle};
 ghost use Rattle.choice_draw.specs.Decision.{level_for};
 ghost use Rattle.size_window.specs.RunByBits as run;
 ghost use Rattle.size_window.specs.Drawing.{limits_of, AreLimits};
 ghost use Rattle.bit_tape.specs.Tape.{TapeSource};
 ghost use Rattle.session_pool.specs.Member.{counts_of};
-ghost use Rattle.session_pool.specs.Pool.{IsNewPool, PoolBelongs, TapesBelong, LeavesTapeOf, tapes_of, sources_of, bits_to_nodes_at, ending_at};
+ghost use Rattle.session_pool.specs.Pool.{IsNewPool, PoolBelongs, TapesBelong, LeavesTapeOf};
+ghost use Rattle.session_pool.specs.Pool.{tapes_of, sources_of, bits_to_nodes_at, ending_at};
 ghost use Rattle.session_pool.specs.Turn.{IsPoolTurn, answer_of};
 ghost use Rattle.session_pool.specs.Interleaving.{Setting, setting, IsPoolAfter};
 
@@ -73,11 +75,15 @@ impl Pool {
 
     /// Makes one turn of the drawing of a number, from 0.
     ///
-    /// It answers `Going` exactly where that drawing goes on afterwards, and `Finished` exactly where
-    /// it has ended. A drawing that had ended isn't touched. The object that a turn keeps is appended
-    /// to the drawing's entries. Every other drawing stays as it was, with its tape and its entries.
+    /// It answers `Going` exactly where that drawing goes on afterwards, and `Finished` exactly
+    /// where
+    /// it has ended. A drawing that had ended isn't touched. The object that a turn keeps is
+    /// appended
+    /// to the drawing's entries. Every other drawing stays as it was, with its tape and its
+    /// entries.
     /// An ending becomes `ReadFault` exactly where the count of faults of that tape's name rose, by
-    /// one. All memory is taken before the first bit; `OutOfMemory` leaves pool, oracle and shelf as
+    /// one. All memory is taken before the first bit; `OutOfMemory` leaves pool, oracle and shelf
+    /// as
     /// they were.
     pub fn turn<const F: u32, O: Oracle<F>, S: Shelf, L: Ledger>(
         &mut self,
@@ -87,7 +93,7 @@ impl Pool {
         shelf: &mut S,
         steps: &mut Steps<L>,
     ) -> Pooled
-        requires fraction { (24 ≤ F) × (F ≤ 56) }
+        requires fraction_bits { IsFractionBits F }
         requires number { number < length self.old }
         requires spec { O.spec oracle.old ≡ founded.now }
         requires drawings { PoolBelongs founded.now (O.x oracle.old) self.old }

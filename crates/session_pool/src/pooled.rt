@@ -14,7 +14,8 @@ pub enum Pooled {
     OutOfMemory,
 }
 
-/// A drawing of a pool: the objects that it kept, in order, what it counted, how many bits of its tape
+/// A drawing of a pool: the objects that it kept, in order, what it counted, how many bits of its
+/// tape
 /// it used, and why it ended, if it ended.
 #[derive(Clone, Copy)]
 pub struct Pooling<'a> {

@@ -1,5 +1,6 @@
 -- What a step's answer tells of the visit.
-use Rattle.std.specs.Prelude.{◌≡◌, ◌≢◌, ◌↔◌, ℕ, ◌+◌, Bool, true, false, IsTrue, List, ◌∷◌, ◌++◌, Option, Some, None, IfSome, slice_get}
+use Rattle.std.specs.Prelude.{◌≡◌, ◌≢◌, ◌↔◌, ℕ, ◌+◌, Bool, true, false, IsTrue, List, ◌∷◌, ◌++◌}
+use Rattle.std.specs.Prelude.{Option, Some, None, IfSome, slice_get}
 use Rattle.bz_model.specs.declared.cell.Cell.{Cell}
 use Rattle.class_system.specs.declared.ids.ExprId.{ExprId}
 use Rattle.bz_model.specs.declared.cell.Bounds.{Bounds}
@@ -13,7 +14,9 @@ use Rattle.choice_draw.specs.Draw.{Bit, bit_of}
 use Rattle.count_draw.specs.Kinds.{IsCountedNode}
 use Rattle.count_draw.specs.Decision.{count_decision}
 use Rattle.shape_sampler.specs.declared.stepped.Stepped.{Stepped}
-use Rattle.shape_sampler.specs.declared.stepped.Stepped.TheVariants.{Moved, Made, Overshot, Straddles, Ended, ReadFault, OutOfMemory}
+use Rattle.shape_sampler.specs.declared.stepped.Stepped.TheVariants.{Moved, Made, Overshot}
+use Rattle.shape_sampler.specs.declared.stepped.Stepped.TheVariants.{Straddles, Ended, ReadFault}
+use Rattle.shape_sampler.specs.declared.stepped.Stepped.TheVariants.{OutOfMemory}
 use Rattle.shape_sampler.specs.Visit.{Chooser, Attempt, Visited, visit, atom_visited, with_pending}
 use Rattle.shape_sampler.specs.State.{SessionState, attempt_of, Leaves}
 use Rattle.shape_sampler.specs.Belonging.{IsIdealShape, IsIdealOver}

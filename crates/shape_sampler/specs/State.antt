@@ -1,5 +1,6 @@
 -- The state of a session.
-use Rattle.std.specs.Prelude.{◌≡◌, ◌≢◌, ℕ, ◌<◌, length, replicate, slice_index, List, [], ◌∷◌, ◌++◌, Option, Some, None}
+use Rattle.std.specs.Prelude.{◌≡◌, ◌≢◌, ℕ, ◌<◌, length, replicate, slice_index, List, [], ◌∷◌, ◌++◌}
+use Rattle.std.specs.Prelude.{Option, Some, None}
 use Rattle.bz_model.specs.declared.cell.Cell.{Cell}
 use Rattle.bz_model.specs.Fraction.{Fraction}
 use Rattle.bz_model.specs.Cell.{AreCells}
@@ -14,7 +15,9 @@ use Rattle.count_draw.specs.declared.drawn.CountDrawn.TheVariants as counted
 use Rattle.object_store.specs.declared.token.Token.{Token}
 use Rattle.object_store.specs.declared.token.Token.TheVariants as token
 use Rattle.shape_sampler.specs.declared.stepped.Stepped.{Stepped}
-use Rattle.shape_sampler.specs.declared.stepped.Stepped.TheVariants.{Moved, Made, Overshot, Straddles, Ended, ReadFault, OutOfMemory}
+use Rattle.shape_sampler.specs.declared.stepped.Stepped.TheVariants.{Moved, Made, Overshot}
+use Rattle.shape_sampler.specs.declared.stepped.Stepped.TheVariants.{Straddles, Ended, ReadFault}
+use Rattle.shape_sampler.specs.declared.stepped.Stepped.TheVariants.{OutOfMemory}
 use Rattle.shape_sampler.specs.Visit.{Attempt}
 use Rattle.shape_sampler.specs.Belonging.{Belonging}
 
@@ -32,7 +35,14 @@ pub record SessionState : Type 0 where
 
 -- The attempt of a session, so many bits of the tape being used.
 abbrev pub attempt_of : SessionState → (used : ℕ) → Attempt
-attempt_of st used = record { pending = st.pending; tokens = st.tokens; cells = st.cells; room = st.room; used = used }
+attempt_of st used = record {
+  pending = st.pending;
+  tokens = st.tokens;
+  cells = st.cells;
+  room =
+      st.room;
+  used = used;
+}
 
 -- A session at the start of an attempt: the body of class 0 is pending, tokens and cells are empty,
 -- the room is whole, and nothing stopped it.

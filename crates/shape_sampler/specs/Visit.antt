@@ -1,5 +1,6 @@
 -- One visit of an attempt: the first pending node is visited.
-use Rattle.std.specs.Prelude.{ℕ, zero, suc, ◌+◌, Bool, List, [], ◌∷◌, ◌++◌, replicate, slice_index, Option, Some, None, if◌then◌else◌}
+use Rattle.std.specs.Prelude.{ℕ, zero, suc, ◌+◌, Bool, List, [], ◌∷◌, ◌++◌, replicate, slice_index}
+use Rattle.std.specs.Prelude.{Option, Some, None, if◌then◌else◌}
 use Rattle.bz_model.specs.declared.cell.Cell.{Cell}
 use Rattle.bz_model.specs.Spec.{Spec, Node, node_at}
 use Rattle.object_store.specs.declared.token.Token.{Token}
@@ -120,4 +121,11 @@ visit c bit a = visit_among c bit a a.pending
 
 -- An attempt starts with the body of class 0 pending and the whole room.
 abbrev pub begun : Spec → (room used : ℕ) → Attempt
-begun s room used = record { pending = slice_index s.bodies 0 ∷ []; tokens = []; cells = []; room = room; used = used }
+begun s room used = record {
+  pending = slice_index s.bodies 0 ∷ [];
+  tokens = [];
+  cells = [];
+  room =
+      room;
+  used = used;
+}

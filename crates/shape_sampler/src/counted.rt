@@ -1,11 +1,13 @@
 //! Sequences, sets and cycles: their part, the room of their number of parts, and what a draw of it
 //! puts.
-ghost use Rattle.std.specs.Prelude.{◌≡◌, ◌<◌, ◌≤◌, ◌∷◌, ◌++◌, length, replicate, ℕ, List, IfSome, IfNone};
+ghost use Rattle.std.specs.Prelude.{◌≡◌, ◌<◌, ◌≤◌, ◌∷◌, ◌++◌, length, replicate, ℕ, List, IfSome};
+ghost use Rattle.std.specs.Prelude.{IfNone};
 ghost use Rattle.bz_model.specs.Cell.{IsCell};
 ghost use Rattle.bz_model.specs.Measures.{HasZero};
 ghost use Rattle.count_draw.specs.Kinds.{IsCountedNode};
 ghost use Rattle.count_draw.specs.Answer.{OnCount, OnOver};
-ghost use Rattle.shape_sampler.specs.State.{HasCountedPart, PutsParts, count_answer, count_tokens, count_cells};
+ghost use Rattle.shape_sampler.specs.State.{HasCountedPart, PutsParts, count_answer, count_tokens};
+ghost use Rattle.shape_sampler.specs.State.{count_cells};
 
 use crate::placing::{answer, put_token};
 use crate::stepped::Stepped;
@@ -31,7 +33,8 @@ pub(crate) fn counted_part(system: &System, node: ExprId) -> Option<ExprId>
     }
 }
 
-/// The room of a number of parts: 64 where the part has an object of size 0, and else the room left.
+/// The room of a number of parts: 64 where the part has an object of size 0, and else the room
+/// left.
 pub(crate) fn room_for(founded: &Founded, part: ExprId, left: u64) -> u64
     requires in_range { part.0 < length founded.now.nodes }
     requires few { left ≤ 1000000 }
@@ -42,8 +45,10 @@ pub(crate) fn room_for(founded: &Founded, part: ExprId, left: u64) -> u64
     if founded.has_zero(part) { 64 } else { left }
 }
 
-/// Puts what was drawn at a sequence, set or cycle: the number of parts as a token, its cell, and the
-/// part so many times; where every number up to the room is passed over, the cell alone, and nothing
+/// Puts what was drawn at a sequence, set or cycle: the number of parts as a token, its cell, and
+/// the
+/// part so many times; where every number up to the room is passed over, the cell alone, and
+/// nothing
 /// stays pending.
 pub(crate) fn put_counted(
     pending: &mut Pending,

@@ -2,7 +2,8 @@
 ghost use Rattle.std.specs.Prelude.{◌≡◌, ◌<◌, ◌≤◌, [], ◌∷◌, ◌++◌, map, length, ℕ, List, OnOk};
 ghost use Rattle.bz_model.specs.Cell.{IsCell};
 ghost use Rattle.class_system.specs.Views.{number};
-ghost use Rattle.shape_sampler.specs.State.{answer_for, union_answer, stop_after, PutsPart, drawn_tokens, drawn_cells};
+ghost use Rattle.shape_sampler.specs.State.{answer_for, union_answer, stop_after, PutsPart};
+ghost use Rattle.shape_sampler.specs.State.{drawn_tokens, drawn_cells};
 ghost use Rattle.choice_draw.specs.Answer.{OnValue};
 
 use crate::stepped::Stepped;

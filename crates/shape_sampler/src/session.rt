@@ -1,6 +1,8 @@
 //! Sessions: attempts, made one visit at a time.
-ghost use Rattle.std.specs.Prelude.{◌≡◌, ◌≢◌, ◌+◌, ◌-◌, ◌<◌, ◌≤◌, ◌↔◌, max, [], ◌∷◌, map, length, slice_get, Some, None, IfSome, IsSome, IfOk, OnOk, OnErr, IsTrue};
-ghost use Rattle.bz_model.specs.Fraction.{Fraction};
+ghost use Rattle.std.specs.Prelude.{◌≡◌, ◌≢◌, ◌+◌, ◌-◌, ◌<◌, ◌≤◌, ◌↔◌, max, [], ◌∷◌, map, length};
+ghost use Rattle.std.specs.Prelude.{slice_get, Some, None, IfSome, IsSome, IfOk, OnOk, OnErr};
+ghost use Rattle.std.specs.Prelude.{IsTrue};
+ghost use Rattle.bz_model.specs.Fraction.{Fraction, IsFractionBits};
 ghost use Rattle.bz_model.specs.Spec.{Spec, Node, node_at, body_of};
 ghost use Rattle.bz_model.specs.Oracle.{LeavesOracle};
 ghost use Rattle.class_system.specs.Views.{number};
@@ -8,8 +10,11 @@ ghost use Rattle.bit_tape.specs.Tape.{Belongs, LeavesTape, bits_of};
 ghost use Rattle.choice_draw.specs.Decision.{IsUnion, level_for};
 ghost use Rattle.count_draw.specs.Kinds.{IsCountedNode};
 ghost use Rattle.shape_sampler.specs.Visit.{leaf_visited};
-ghost use Rattle.shape_sampler.specs.State.{SessionState, SessionBelongs, HasCountedPart, begun_state, emptied, Leaves};
-ghost use Rattle.shape_sampler.specs.Answer.{IsVisitByBits, IsIdealAnswer, IsVisitOfAll, IsPlainAnswer, IsPlainVisit, room_atom_visited, replaced_by, Draws, is_fault};
+ghost use Rattle.shape_sampler.specs.State.{SessionState, SessionBelongs, HasCountedPart};
+ghost use Rattle.shape_sampler.specs.State.{begun_state, emptied, Leaves};
+ghost use Rattle.shape_sampler.specs.Answer.{IsVisitByBits, IsIdealAnswer, IsVisitOfAll};
+ghost use Rattle.shape_sampler.specs.Answer.{IsPlainAnswer, IsPlainVisit, room_atom_visited};
+ghost use Rattle.shape_sampler.specs.Answer.{replaced_by, Draws, is_fault};
 
 use crate::counted::{answer_to_count, counted_part, put_counted, room_for};
 use crate::placing::{
@@ -27,8 +32,8 @@ use choice_draw::union::draw_union;
 use class_system::expr::Expr;
 use class_system::ids::{ClassId, ExprId};
 use class_system::system::System;
+use count_draw::cache::KeptTables;
 use count_draw::count::draw_count_kept;
-use count_draw::kept::KeptTables;
 use object_store::pending::Pending;
 use object_store::shape::Shape;
 use object_store::token::Token;
@@ -59,19 +64,30 @@ impl Model for Session {
 
     ghost Value = { SessionState };
 
-    ghost view = { λ s. record { root = s.root.0; whole = s.whole; pending = s.pending.items; tokens = s.shape.items; cells = s.cells.items; room = s.room; stopped = s.stopped } };
+    ghost view = { λ s. record {
+      root = s.root.0;
+      whole = s.whole;
+      pending = s.pending.items;
+      tokens =
+          s.shape.items;
+      cells = s.cells.items;
+      room = s.room;
+      stopped = s.stopped;
+    } };
 
     ghost invariant = { λ s. IsStop s.stopped × (s.whole ≤ 1000000) × (s.room ≤ 1000000) };
 }
 
 impl Session {
-    /// A session before its first attempt. Takes the memory of the values that its draws keep, and no
+    /// A session before its first attempt. Takes the memory of the values that its draws keep, and
+    /// no
     /// other yet.
     pub fn new(alloc: Global, founded: &Founded, room: u64) -> Result<Session, AllocError>
         requires room { room ≤ 1000000 }
         ensures root { IfOk result (λ s. body_of founded.now 0 ≡ Some s.root) }
         ensures whole { IfOk result (λ s. s.whole ≡ room) }
-        ensures idle { IfOk result (λ s. (s.pending ≡ []) × (s.tokens ≡ []) × (s.cells ≡ []) × (s.stopped ≡ None)) }
+        ensures idle { IfOk result (λ s. (s.pending ≡ []) × (s.tokens ≡ []) × (s.cells ≡ [])
+            × (s.stopped ≡ None)) }
         ensures belongs { IfOk result (λ s. (x : Fraction) → SessionBelongs founded.now x s) }
     {
         let system = founded.system();
@@ -94,7 +110,8 @@ impl Session {
     pub fn begin(&mut self) -> Result<(), AllocError>
         ensures ok { OnOk result (self.new ≡ begun_state self.old) }
         ensures err { OnErr result (self.new ≡ self.old) }
-        ensures belongs { (s : Spec) (x : Fraction) → SessionBelongs s x self.old → SessionBelongs s x self.new }
+        ensures belongs { (s : Spec) (x : Fraction) → SessionBelongs s x self.old
+            → SessionBelongs s x self.new }
     {
         self.pending.reserve(1)?;
         self.pending.clear();
@@ -127,14 +144,16 @@ impl Session {
         !self.pending.is_empty()
     }
 
-    /// Moves the tokens and the cells out, where nothing is pending, and leaves both empty. Takes no
+    /// Moves the tokens and the cells out, where nothing is pending, and leaves both empty. Takes
+    /// no
     /// memory.
     pub fn take_made(&mut self) -> (Shape, Cells)
         requires made { self.old.pending ≡ [] }
         ensures shape { result.0.items ≡ self.old.tokens }
         ensures cells { result.1.items ≡ self.old.cells }
         ensures left { self.new ≡ emptied self.old }
-        ensures belongs { (s : Spec) (x : Fraction) → SessionBelongs s x self.old → SessionBelongs s x self.new }
+        ensures belongs { (s : Spec) (x : Fraction) → SessionBelongs s x self.old
+            → SessionBelongs s x self.new }
     {
         let shape = replace(&mut self.shape, Shape::new(self.alloc));
         let cells = replace(&mut self.cells, Cells::new(self.alloc));
@@ -143,13 +162,17 @@ impl Session {
 
     /// Visits the first pending node, by its kind.
     ///
-    /// A neutral leaf adds `Unit`; an atom adds `Dot` and lowers the room, and is `Overshot` at room
+    /// A neutral leaf adds `Unit`; an atom adds `Dot` and lowers the room, and is `Overshot` at
+    /// room
     /// 0; a class puts its body in its place and a product its parts; a union draws its option,
     /// adds `Pick` and puts that part in its place. A sequence, set or cycle draws its number of
-    /// parts, up to the room left, or to 64 where its part has an object of size 0, adds `Count` and
+    /// parts, up to the room left, or to 64 where its part has an object of size 0, adds `Count`
+    /// and
     /// puts its part in its place so often; it is `Overshot` where every number up to the room is
-    /// passed over. The answer is fixed by the bits that were given and the oracle's table, whether the
-    /// shelf tells its content or not. `ReadFault` comes exactly where the count of faults of the tape's
+    /// passed over. The answer is fixed by the bits that were given and the oracle's table, whether
+    /// the
+    /// shelf tells its content or not. `ReadFault` comes exactly where the count of faults of the
+    /// tape's
     /// name rose, by one. The memory of a visit is taken before its first bit. After `Straddles`,
     /// `Ended` or `ReadFault` the session answers the same until `begin`, and touches nothing.
     pub fn step<const F: u32, O: Oracle<F>, S: Shelf, L: Ledger>(
@@ -160,7 +183,7 @@ impl Session {
         shelf: &mut S,
         steps: &mut Steps<L>,
     ) -> Stepped
-        requires fraction { (24 ≤ F) × (F ≤ 56) }
+        requires fraction_bits { IsFractionBits F }
         requires spec { O.spec oracle.old ≡ founded.now }
         requires session { SessionBelongs founded.now (O.x oracle.old) self.old }
         requires pending { self.old.pending ≢ [] }
@@ -216,7 +239,8 @@ impl Session {
         ensures plain { IsPlainAnswer result }
         ensures leaves { Leaves result self.old self.new }
         ensures cells { self.new.cells ≡ self.old.cells }
-        ensures exact { result ≢ Stepped.OutOfMemory → IsVisitOfAll system.now self.old result self.new }
+        ensures exact { result ≢ Stepped.OutOfMemory
+            → IsVisitOfAll system.now self.old result self.new }
         ensures session { (x : Fraction) → SessionBelongs system.now x self.old
             → SessionBelongs system.now x self.new × IsIdealAnswer system.now x result self.new }
     {
@@ -301,7 +325,7 @@ impl Session {
         shelf: &mut S,
         steps: &mut Steps<L>,
     ) -> Stepped
-        requires fraction { (24 ≤ F) × (F ≤ 56) }
+        requires fraction_bits { IsFractionBits F }
         requires spec { O.spec oracle.old ≡ system.now }
         requires union { node_at system.now node.0 ≡ Some (Node.Union (map number parts.now)) }
         requires few { length parts.now ≤ 64 }
@@ -317,7 +341,8 @@ impl Session {
             (bits_of tape.old.source (S.content shelf.old))
             self.old tape.old.used result self.new tape.new.used }
         ensures session { SessionBelongs system.now (O.x oracle.old) self.old
-            → SessionBelongs system.now (O.x oracle.old) self.new × IsIdealAnswer system.now (O.x oracle.old) result self.new }
+            → SessionBelongs system.now (O.x oracle.old) self.new
+            × IsIdealAnswer system.now (O.x oracle.old) result self.new }
 
         ensures raised { O.raised oracle.new
             ≡ max (O.raised oracle.old) (level_for (tape.new.used - tape.old.used)) }
@@ -355,7 +380,7 @@ impl Session {
         shelf: &mut S,
         steps: &mut Steps<L>,
     ) -> Stepped
-        requires fraction { (24 ≤ F) × (F ≤ 56) }
+        requires fraction_bits { IsFractionBits F }
         requires spec { O.spec oracle.old ≡ founded.now }
         requires counted { HasCountedPart founded.now node.0 part.0 }
         requires running { self.old.stopped ≡ None }
@@ -370,7 +395,8 @@ impl Session {
             (bits_of tape.old.source (S.content shelf.old))
             self.old tape.old.used result self.new tape.new.used }
         ensures session { SessionBelongs founded.now (O.x oracle.old) self.old
-            → SessionBelongs founded.now (O.x oracle.old) self.new × IsIdealAnswer founded.now (O.x oracle.old) result self.new }
+            → SessionBelongs founded.now (O.x oracle.old) self.new
+            × IsIdealAnswer founded.now (O.x oracle.old) result self.new }
 
         ensures raised { O.raised oracle.new
             ≡ max (O.raised oracle.old) (level_for (tape.new.used - tape.old.used)) }

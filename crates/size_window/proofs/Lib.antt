@@ -21,3 +21,4 @@ pub mod FewBits
 pub mod TapeEnds
 pub mod TraceEntries
 pub mod ToldTraces
+pub mod OpenBits

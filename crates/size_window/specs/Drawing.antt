@@ -1,5 +1,6 @@
 -- What contracts see of a drawing.
-use Rattle.std.specs.Prelude.{◌≡◌, ℕ, ◌+◌, ◌*◌, ◌≤◌, List, [], ◌∷◌, Option, Some, None, IfSome, option_map}
+use Rattle.std.specs.Prelude.{◌≡◌, ℕ, ◌+◌, ◌*◌, ◌≤◌, List, [], ◌∷◌, Option, Some, None, IfSome}
+use Rattle.std.specs.Prelude.{option_map}
 use Rattle.std.specs.Option.{is_some}
 use Rattle.bz_model.specs.declared.cell.Cell.{Cell}
 use Rattle.bz_model.specs.Fraction.{Fraction}
@@ -8,14 +9,15 @@ use Rattle.bz_model.specs.Cell.{AreCells}
 use Rattle.object_store.specs.declared.token.Token.{Token}
 use Rattle.object_store.specs.Tokens.{size_of}
 use Rattle.shape_sampler.specs.Visit.{Attempt}
-use Rattle.shape_sampler.specs.State.{SessionState, SessionBelongs, attempt_of, begun_state, emptied}
+use Rattle.shape_sampler.specs.State.{SessionState, SessionBelongs, attempt_of, begun_state}
+use Rattle.shape_sampler.specs.State.{emptied}
 use Rattle.shape_sampler.specs.Belonging.{IsIdealShape}
 use Rattle.size_window.specs.declared.ending.Ending.{Ending}
 use Rattle.size_window.specs.declared.ending.Ending.TheVariants as ending
 use Rattle.size_window.specs.declared.ending.Straddle.{Straddle}
 use Rattle.size_window.specs.declared.ending.Straddle.TheVariants as straddle
 use Rattle.size_window.specs.declared.limits.Limits as declared
-use Rattle.size_window.specs.declared.made.Made.{Made}
+use Rattle.size_window.specs.declared.finished_shape.Made.{Made}
 use Rattle.size_window.specs.RunByBits as run
 use Rattle.size_window.specs.RunByBits.{Limits, State, no_attempt}
 

@@ -55,4 +55,10 @@ decision_by s f table e room _ = λ cell. None
 -- have an object of size 0.
 abbrev pub chooser_of : Spec → (f : ℕ) → (table : (level node : ℕ) → Bounds) → (is_free : (node : ℕ)
     → Bool) → Chooser
-chooser_of s f table is_free = record { spec = s; decide = λ e room. decision_by s f table e room (node_at s e); is_free = is_free }
+chooser_of s f table is_free =
+    record {
+      spec = s;
+      decide = λ e room. decision_by s f table e room (node_at s e);
+      is_free =
+          is_free;
+    }

@@ -1,6 +1,8 @@
 -- A drawing as a function of the tape's bits: its state, one turn, and the state after any number
 -- of turns.
-use Rattle.std.specs.Prelude.{ℕ, zero, suc, ◌+◌, ◌-◌, Bool, true, false, nat_eq, nat_lt, List, [], ◌∷◌, ◌++◌, Option, Some, None, option_map, option_to_list, if◌then◌else◌}
+use Rattle.std.specs.Prelude.{ℕ, zero, suc, ◌+◌, ◌-◌, Bool, true, false, nat_eq, nat_lt, List, []}
+use Rattle.std.specs.Prelude.{◌∷◌, ◌++◌, Option, Some, None, option_map, option_to_list}
+use Rattle.std.specs.Prelude.{if◌then◌else◌}
 use Rattle.bz_model.specs.declared.cell.Cell.{Cell}
 use Rattle.bz_model.specs.Spec.{Mode}
 use Rattle.object_store.specs.declared.token.Token.{Token}
@@ -74,7 +76,15 @@ idle st = record st { attempt = no_attempt st.attempt.used; awaits = false }
 
 -- The state at the start.
 abbrev pub start : State
-start = record { attempt = no_attempt 0; awaits = false; kept = 0; thrown = 0; turns = 0; ending = None }
+start = record {
+  attempt = no_attempt 0;
+  awaits = false;
+  kept = 0;
+  thrown = 0;
+  turns = 0;
+  ending =
+      None;
+}
 
 -- A turn that keeps nothing and finishes no number.
 abbrev pub quiet : State → Turned
@@ -143,7 +153,12 @@ added (c ∷ before) (d ∷ after) = added before after
 abbrev pub visited : Sampling → State → Visited → Turned
 visited s st (Visited.Went a) =
     went s (with_attempt st a) a.pending (added st.attempt.cells a.cells)
-visited s st (Visited.Over a) = record { state = thrown_away (with_attempt st a); entry = None; cells = added st.attempt.cells a.cells }
+visited s st (Visited.Over a) = record {
+  state = thrown_away (with_attempt st a);
+  entry =
+      None;
+  cells = added st.attempt.cells a.cells;
+}
 visited s st (Visited.Straddled node cell) =
     quiet (ended st (Ending.Undecided (Open.AtNode node cell))
     (st.attempt.used + cell.b))
@@ -163,7 +178,13 @@ cut_short st ending finished place =
 
 -- What a labelling means for the drawing: the shape is kept with its labels, or the drawing ends.
 abbrev pub labelled_with : State → Labelling → Turned
-labelled_with st (Labelling.Given labels cells place) = record { state = kept_one (at_place st place); entry = Some (entry_of (at_place st place) labels cells); cells = cells }
+labelled_with st (Labelling.Given labels cells place) =
+    record {
+      state = kept_one (at_place st place);
+      entry =
+          Some (entry_of (at_place st place) labels cells);
+      cells = cells;
+    }
 labelled_with st (Labelling.Straddled m cell finished place) =
     cut_short st (Ending.Undecided (Open.AtLabel m cell)) finished place
 labelled_with st (Labelling.Ended finished place) = cut_short st Ending.TapeEnded finished place
@@ -205,7 +226,12 @@ pub record Course : Type 0 where
   pub cells : List Cell
 
 abbrev pub followed_by : Course → Turned → Course
-followed_by c t = record { state = t.state; entries = c.entries ++ option_to_list t.entry; cells = c.cells ++ t.cells }
+followed_by c t = record {
+  state = t.state;
+  entries = c.entries ++ option_to_list t.entry;
+  cells =
+      c.cells ++ t.cells;
+}
 
 -- The course with one more turn.
 abbrev pub one_turn_on : Sampling → (fault : Option ℕ) → Course → Course

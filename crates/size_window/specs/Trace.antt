@@ -1,5 +1,6 @@
 -- A drawing's whole way over its tape, from its start on.
-use Rattle.std.specs.Prelude.{◌≡◌, ◌≢◌, ℕ, zero, suc, ◌-◌, ◌<◌, max, map, sum, Bool, List, [], ◌++◌, length, Option, Some, None, IfSome, IsSome, if◌then◌else◌}
+use Rattle.std.specs.Prelude.{◌≡◌, ◌≢◌, ℕ, zero, suc, ◌-◌, ◌<◌, max, map, sum, Bool, List, [], ◌++◌}
+use Rattle.std.specs.Prelude.{length, Option, Some, None, IfSome, IsSome, if◌then◌else◌}
 use Rattle.bz_model.specs.declared.cell.Bounds.{Bounds}
 use Rattle.bz_model.specs.declared.cell.Cell.{Cell}
 use Rattle.bz_model.specs.Cell.{AreCells, bits_of, spelled}
@@ -9,7 +10,8 @@ use Rattle.bit_tape.specs.Given.{HasBits, Gave}
 use Rattle.labelling.specs.Spelled.{AreSpelled}
 use Rattle.shape_sampler.specs.Visit.{Chooser}
 use Rattle.shape_sampler.specs.Answer.{ChoosesBy}
-use Rattle.size_window.specs.RunByBits.{Open, Ending, Limits, Sampling, State, Entry, Course, start, at_start, followed_by, after}
+use Rattle.size_window.specs.RunByBits.{Open, Ending, Limits, Sampling, State, Entry, Course, start}
+use Rattle.size_window.specs.RunByBits.{at_start, followed_by, after}
 use Rattle.size_window.specs.Drawing.{DrawingState, state_of}
 use Rattle.size_window.specs.Follows.{Goes}
 use Rattle.size_window.specs.declared.turned.Turned.{Turned}
@@ -118,14 +120,16 @@ TurnsContinueOf s = (x : Fraction) (F : ℕ) (table : (level node : ℕ) → Bou
     (c : Course) → HasTrace s x F table limits told turns before used most c → (answer : Turned)
     (now : DrawingState) (later : ℕ) (turn : IsTurn s x F table told before used answer now later)
     → IsCounted before answer now
-    → HasTrace s x F table limits told (suc turns) now later (max most (node_bits before.waiting (later - used)))
+    → HasTrace s x F table limits told (suc turns) now later
+    (max most (node_bits before.waiting (later - used)))
     (followed_by c turn.turned)
 
 -- So it does from every sound specification.
 abbrev pub TurnsContinue : Type 0
 TurnsContinue = (s : Spec) → IsSound s → TurnsContinueOf s
 
--- A trace over a tape whose bits are told, where no read failed at its end, is the course over these
+-- A trace over a tape whose bits are told, where no read failed at its end, is the course over
+-- these
 -- bits in which none fails.
 abbrev pub ToldTracesAreCourses : Type 0
 ToldTracesAreCourses = (s : Spec) (x : Fraction) (F : ℕ) (table : (level node : ℕ) → Bounds)
@@ -140,10 +144,12 @@ pub record HasEnded (c : Course) : Type 0 where
   pub undisturbed : c.state.ending ≢ Some Ending.ReadFault
 
 -- Two traces over one tape whose bits are told, both of which have ended, and neither with a failed
--- read, are one course, with the same greatest number of bits that a number of a choice node was given.
+-- read, are one course, with the same greatest number of bits that a number of a choice node was
+-- given.
 abbrev pub EndedTracesAreOne : Type 0
 EndedTracesAreOne = (s : Spec) (x : Fraction) (F : ℕ) (table : (level node : ℕ) → Bounds)
     (limits : Limits) (tape : ℕ → Option Bool) (k : Chooser) → ChoosesBy s F table k
-    → (turns most : ℕ) (c : Course) → IsTrace s x F table limits (Some tape) turns most c → HasEnded c
+    → (turns most : ℕ) (c : Course) → IsTrace s x F table limits (Some tape) turns most c
+    → HasEnded c
     → (others greatest : ℕ) (d : Course) → IsTrace s x F table limits (Some tape) others greatest d
     → HasEnded d → (c ≡ d) × (most ≡ greatest)

@@ -1,5 +1,6 @@
 -- What one turn of a drawing makes of it.
-use Rattle.std.specs.Prelude.{◌≡◌, ◌≢◌, ℕ, ◌+◌, ◌-◌, ◌*◌, ◌<◌, ◌≤◌, ◌⊎◌, Bool, true, false, List, [], Option, Some, None, IfSome}
+use Rattle.std.specs.Prelude.{◌≡◌, ◌≢◌, ℕ, ◌+◌, ◌-◌, ◌*◌, ◌<◌, ◌≤◌, ◌⊎◌, Bool, true, false, List}
+use Rattle.std.specs.Prelude.{[], Option, Some, None, IfSome}
 use Rattle.bz_model.specs.declared.cell.Bounds.{Bounds}
 use Rattle.bz_model.specs.declared.cell.Cell.{Cell}
 use Rattle.bz_model.specs.Fraction.{Fraction}
@@ -14,7 +15,8 @@ use Rattle.shape_sampler.specs.declared.stepped.Stepped.TheVariants as stepped
 use Rattle.shape_sampler.specs.Visit.{Chooser}
 use Rattle.shape_sampler.specs.Answer.{ChoosesBy}
 use Rattle.size_window.specs.declared.ending.Ending.{Ending}
-use Rattle.size_window.specs.declared.ending.Ending.TheVariants.{Done, TapeEnded, Undecided, TurnLimit, ReadFault}
+use Rattle.size_window.specs.declared.ending.Ending.TheVariants.{Done, TapeEnded, Undecided}
+use Rattle.size_window.specs.declared.ending.Ending.TheVariants.{TurnLimit, ReadFault}
 use Rattle.size_window.specs.declared.ending.Straddle.TheVariants as straddle
 use Rattle.size_window.specs.declared.turned.Entry.{Entry}
 use Rattle.size_window.specs.declared.turned.Turned.{Turned}
@@ -25,7 +27,9 @@ use Rattle.size_window.specs.RunByBits as run
 use Rattle.labelling.specs.LabelsByBits.{bits_in}
 use Rattle.size_window.specs.RunByBits.{Limits, Course, followed_by, turn}
 use Rattle.size_window.specs.Follows.{Goes}
-use Rattle.size_window.specs.Drawing.{MadeShape, DrawingState, state_of, shape_in, counted, thrown_one, taken_out, waiting_with, kept_one_more, ended_by, begun_one}
+use Rattle.size_window.specs.Drawing.{MadeShape, DrawingState, state_of, shape_in, counted}
+use Rattle.size_window.specs.Drawing.{thrown_one, taken_out, waiting_with, kept_one_more, ended_by}
+use Rattle.size_window.specs.Drawing.{begun_one}
 
 -- The labels of an entry, where it has any.
 abbrev pub labels_of : Option (List ℕ) → List ℕ
@@ -34,7 +38,15 @@ labels_of (Some labels) = labels
 
 -- The entry of a struct: its size is that of its tokens.
 abbrev pub entry_of : Entry → run.Entry
-entry_of e = record { number = e.number; place = e.place; size = size_of e.shape.items; tokens = e.shape.items; labels = labels_of e.labels; cells = e.cells.items }
+entry_of e = record {
+  number = e.number;
+  place = e.place;
+  size = size_of e.shape.items;
+  tokens =
+      e.shape.items;
+  labels = labels_of e.labels;
+  cells = e.cells.items;
+}
 
 -- The entry that an answer tells.
 abbrev pub told_entry : Turned → Option run.Entry

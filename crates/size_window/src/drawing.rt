@@ -1,6 +1,8 @@
 //! Drawings: objects within a window of sizes, one turn at a time.
-ghost use Rattle.std.specs.Prelude.{◌≡◌, ◌≢◌, ◌+◌, ◌-◌, ◌*◌, ◌<◌, ◌≤◌, ◌↔◌, ◌∷◌, ◌++◌, max, [], length, Option, Some, None, IfSome, IfNone, IsSome, IfOk, OnOk, OnErr};
-ghost use Rattle.bz_model.specs.Fraction.{Fraction};
+ghost use Rattle.std.specs.Prelude.{◌≡◌, ◌≢◌, ◌+◌, ◌-◌, ◌*◌, ◌<◌, ◌≤◌, ◌↔◌, ◌∷◌, ◌++◌, max, []};
+ghost use Rattle.std.specs.Prelude.{length, Option, Some, None, IfSome, IfNone, IsSome, IfOk, OnOk};
+ghost use Rattle.std.specs.Prelude.{OnErr};
+ghost use Rattle.bz_model.specs.Fraction.{Fraction, IsFractionBits};
 ghost use Rattle.bz_model.specs.Oracle.{LeavesOracle};
 ghost use Rattle.bit_tape.specs.Tape.{Belongs, LeavesTape, bits_of};
 ghost use Rattle.class_system.specs.Views.{spec_mode};
@@ -9,13 +11,17 @@ ghost use Rattle.labelling.specs.Answer.{OnLabels};
 ghost use Rattle.labelling.specs.LabelsByBits.{bits_in};
 ghost use Rattle.object_store.specs.Tokens.{size_of};
 ghost use Rattle.size_window.specs.RunByBits.{start};
-ghost use Rattle.size_window.specs.Drawing.{limits_of, state_of, shape_of, AreLimits, DrawingBelongs, counted, thrown_one, none_waiting, waiting_with, kept_one_more, ended_by, begun_one};
-ghost use Rattle.size_window.specs.Turn.{IsTurn, is_fault, turns_by, IsCounted, IfKept, IsNext, HasLabels, node_bits, most_bits, TellsOpen, outcome_of, IsIdleTurn, IfStraddles, Settles, KeepsOrWaits, MaySettle};
+ghost use Rattle.size_window.specs.Drawing.{limits_of, state_of, shape_of, AreLimits};
+ghost use Rattle.size_window.specs.Drawing.{DrawingBelongs, counted, thrown_one, none_waiting};
+ghost use Rattle.size_window.specs.Drawing.{waiting_with, kept_one_more, ended_by, begun_one};
+ghost use Rattle.size_window.specs.Turn.{IsTurn, is_fault, turns_by, IsCounted, IfKept, IsNext};
+ghost use Rattle.size_window.specs.Turn.{HasLabels, node_bits, most_bits, TellsOpen, outcome_of};
+ghost use Rattle.size_window.specs.Turn.{IsIdleTurn, IfStraddles, Settles, KeepsOrWaits, MaySettle};
 ghost use Rattle.size_window.specs.LabelTurn.{IsLabelTurn, SettlesLabels};
 
 use crate::ending::{Ending, Straddle};
+use crate::finished_shape::{Made, place_before};
 use crate::limits::{Counts, Limits};
-use crate::made::{Made, place_before};
 use crate::turned::{Entry, Outcome, Turned};
 use bit_tape::tape::Tape;
 use bz_model::cell::Bounds;
@@ -110,15 +116,19 @@ impl Drawing {
     ///
     /// A drawing that ended answers its ending again, and nothing changes. Else it ends with `Done`
     /// exactly where as many objects as wanted are kept, and else with `TurnLimit` exactly where as
-    /// many turns as the limit were counted; both cost no turn. Else a turn is counted: a made shape
+    /// many turns as the limit were counted; both cost no turn. Else a turn is counted: a made
+    /// shape
     /// that waits gets its labels and is kept; else an attempt begins, or one node of the attempt
     /// under way is visited. A made shape of at least the least size is kept in unlabelled mode and
     /// waits for its labels in labelled mode; a smaller one, and an attempt over the greatest size,
     /// is thrown away. The bits of thrown attempts stay used. A cell that straddles, the tape's end
     /// and a failed read end the drawing. The answer is fixed by the bits that were given and the
-    /// oracle's table, whether the shelf tells its content or not. A failed read is answered exactly
-    /// where the count of faults of the tape's name rose, by one. The memory of a turn is taken before
-    /// its first bit; `OutOfMemory` leaves drawing, tape, oracle and shelf as they were, and counts no
+    /// oracle's table, whether the shelf tells its content or not. A failed read is answered
+    /// exactly
+    /// where the count of faults of the tape's name rose, by one. The memory of a turn is taken
+    /// before
+    /// its first bit; `OutOfMemory` leaves drawing, tape, oracle and shelf as they were, and counts
+    /// no
     /// turn.
     pub fn turn<const F: u32, O: Oracle<F>, S: Shelf, L: Ledger>(
         &mut self,
@@ -128,7 +138,7 @@ impl Drawing {
         shelf: &mut S,
         steps: &mut Steps<L>,
     ) -> Turned
-        requires fraction { (24 ≤ F) × (F ≤ 56) }
+        requires fraction_bits { IsFractionBits F }
         requires spec { O.spec oracle.old ≡ founded.now }
         requires drawing { DrawingBelongs founded.now (O.x oracle.old) self.old }
         requires tape { Belongs (S.content shelf.old) tape.old }
@@ -338,7 +348,8 @@ impl Drawing {
         Turned::Going
     }
 
-    /// Throws a made shape away where it is below the least size. Else it is kept in unlabelled mode,
+    /// Throws a made shape away where it is below the least size. Else it is kept in unlabelled
+    /// mode,
     /// and waits for its labels in labelled mode.
     fn make(&mut self, mode: Mode, used: u64) -> Turned
         requires { MaySettle Outcome.Made self.old }
@@ -358,7 +369,8 @@ impl Drawing {
         requires kept { self.old.kept < 100000 }
         requires turns { self.old.turns < 50000000 }
         requires atoms { self.old.atoms ≤ self.old.kept * 1000000 }
-        ensures { KeepsOrWaits (spec_mode mode) (shape_of made) used (counted self.old) result self.new }
+        ensures { KeepsOrWaits (spec_mode mode) (shape_of made) used (counted self.old) result
+            self.new }
     {
         self.go_on();
         match mode {

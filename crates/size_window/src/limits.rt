@@ -1,6 +1,7 @@
 //! The window of a drawing, its limits, and what it counts.
 
-/// The least and the greatest size that is kept, how many objects are wanted, and how many turns may
+/// The least and the greatest size that is kept, how many objects are wanted, and how many turns
+/// may
 /// be made.
 #[derive(Clone, Copy, Debug, PartialEq, Eq)]
 pub struct Limits {
@@ -10,7 +11,8 @@ pub struct Limits {
     pub turns: u64,
 }
 
-/// How many objects were kept and attempts thrown away, how many turns were made, and the sum of the
+/// How many objects were kept and attempts thrown away, how many turns were made, and the sum of
+/// the
 /// kept sizes.
 #[derive(Clone, Copy, Debug, PartialEq, Eq)]
 pub struct Counts {

@@ -26,3 +26,4 @@ pub mod TreeReadings
 pub mod Lines
 pub mod CanonicalReads
 pub mod Lengths
+pub mod TextsOne

@@ -67,6 +67,27 @@ unfolding plain_from
 plain-begins b bs word rest some t is_bs is_front =
     ap (λ f. plain_made some f ++ plain_from (further f) (has_some some f) bs) is_front ∙ ap (λ us. t ∷ us) (ap (λ cs. plain_from (length word) true cs) is_bs ∙ passed word rest true)
 
+-- what makes no token is skipped with the bytes that belong to it
+pub plain-skips : (b : ℕ) (bs word rest : List ℕ) (some : Bool) → bs ≡ word ++ rest → (f : Front) → front b bs ≡ f → plain_made some f ≡ [] → further f ≡ length word → has_some some f ≡ some → plain_from 0 some (b ∷ bs) ≡ plain_from 0 some rest
+unfolding plain_from
+plain-skips b bs word rest some is_bs f is_front none more same =
+    ap (λ g. plain_made some g ++ plain_from (further g) (has_some some g) bs) is_front
+    ∙ ap (λ us. us ++ plain_from (further f) (has_some some f) bs) none
+    ∙ ap (λ n. plain_from n (has_some some f) bs) more
+    ∙ ap (λ c. plain_from (length word) c bs) same
+    ∙ ap (λ cs. plain_from (length word) some cs) is_bs
+    ∙ passed word rest some
+
+-- no bytes behind a line that has a token
+pub plain-last_end : plain_from 0 true [] ≡ Token.LineEnd ∷ Token.TextEnd ∷ []
+unfolding plain_from
+plain-last_end = refl
+
+-- a line feed of a line that has none
+pub plain-empty_feed : (rest : List ℕ) → plain_from 0 false (10 ∷ rest) ≡ plain_from 0 false rest
+unfolding plain_from
+plain-empty_feed rest = refl
+
 -- no bytes
 pub plain-end : plain_from 0 false [] ≡ Token.TextEnd ∷ []
 unfolding plain_from

@@ -3,7 +3,7 @@ use Rattle.std.proofs.Common.{◌≡◌, ℕ, ◌≤◌, true, List, [], length,
 use Rattle.bz_model.specs.Spec.{Spec, Mode}
 use Rattle.spec_reader.specs.declared.tokens.Placed.{Placed}
 use Rattle.spec_reader.specs.declared.fault.SpecFault.{SpecFault}
-use Rattle.spec_reader.specs.declared.reading.Stop.{Stop}
+use Rattle.spec_reader.specs.declared.read_spec.Stop.{Stop}
 use Rattle.spec_reader.specs.Grammar.{Definition, IsText}
 use Rattle.spec_reader.specs.Machine.{Start, Lines, run}
 use Rattle.spec_reader.specs.Tables.{names_of, tables}

@@ -1,5 +1,6 @@
 -- What the reader of tokens keeps: the tables so far, and the numbers of the parts that are read.
-use Rattle.std.specs.Prelude.{◌≡◌, ◌≢◌, ℕ, ◌+◌, ◌<◌, take, Option, Some, Bool, true, false, List, [], ◌∷◌, ◌++◌, length, map, None}
+use Rattle.std.specs.Prelude.{◌≡◌, ◌≢◌, ℕ, ◌+◌, ◌<◌, take, Option, Some, Bool, true, false, List}
+use Rattle.std.specs.Prelude.{[], ◌∷◌, ◌++◌, length, map, None}
 use Rattle.bz_model.specs.Spec.{Spec, Mode, Node}
 use Rattle.class_system.specs.Drafting.{with_node}
 use Rattle.class_system.specs.Views.{number, spec_range}
@@ -7,14 +8,17 @@ use Rattle.spec_reader.specs.declared.sums.Outer as code_outer
 use Rattle.spec_reader.specs.declared.sums.Wrap as code_wrap
 use Rattle.spec_reader.specs.declared.sums.Sums as code_sums
 use Rattle.spec_reader.specs.declared.sums.Expects.{Expects}
-use Rattle.spec_reader.specs.declared.reading.Stop.{Stop}
+use Rattle.spec_reader.specs.declared.read_spec.Stop.{Stop}
 use Rattle.spec_reader.specs.declared.tokens.Token.{Token}
 use Rattle.spec_reader.specs.declared.tokens.Placed.{Placed}
 use Rattle.spec_reader.specs.Reading.{plain_tokens}
 use Rattle.spec_reader.specs.Faults.{with_names, line_names}
 use Rattle.spec_reader.specs.Grammar.{Term, terms}
-use Rattle.spec_reader.specs.Machine.{Frame, Wrap, bare, over, Outer, Before, Place, State, Start, Lines, Named, Want, Counts, Signed, Bounded, Have, Done, Failed, run}
-use Rattle.spec_reader.specs.Tables.{Row, with_terms, numbers, bodies_of, class_number, counted_node}
+use Rattle.spec_reader.specs.Machine.{Frame, Wrap, bare, over, Outer, Before, Place, State, Start}
+use Rattle.spec_reader.specs.Machine.{Lines, Named, Want, Counts, Signed, Bounded, Have, Done}
+use Rattle.spec_reader.specs.Machine.{Failed, run}
+use Rattle.spec_reader.specs.Tables.{Row, with_terms, numbers, bodies_of, class_number}
+use Rattle.spec_reader.specs.Tables.{counted_node}
 
 -- What is kept of a sum around the one that is read.
 pub record KeptOuter : Type 0 where
@@ -22,7 +26,8 @@ pub record KeptOuter : Type 0 where
   pub factors : List ℕ
   pub wrap : Wrap
 
--- What is kept: the tables so far, the numbers of the products and factors that were read of the sum, and the same of the sums around it, the outermost first.
+-- What is kept: the tables so far, the numbers of the products and factors that were read of the
+-- sum, and the same of the sums around it, the outermost first.
 pub record Kept : Type 0 where
   pub draft : Spec
   pub products : List ℕ
@@ -36,11 +41,22 @@ wrap_kept (code_wrap.Wrap.Over c r) = over c (spec_range r)
 
 -- A sum around, as the code keeps it.
 abbrev pub outer_kept : code_outer.Outer → KeptOuter
-outer_kept o = record { products = map number o.frame.products; factors = map number o.frame.factors; wrap = wrap_kept o.wrap }
+outer_kept o = record {
+  products = map number o.frame.products;
+  factors =
+      map number o.frame.factors;
+  wrap = wrap_kept o.wrap;
+}
 
 -- What the code keeps.
 abbrev pub kept : code_sums.Sums → Kept
-kept s = record { draft = s.draft; products = map number s.frame.products; factors = map number s.frame.factors; outers = map outer_kept s.outers.items }
+kept s = record {
+  draft = s.draft;
+  products = map number s.frame.products;
+  factors =
+      map number s.frame.factors;
+  outers = map outer_kept s.outers.items;
+}
 
 -- The nodes before, and those of a list of terms.
 abbrev pub with_list : List (List ℕ) → List Row → List Term → List Row
@@ -84,12 +100,19 @@ factor_numbers names rows f = numbers names (with_list names rows f.products) (t
 -- What is kept of the sums around.
 abbrev pub stack_of : List (List ℕ) → Before → List Outer → List KeptOuter
 stack_of names b [] = []
-stack_of names b (o ∷ os) = stack_of names b os ++ record { products = product_numbers names (around_rows names b os) o.frame; factors = factor_numbers names (around_rows names b os) o.frame; wrap = o.wrap } ∷ []
+stack_of names b (o ∷ os) = stack_of names b os
+    ++ record {
+      products = product_numbers names (around_rows names b os) o.frame;
+      factors =
+          factor_numbers names (around_rows names b os) o.frame;
+      wrap = o.wrap;
+    } ∷ []
 
 -- What is kept is what was read up to a place.
 pub record Stands (names : List (List ℕ)) (p : Place) (k : Kept) : Type 0 where
   pub draft_is : k.draft ≡ drafted names p.before (rows_at names p)
-  pub products_are : k.products ≡ product_numbers names (around_rows names p.before p.outers) p.frame
+  pub products_are : k.products ≡ product_numbers names (around_rows names p.before p.outers)
+      p.frame
   pub factors_are : k.factors ≡ factor_numbers names (around_rows names p.before p.outers) p.frame
   pub outers_are : k.outers ≡ stack_of names p.before p.outers
 
@@ -103,11 +126,14 @@ pub record Rests (names : List (List ℕ)) (b : Before) (k : Kept) : Type 0 wher
 -- What the code expects and keeps is what a state of the machine has read.
 abbrev pub Represents : List (List ℕ) → State → Expects → Kept → Type 0
 Represents names s Expects.Line k = (b : Before) × (s ≡ Lines b) × Rests names b k
-Represents names s Expects.Equals k = (b : Before) × (w : List ℕ) × (s ≡ Named b w) × Rests names b k
+Represents names s Expects.Equals k = (b : Before) × (w : List ℕ) × (s ≡ Named b w)
+    × Rests names b k
 Represents names s Expects.Factor k = (p : Place) × (s ≡ Want p) × Stands names p k
 Represents names s (Expects.Count c) k = (p : Place) × (s ≡ Counts p c) × Stands names p k
-Represents names s (Expects.Number c sign) k = (p : Place) × (s ≡ Signed p c sign) × Stands names p k
-Represents names s (Expects.Open c r) k = (p : Place) × (s ≡ Bounded p c (spec_range r)) × Stands names p k
+Represents names s (Expects.Number c sign) k = (p : Place) × (s ≡ Signed p c sign)
+    × Stands names p k
+Represents names s (Expects.Open c r) k = (p : Place) × (s ≡ Bounded p c (spec_range r))
+    × Stands names p k
 Represents names s Expects.Joint k = (p : Place) × (s ≡ Have p) × Stands names p k
 Represents names s Expects.Nothing k = (b : Before) × (s ≡ Done b) × Rests names b k
 
@@ -144,8 +170,10 @@ wrapped_number s (over c r) sum = length s.nodes
 
 -- A sum ends: its last product is joined, and then its products.
 pub record EndsSum (before : Spec) (products factors : List ℕ) (now : Spec) (sum : ℕ) : Type 0 where
-  pub draft_is : now ≡ joined Node.Union (joined Node.Product before factors) (products ++ joined_number before factors ∷ [])
-  pub number_is : sum ≡ joined_number (joined Node.Product before factors) (products ++ joined_number before factors ∷ [])
+  pub draft_is : now ≡ joined Node.Union (joined Node.Product before factors) (products
+      ++ joined_number before factors ∷ [])
+  pub number_is : sum ≡ joined_number (joined Node.Product before factors) (products
+      ++ joined_number before factors ∷ [])
 
 -- The machine has not failed before the token at a place, and has failed behind it.
 pub record FailsAt (s : State) (ts : List Placed) (place : ℕ) : Type 0 where
@@ -175,7 +203,15 @@ pub record IsParsed (mode : Mode) (ts : List Placed) (draft : Spec) : Type 0 whe
 
 -- A draft has the names that begin lines, each once, and nothing else.
 abbrev pub IsNamed : Mode → List Placed → Spec → Type 0
-IsNamed mode ts draft = draft ≡ record { mode = mode; names = with_names [] (line_names true (plain_tokens ts)); bodies = []; nodes = []; ranges = [] }
+IsNamed mode ts draft =
+    draft ≡ record {
+      mode = mode;
+      names =
+          with_names [] (line_names true (plain_tokens ts));
+      bodies = [];
+      nodes = [];
+      ranges = [];
+    }
 
 -- Why lines give no tables.
 abbrev pub IsStop : Mode → List Placed → Stop → Type 0

@@ -1,5 +1,6 @@
 -- Names without definition, names that are defined twice, and sets and cycles without labels.
-use Rattle.std.specs.Prelude.{ℕ, Bool, true, false, if◌then◌else◌, List, [], ◌∷◌, ◌++◌, Option, Some, None}
+use Rattle.std.specs.Prelude.{ℕ, Bool, true, false, if◌then◌else◌, List, [], ◌∷◌, ◌++◌, Option}
+use Rattle.std.specs.Prelude.{Some, None}
 use Rattle.std.specs.List.{list_any}
 use Rattle.bz_model.specs.Spec.{Mode}
 use Rattle.spec_reader.specs.declared.tokens.Counting.{Counting}
@@ -45,9 +46,11 @@ needs_labels Mode.Unlabelled Counting.Cyc line column = Some (SpecFault.NeedsLab
 needs_labels Mode.Labelled c line column = None
 
 -- The fault of a token, where these names are defined, and these before it.
-abbrev pub fault_at : Mode → (defined before : List (List ℕ)) → Bool → Token → (line column : ℕ) → Option SpecFault
+abbrev pub fault_at : Mode → (defined before : List (List ℕ)) → Bool → Token → (line column : ℕ)
+    → Option SpecFault
 fault_at m defined before true (Token.Name w) line column = twice (is_among before w) line
-fault_at m defined before false (Token.Name w) line column = undefined (is_among defined w) line column
+fault_at m defined before false (Token.Name w) line column =
+    undefined (is_among defined w) line column
 fault_at m defined before starts (Token.Counted c) line column = needs_labels m c line column
 fault_at m defined before starts t line column = None
 
@@ -62,6 +65,9 @@ with_names names [] = names
 with_names names (w ∷ ws) = with_names (if is_among names w then names else names ++ w ∷ []) ws
 
 -- The first fault of tokens by place, where these names are defined, and these before.
-abbrev pub first_fault : Mode → (defined before : List (List ℕ)) → Bool → List Placed → Option SpecFault
+abbrev pub first_fault : Mode → (defined before : List (List ℕ)) → Bool → List Placed
+    → Option SpecFault
 first_fault m defined before starts [] = None
-first_fault m defined before starts (p ∷ ps) = first_of (fault_at m defined before starts p.token p.line p.column) (first_fault m defined (with_names before (defined_by starts p.token)) (ends_line p.token) ps)
+first_fault m defined before starts (p ∷ ps) =
+    first_of (fault_at m defined before starts p.token p.line p.column)
+    (first_fault m defined (with_names before (defined_by starts p.token)) (ends_line p.token) ps)

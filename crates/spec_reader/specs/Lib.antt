@@ -7,3 +7,4 @@ pub mod Tables
 pub mod Faults
 pub mod Reading
 pub mod Building
+pub mod TextOne

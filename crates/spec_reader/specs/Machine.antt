@@ -5,7 +5,8 @@ use Rattle.spec_reader.specs.declared.tokens.Counting.{Counting}
 use Rattle.spec_reader.specs.declared.tokens.Sign.{Sign}
 use Rattle.spec_reader.specs.declared.tokens.Token.{Token}
 use Rattle.spec_reader.specs.Tokens.{is_same}
-use Rattle.spec_reader.specs.Grammar.{Term, Definition, sum_of, product_of, plain, from_on, up_to, just, counted}
+use Rattle.spec_reader.specs.Grammar.{Term, Definition, sum_of, product_of, plain, from_on, up_to}
+use Rattle.spec_reader.specs.Grammar.{just, counted}
 
 -- What was read of a sum: its products before, and the factors of the product that is read.
 pub record Frame : Type 0 where
@@ -22,7 +23,8 @@ abbrev pub wrapped : Wrap → Term → Term
 wrapped bare t = t
 wrapped (over c r) t = counted c r t
 
--- A sum whose parenthesis is open: what was read of it before the parenthesis, and what the parenthesis makes.
+-- A sum whose parenthesis is open: what was read of it before the parenthesis, and what the
+-- parenthesis makes.
 pub record Outer : Type 0 where
   pub frame : Frame
   pub wrap : Wrap
@@ -87,7 +89,13 @@ pub data State : Type 0 where
 
 -- The sum within a parenthesis is read.
 abbrev pub opened : Place → Wrap → Place
-opened p w = record { before = p.before; name = p.name; frame = fresh; outers = record { frame = p.frame; wrap = w } ∷ p.outers }
+opened p w = record {
+  before = p.before;
+  name = p.name;
+  frame = fresh;
+  outers =
+      record { frame = p.frame; wrap = w } ∷ p.outers;
+}
 
 -- The place with this frame.
 abbrev pub with_frame : Place → Frame → Place
@@ -100,11 +108,23 @@ with_one_more p t = with_frame p (with_factor p.frame t)
 -- The parenthesis is closed; without an open one this can't come.
 abbrev pub closed : Place → List Outer → State
 closed p [] = Failed
-closed p (o ∷ os) = Have (record { before = p.before; name = p.name; frame = with_factor o.frame (wrapped o.wrap (sum_of (value p.frame))); outers = os })
+closed p (o ∷ os) =
+    Have (record {
+      before = p.before;
+      name = p.name;
+      frame =
+          with_factor o.frame (wrapped o.wrap (sum_of (value p.frame)));
+      outers = os;
+    })
 
 -- The definition ends with its line; with an open parenthesis it can't.
 abbrev pub line_over : Place → List Outer → State
-line_over p [] = Lines (record { mode = p.before.mode; definitions = p.before.definitions ++ record { name = p.name; body = sum_of (value p.frame) } ∷ [] })
+line_over p [] =
+    Lines (record {
+      mode = p.before.mode;
+      definitions = p.before.definitions
+          ++ record { name = p.name; body = sum_of (value p.frame) } ∷ [];
+    })
 line_over p (o ∷ os) = Failed
 
 -- The text may end after one definition or more.
@@ -114,7 +134,9 @@ text_over b (d ∷ ds) = Done b
 
 -- The mode that a word names.
 abbrev pub mode_read : List ℕ → State
-mode_read w = if is_same w (codes "unlabelled") then Moded Mode.Unlabelled else if is_same w (codes "labelled") then Moded Mode.Labelled else Failed
+mode_read w =
+    if is_same w (codes "unlabelled") then Moded Mode.Unlabelled else if is_same w
+    (codes "labelled") then Moded Mode.Labelled else Failed
 
 -- The place where a definition's sum begins.
 abbrev pub begun : Before → List ℕ → Place

@@ -1,5 +1,6 @@
 -- The texts of specifications, and why a text is none.
-use Rattle.std.specs.Prelude.{◌≡◌, ℕ, ◌<◌, ◌≤◌, true, List, [], ◌∷◌, ◌++◌, length, drop, map, Some, None, position, not}
+use Rattle.std.specs.Prelude.{◌≡◌, ℕ, ◌<◌, ◌≤◌, true, List, [], ◌∷◌, ◌++◌, length, drop, map, Some}
+use Rattle.std.specs.Prelude.{None, position, not}
 use Rattle.std.specs.List.{AllPass}
 use Rattle.bz_model.specs.Spec.{Spec, Mode}
 use Rattle.class_system.specs.Limits.{TellsLimit}
@@ -17,7 +18,8 @@ use Rattle.spec_reader.specs.Faults.{first_fault}
 abbrev pub plain_tokens : List Placed → List Token
 plain_tokens ts = map (λ t. t.token) ts
 
--- Tokens stand for a specification: they are a text of the grammar without a fault, and the specification has the tables of its definitions.
+-- Tokens stand for a specification: they are a text of the grammar without a fault, and the
+-- specification has the tables of its definitions.
 pub record StandFor (ts : List Placed) (s : Spec) : Type 0 where
   pub mode : Mode
   pub definitions : List Definition
@@ -25,7 +27,8 @@ pub record StandFor (ts : List Placed) (s : Spec) : Type 0 where
   pub no_fault : first_fault mode (names_of definitions) [] true (drop 2 ts) ≡ None
   pub tables_are : s ≡ tables mode definitions
 
--- A text stands for a specification: its bytes are text, and its tokens stand for the specification.
+-- A text stands for a specification: its bytes are text, and its tokens stand for the
+-- specification.
 pub record Grammar (bytes : List ℕ) (s : Spec) : Type 0 where
   pub all_text : AllPass is_text bytes
   pub stand_for : StandFor (tokens_of bytes) s
@@ -79,7 +82,8 @@ LimitFault bytes fault = BreaksLimit bytes fault
 -- Why a text is refused: the first of these that holds. Want of memory may come at any point.
 abbrev pub Refuses : List ℕ → SpecFault → Type 0
 Refuses bytes (SpecFault.TooLong len) = (len ≡ length bytes) × (65536 < length bytes)
-Refuses bytes (SpecFault.NotText place) = (length bytes ≤ 65536) × (position (λ b. not (is_text b)) bytes ≡ Some place)
+Refuses bytes (SpecFault.NotText place) = (length bytes ≤ 65536)
+    × (position (λ b. not (is_text b)) bytes ≡ Some place)
 Refuses bytes (SpecFault.Limit fault) = LimitFault bytes fault
 Refuses bytes fault = IsReadable bytes × TokensFault (tokens_of bytes) fault
 

@@ -1,5 +1,7 @@
 -- From bytes to tokens, each with its line and column.
-use Rattle.std.specs.Prelude.{◌==◌, ◌&&◌, ◌||◌, ℕ, zero, suc, ◌+◌, ◌-◌, ◌*◌, Bool, true, false, not, if◌then◌else◌, nat_le, List, [], ◌∷◌, ◌++◌, length, drop, codes, Option, Some, None}
+use Rattle.std.specs.Prelude.{◌==◌, ◌&&◌, ◌||◌, ℕ, zero, suc, ◌+◌, ◌-◌, ◌*◌, Bool, true, false, not}
+use Rattle.std.specs.Prelude.{if◌then◌else◌, nat_le, List, [], ◌∷◌, ◌++◌, length, drop, codes}
+use Rattle.std.specs.Prelude.{Option, Some, None}
 use Rattle.std.specs.List.{list_all, prefix_len, take_while}
 use Rattle.std.specs.Cmp.Lexicographic.{pointwise}
 use Rattle.spec_reader.specs.Bytes.{is_blank, is_digit, is_letter, is_run_byte}
@@ -13,10 +15,13 @@ use Rattle.spec_reader.specs.declared.tokens.Spot.{Spot}
 abbrev pub is_same : List ℕ → List ℕ → Bool
 is_same a b = pointwise ◌==◌ a b
 
--- The number that one or two digits spell, where it is from 1 to 64 and has no leading zero; other digits spell none that may stand in a text.
+-- The number that one or two digits spell, where it is from 1 to 64 and has no leading zero; other
+-- digits spell none that may stand in a text.
 abbrev pub number_of : List ℕ → Option ℕ
 number_of (a ∷ []) = if nat_le 49 a then Some (a - 48) else None
-number_of (a ∷ b ∷ []) = if nat_le 49 a && nat_le ((a - 48) * 10 + (b - 48)) 64 then Some ((a - 48) * 10 + (b - 48)) else None
+number_of (a ∷ b ∷ []) =
+    if nat_le 49 a && nat_le ((a - 48) * 10 + (b - 48)) 64 then Some ((a - 48) * 10 + (b - 48)) else
+    None
 number_of _ = None
 
 -- The token of a number that may stand in a text, and one that stands nowhere for any other.
@@ -29,9 +34,11 @@ abbrev pub begins_with_letter : List ℕ → Bool
 begins_with_letter [] = false
 begins_with_letter (b ∷ bs) = is_letter b
 
--- A run other than a number begins with a letter and has at most 32 bytes; one that breaks this stands nowhere.
+-- A run other than a number begins with a letter and has at most 32 bytes; one that breaks this
+-- stands nowhere.
 abbrev pub word_token : List ℕ → Token
-word_token run = if begins_with_letter run && nat_le (length run) 32 then Token.Name run else Token.Bad
+word_token run =
+    if begins_with_letter run && nat_le (length run) 32 then Token.Name run else Token.Bad
 
 -- The token of a run that stands alone.
 abbrev pub run_token : List ℕ → Token
@@ -47,14 +54,17 @@ run_token run =
 -- The token of a leaf with a word of at most 32 bytes; with a longer one it stands nowhere.
 abbrev pub leaf_token : List ℕ → List ℕ → Token
 leaf_token letter word =
-    if nat_le (length word) 32 then (if is_same letter (codes "E") then Token.Empty word else Token.Atom word) else Token.Bad
+    if nat_le (length word) 32 then (if is_same letter (codes "E") then Token.Empty word else
+    Token.Atom word) else Token.Bad
 
 -- The run behind a colon, where the bytes begin so; else nothing.
 abbrev pub word_after : List ℕ → List ℕ
 word_after [] = []
 word_after (b ∷ bs) = if b == 58 then take_while is_run_byte bs else []
 
--- What a run begins, by how many bytes it has after the first and by the bytes behind it: a leaf with a word where the run is E or Z and a colon and a run follow at once, else a token of its own.
+-- What a run begins, by how many bytes it has after the first and by the bytes behind it: a leaf
+-- with a word where the run is E or Z and a colon and a run follow at once, else a token of its
+-- own.
 abbrev pub run_front : List ℕ → ℕ → List ℕ → Front
 run_front run more after =
     if (is_same run (codes "E") || is_same run (codes "Z")) && not (length (word_after after) == 0)
@@ -66,7 +76,8 @@ abbrev pub begins_with_equals : List ℕ → Bool
 begins_with_equals [] = false
 begins_with_equals (b ∷ bs) = b == 61
 
--- What a byte of no run begins, by the bytes behind it: = + * ( ) by themselves, > and < with an equals sign, and else a token that stands nowhere.
+-- What a byte of no run begins, by the bytes behind it: = + * ( ) by themselves, > and < with an
+-- equals sign, and else a token that stands nowhere.
 abbrev pub sign_front : ℕ → List ℕ → Front
 sign_front b bs =
     if b == 61 then Front.Begins Token.Exactly 0
@@ -88,7 +99,8 @@ front b bs =
     if b == 10 then Front.LineFeed
     else if is_blank b then Front.Blank
     else if b == 35 then Front.Comment (prefix_len goes_on bs)
-    else if is_run_byte b then run_front (b ∷ take_while is_run_byte bs) (prefix_len is_run_byte bs) (drop (prefix_len is_run_byte bs) bs)
+    else if is_run_byte b then run_front (b ∷ take_while is_run_byte bs) (prefix_len is_run_byte bs)
+    (drop (prefix_len is_run_byte bs) bs)
     else sign_front b bs
 
 -- The spot so many bytes further on in the line.
@@ -124,11 +136,13 @@ further Front.Blank = 0
 further (Front.Comment more) = more
 further (Front.Begins t more) = more
 
--- The tokens of the bytes from a spot on, where so many bytes belong to what began before. The end of the text is a token, after the end of its last line.
+-- The tokens of the bytes from a spot on, where so many bytes belong to what began before. The end
+-- of the text is a token, after the end of its last line.
 abbrev pub tokens_from : ℕ → Spot → List ℕ → List Placed
 tokens_from skip s [] = line_end s ++ placed Token.TextEnd s ∷ []
 tokens_from (suc skip) s (b ∷ bs) = tokens_from skip (along 1 s) bs
-tokens_from zero s (b ∷ bs) = made s (front b bs) ++ tokens_from (further (front b bs)) (moved s (front b bs)) bs
+tokens_from zero s (b ∷ bs) = made s (front b bs)
+    ++ tokens_from (further (front b bs)) (moved s (front b bs)) bs
 
 -- A text begins at line 1 and column 1, with no token before.
 abbrev pub beginning : Spot

@@ -10,6 +10,7 @@ ghost use Rattle.spec_reader.specs.declared.tokens.Token.{Token};
 ghost use Rattle.spec_reader.specs.Grammar.{Definition, IsText};
 ghost use Rattle.spec_reader.specs.LanguageOne.{IsTextOne, HasPlainRanges};
 ghost use Rattle.spec_reader.specs.Reading.{Grammar, Refuses};
+ghost use Rattle.spec_reader.specs.TextOne.{GrammarOne};
 ghost use Rattle.spec_reader.specs.Tables.{tables};
 
 use class_system::system::System;
@@ -21,22 +22,32 @@ pub fn a_text_stands_for_one_specification()
 
 /// A text that stands for a specification within the limits is refused for want of memory alone.
 pub fn what_stands_is_not_refused()
-    ensures accepted { (bytes : List ℕ) (s : Spec) (f : SpecFault) → length bytes ≤ 65536 → Grammar bytes s
+    ensures accepted { (bytes : List ℕ) (s : Spec) (f : SpecFault) → length bytes ≤ 65536
+        → Grammar bytes s
         → IsWithinLimits s → Refuses bytes f → f ≡ SpecFault.OutOfMemory }
 {}
 
 /// A text is refused for one reason, want of memory aside.
 pub fn a_text_has_one_refusal()
-    ensures one { (bytes : List ℕ) (f g : SpecFault) → f ≢ SpecFault.OutOfMemory → g ≢ SpecFault.OutOfMemory
+    ensures one { (bytes : List ℕ) (f g : SpecFault) → f ≢ SpecFault.OutOfMemory
+        → g ≢ SpecFault.OutOfMemory
         → Refuses bytes f → Refuses bytes g → f ≡ g }
 {}
 
 /// Each text of language 1, which has no bounds, is a text with the same definitions, whose tables
 /// have plain ranges.
 pub fn language_1_is_read_the_same()
-    ensures text { (ts : List Token) (m : Mode) (ds : List Definition) → IsTextOne ts m ds → IsText ts m ds }
+    ensures text { (ts : List Token) (m : Mode) (ds : List Definition) → IsTextOne ts m ds
+        → IsText ts m ds }
     ensures ranges { (ts : List Token) (m : Mode) (ds : List Definition) → IsTextOne ts m ds
         → HasPlainRanges (tables m ds) }
+{}
+
+/// So a text of language 1 stands for the same specification, whose ranges are plain: its bytes
+/// have the same tokens here as there.
+pub fn a_text_of_language_1_stands_for_the_same()
+    ensures stands { (bytes : List ℕ) (s : Spec) → GrammarOne bytes s → Grammar bytes s }
+    ensures ranges { (bytes : List ℕ) (s : Spec) → GrammarOne bytes s → HasPlainRanges s }
 {}
 
 /// The canonical text of a sound specification stands for it, where no class is named twice.
@@ -49,13 +60,15 @@ pub fn a_canonical_text_is_short()
     ensures few { (s : Spec) → IsSound s → IsWithinLimits s → length (canonical_text s) ≤ 65536 }
 {}
 
-/// What a system prints is read back: its text stands for its specification and for no other, is short
+/// What a system prints is read back: its text stands for its specification and for no other, is
+/// short
 /// enough to be read, and is refused for want of memory alone.
 pub fn what_a_system_prints_is_read_back(system: &System)
     ensures stands { Grammar (canonical_text system.now) system.now }
     ensures one { (s : Spec) → Grammar (canonical_text system.now) s → s ≡ system.now }
     ensures few { length (canonical_text system.now) ≤ 65536 }
-    ensures accepted { (f : SpecFault) → Refuses (canonical_text system.now) f → f ≡ SpecFault.OutOfMemory }
+    ensures accepted { (f : SpecFault) → Refuses (canonical_text system.now) f
+        → f ≡ SpecFault.OutOfMemory }
 {
     system.known();
 }

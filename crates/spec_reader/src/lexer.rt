@@ -1,5 +1,7 @@
 //! From bytes to tokens.
-ghost use Rattle.std.specs.Prelude.{◌≡◌, ◌==◌, ℕ, ◌+◌, ◌≤◌, ◌<◌, ◌∷◌, ◌++◌, ◌^◌, [], true, IfOk, IfNone, not, length, position, take, drop, slice_index, OnOk, IsTrue};
+ghost use Rattle.std.specs.Prelude.{◌≡◌, ◌==◌, ℕ, ◌+◌, ◌≤◌, ◌<◌, ◌∷◌, ◌++◌, ◌^◌, [], true, IfOk};
+ghost use Rattle.std.specs.Prelude.{IfNone, not, length, position, take, drop, slice_index, OnOk};
+ghost use Rattle.std.specs.Prelude.{IsTrue};
 ghost use Rattle.std.specs.List.{list_all, prefix_len, take_while, AllPass};
 ghost use Rattle.spec_reader.specs.Bytes as byte;
 ghost use Rattle.spec_reader.specs.Tokens as text;
@@ -68,7 +70,8 @@ fn comment_length(bytes: &[u8]) -> usize
     bytes.iter().take_while(|b| **b != b'\n').count()
 }
 
-/// The number that digits spell, where it may stand in a text: from 1 to 64, without a leading zero.
+/// The number that digits spell, where it may stand in a text: from 1 to 64, without a leading
+/// zero.
 fn number_of(digits: &[u8]) -> Option<u32>
     requires { list_all byte.is_digit digits.now ≡ true }
     ensures exact { result ≡ text.number_of digits.now }

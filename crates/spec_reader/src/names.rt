@@ -2,7 +2,8 @@
 ghost use Rattle.std.specs.Prelude.{◌≡◌, ◌^◌, ◌<◌, ◌≤◌, ◌+◌, [], ◌∷◌, true, length, IfOk, OnOk};
 ghost use Rattle.class_system.specs.Views.{spec_mode};
 ghost use Rattle.spec_reader.specs.Reading.{plain_tokens};
-ghost use Rattle.spec_reader.specs.Faults.{line_names, with_names, first_fault, defined_by, ends_line, fault_at, needs_labels};
+ghost use Rattle.spec_reader.specs.Faults.{line_names, with_names, first_fault, defined_by};
+ghost use Rattle.spec_reader.specs.Faults.{ends_line, fault_at, needs_labels};
 
 use crate::fault::SpecFault;
 use crate::tokens::{Counting, Placed, Token};

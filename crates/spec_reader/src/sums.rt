@@ -4,8 +4,10 @@ ghost use Rattle.bz_model.specs.Spec.{Node, plain_range};
 ghost use Rattle.class_system.specs.Views.{number, spec_node, spec_range};
 ghost use Rattle.class_system.specs.Drafting.{with_node, with_body};
 ghost use Rattle.spec_reader.specs.Grammar.{Term};
-ghost use Rattle.spec_reader.specs.Machine.{Place, opened, with_one_more, with_frame, next_product, closed, line_over};
-ghost use Rattle.spec_reader.specs.Building.{joined, joined_number, wrapped_draft, wrapped_number, wrap_kept, kept, Stands, IsLeaf, EndsSum, Leads};
+ghost use Rattle.spec_reader.specs.Machine.{Place, opened, with_one_more, with_frame, next_product};
+ghost use Rattle.spec_reader.specs.Machine.{closed, line_over};
+ghost use Rattle.spec_reader.specs.Building.{joined, joined_number, wrapped_draft, wrapped_number};
+ghost use Rattle.spec_reader.specs.Building.{wrap_kept, kept, Stands, IsLeaf, EndsSum, Leads};
 
 use crate::tokens::{Counting, Sign};
 use class_system::draft::Draft;
@@ -121,7 +123,8 @@ impl Sums {
     pub fn leaf(&mut self, node: Expr) -> Result<(), AllocError>
         requires few { length self.old.draft.nodes < 2 ^ 32 }
         requires plain { plain_range (spec_node node) ≡ record { low = 0; high = None } }
-        ensures read { OnOk result ((names : List (List ℕ)) (p : Place) (t : Term) → IsLeaf names t (spec_node node)
+        ensures read { OnOk result ((names : List (List ℕ)) (p : Place) (t : Term)
+            → IsLeaf names t (spec_node node)
             → Stands names p (kept self.old) → Stands names (with_one_more p t) (kept self.new)) }
         ensures few { OnOk result (length self.new.draft.nodes ≤ length self.old.draft.nodes + 1) }
         ensures names { OnOk result (self.new.draft.names ≡ self.old.draft.names) }
@@ -133,7 +136,8 @@ impl Sums {
 
     /// A parenthesis is opened.
     pub fn open(&mut self, alloc: Global, wrap: Wrap) -> Result<(), AllocError>
-        ensures read { OnOk result ((names : List (List ℕ)) (p : Place) → Stands names p (kept self.old)
+        ensures read { OnOk result ((names : List (List ℕ)) (p : Place)
+            → Stands names p (kept self.old)
             → Stands names (opened p (wrap_kept wrap)) (kept self.new)) }
         ensures few { self.new.draft ≡ self.old.draft }
     {
@@ -145,7 +149,8 @@ impl Sums {
     /// The product that is read is over: a plus sign.
     pub fn next_product(&mut self, alloc: Global) -> Result<(), AllocError>
         requires few { length self.old.draft.nodes < 2 ^ 32 }
-        ensures read { OnOk result ((names : List (List ℕ)) (p : Place) → Stands names p (kept self.old)
+        ensures read { OnOk result ((names : List (List ℕ)) (p : Place)
+            → Stands names p (kept self.old)
             → Stands names (with_frame p (next_product p.frame)) (kept self.new)) }
         ensures few { OnOk result (length self.new.draft.nodes ≤ length self.old.draft.nodes + 1) }
         ensures names { OnOk result (self.new.draft.names ≡ self.old.draft.names) }
@@ -180,7 +185,8 @@ impl Sums {
     /// A parenthesis is closed; false where none is open.
     pub fn close(&mut self, alloc: Global) -> Result<bool, AllocError>
         requires few { length self.old.draft.nodes + 2 < 2 ^ 32 }
-        ensures read { IfOk result (λ closes. (names : List (List ℕ)) (p : Place) → Stands names p (kept self.old)
+        ensures read { IfOk result (λ closes. (names : List (List ℕ)) (p : Place)
+            → Stands names p (kept self.old)
             → Leads names (closed p p.outers) closes Expects.Joint (kept self.new)) }
         ensures few { OnOk result (length self.new.draft.nodes ≤ length self.old.draft.nodes + 3) }
         ensures names { OnOk result (self.new.draft.names ≡ self.old.draft.names) }
@@ -198,7 +204,8 @@ impl Sums {
     /// A definition's line ends; false within a parenthesis.
     pub fn end_line(&mut self, alloc: Global) -> Result<bool, AllocError>
         requires few { length self.old.draft.nodes + 2 < 2 ^ 32 }
-        ensures read { IfOk result (λ ends. (names : List (List ℕ)) (p : Place) → Stands names p (kept self.old)
+        ensures read { IfOk result (λ ends. (names : List (List ℕ)) (p : Place)
+            → Stands names p (kept self.old)
             → Leads names (line_over p p.outers) ends Expects.Line (kept self.new)) }
         ensures few { OnOk result (length self.new.draft.nodes ≤ length self.old.draft.nodes + 2) }
         ensures names { OnOk result (self.new.draft.names ≡ self.old.draft.names) }

@@ -20,7 +20,8 @@ pub enum Sign {
 
 /// A token. `Empty` and `Atom` are the leaves, whose word is empty where the leaf is plain.
 ///
-/// `Bad` stands for a run, a leaf, a number or a byte that breaks a rule of the text: it stands nowhere.
+/// `Bad` stands for a run, a leaf, a number or a byte that breaks a rule of the text: it stands
+/// nowhere.
 #[derive(Drop)]
 pub enum Token {
     Name(Word),

@@ -1,4 +1,5 @@
-//! Tests of the crates that stand on no specification: files and bytes, fractions, rounded numbers and
+//! Tests of the crates that stand on no specification: files and bytes, fractions, rounded numbers
+//! and
 //! tapes.
 //!
 //! It has tests alone, for what no clause of the crates below says: values of independent programs,

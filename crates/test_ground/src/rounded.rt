@@ -1,5 +1,6 @@
 //! Rounded numbers and series against worked examples and an independent program.
 ghost use Rattle.std.specs.Prelude.{◌≤◌};
+ghost use Rattle.bz_model.specs.Fraction.{IsFractionBits};
 
 use fixed_enclosure::{Hi, Lo};
 use series_bounds::{
@@ -80,7 +81,7 @@ fn read_line(rt: &impl Abort, line: &str) -> [Option<u64>; 10] {
 }
 
 fn values<const F: u32>(rt: &impl Abort, calls: Calls, x: Arguments) -> Values
-    requires fraction_bits { (24 ≤ F) × (F ≤ 56) }
+    requires fraction_bits { IsFractionBits F }
     requires low { x.low ≤ 64 }
     requires number { x.i ≤ 1000000 }
 {
@@ -96,10 +97,11 @@ fn values<const F: u32>(rt: &impl Abort, calls: Calls, x: Arguments) -> Values
     }
 }
 
-/// The sum and the product of a number with itself and its sequences from below, and the sum and the
+/// The sum and the product of a number with itself and its sequences from below, and the sum and
+/// the
 /// product from above.
 fn plain<const F: u32>(x: Arguments) -> Values
-    requires fraction_bits { (24 ≤ F) × (F ≤ 56) }
+    requires fraction_bits { IsFractionBits F }
 {
     let lower = Lo::<F>(x.a);
     let upper = Hi::<F>(x.a);
@@ -114,7 +116,7 @@ fn plain<const F: u32>(x: Arguments) -> Values
 
 /// The exponential and the logarithm, from below and from above, and sequences from above.
 fn whole<const F: u32>(x: Arguments) -> Values
-    requires fraction_bits { (24 ≤ F) × (F ≤ 56) }
+    requires fraction_bits { IsFractionBits F }
 {
     [
         Some(exp_lo(Lo::<F>(x.a)).0),
@@ -127,7 +129,7 @@ fn whole<const F: u32>(x: Arguments) -> Values
 
 /// The partial sum, the capped one, the range, and the bounds from `low` on.
 fn sequences<const F: u32>(x: Arguments) -> Values
-    requires fraction_bits { (24 ≤ F) × (F ≤ 56) }
+    requires fraction_bits { IsFractionBits F }
     requires low { x.low ≤ 64 }
     requires number { x.i ≤ 1000000 }
 {
@@ -141,7 +143,7 @@ fn sequences<const F: u32>(x: Arguments) -> Values
 }
 
 fn sets<const F: u32>(x: Arguments) -> Values
-    requires fraction_bits { (24 ≤ F) × (F ≤ 56) }
+    requires fraction_bits { IsFractionBits F }
     requires low { x.low ≤ 64 }
     requires number { x.i ≤ 1000000 }
 {
@@ -155,7 +157,7 @@ fn sets<const F: u32>(x: Arguments) -> Values
 }
 
 fn cycles<const F: u32>(x: Arguments) -> Values
-    requires fraction_bits { (24 ≤ F) × (F ≤ 56) }
+    requires fraction_bits { IsFractionBits F }
     requires low { (1 ≤ x.low) × (x.low ≤ 64) }
     requires number { x.i ≤ 1000000 }
 {

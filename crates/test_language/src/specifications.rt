@@ -4,7 +4,7 @@
 //! what is told of it.
 
 use class_system::system::System;
-use spec_reader::reading::read_spec;
+use spec_reader::read_spec::read_spec;
 use std::alloc::{AllocError, Global};
 use std::test::Fail;
 use well_founded::cause::UnfoundedCause;

@@ -12,7 +12,8 @@ use std::sync::ledger::{Blank, Ledger};
 use std::test::Fail;
 use well_founded::examination::Founded;
 
-/// Tells the class vector after four lower sweeps and what is found at it, and an upper sweep from a
+/// Tells the class vector after four lower sweeps and what is found at it, and an upper sweep from
+/// a
 /// vector, which must be post-fixed.
 pub fn observe<L: Ledger>(
     alloc: Global,

@@ -1,5 +1,6 @@
 //! Three drawings over one memo, at 48 fraction bits.
-ghost use Rattle.std.specs.Prelude.{◌≡◌, ℕ, ◌<◌, ◌≤◌, [], ◌∷◌, ◌++◌, List, length, map, Option, IfOk, OnOk, IsNone};
+ghost use Rattle.std.specs.Prelude.{◌≡◌, ℕ, ◌<◌, ◌≤◌, [], ◌∷◌, ◌++◌, List, length, map, Option};
+ghost use Rattle.std.specs.Prelude.{IfOk, OnOk, IsNone};
 ghost use Rattle.bz_outside.specs.Memory.{content_of};
 ghost use Rattle.bz_model.specs.Fraction.{Fraction as Ratio};
 ghost use Rattle.class_system.specs.Sound.{IsSound};
@@ -105,7 +106,10 @@ fn store(
     bytes: Vec<u8>,
 ) -> Result<(), AllocError>
     requires new { IsNone (content_of shelf.old.files name.now) }
-    ensures stored { OnOk result (shelf.new ≡ record shelf.old { files = shelf.old.files ++ record { name = name.now; bytes = bytes.items } ∷ [] }) }
+    ensures stored { OnOk result (shelf.new ≡ record shelf.old {
+      files =
+          shelf.old.files ++ record { name = name.now; bytes = bytes.items } ∷ [];
+    }) }
 {
     let name = Word::from_bytes(alloc, name)?;
     shelf.add(name, bytes)

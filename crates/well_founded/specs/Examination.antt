@@ -5,7 +5,8 @@ use Rattle.bz_model.specs.WellFounded.{IsWellFounded}
 use Rattle.well_founded.specs.Foundedness.{HasSome, LacksObject, RepeatsZero, LeadsRound}
 use Rattle.well_founded.specs.Marking.{AreMarked}
 use Rattle.well_founded.specs.declared.cause.UnfoundedCause.{UnfoundedCause}
-use Rattle.well_founded.specs.declared.cause.UnfoundedCause.TheVariants.{NoObject, ZeroPart, ZeroLoop, OutOfMemory}
+use Rattle.well_founded.specs.declared.cause.UnfoundedCause.TheVariants.{NoObject, ZeroPart}
+use Rattle.well_founded.specs.declared.cause.UnfoundedCause.TheVariants.{ZeroLoop, OutOfMemory}
 
 -- A number has a property, and none below it has.
 pub record IsLeast (P : ℕ → Type 0) (n : ℕ) : Type 0 where
@@ -16,12 +17,14 @@ pub record IsLeast (P : ℕ → Type 0) (n : ℕ) : Type 0 where
 pub record EachHasObject (s : Spec) : Type 0 where
   pub objects : (c body : ℕ) → body_of s c ≡ Some body → HasSome s body
 
--- Each class has an object, and this is the least counted node without high whose part has an object of size 0.
+-- Each class has an object, and this is the least counted node without high whose part has an
+-- object of size 0.
 pub record IsFirstRepeat (s : Spec) (e : ℕ) : Type 0 where
   pub objects : EachHasObject s
   pub first : IsLeast (RepeatsZero s) e
 
--- Each class has an object, no counted node without high has a part with an object of size 0, and this is the least class that leads to itself.
+-- Each class has an object, no counted node without high has a part with an object of size 0, and
+-- this is the least class that leads to itself.
 pub record IsFirstRound (s : Spec) (c : ℕ) : Type 0 where
   pub objects : EachHasObject s
   pub parts : (e : ℕ) → ¬ (RepeatsZero s e)

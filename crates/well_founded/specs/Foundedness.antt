@@ -30,9 +30,12 @@ mutual
   pub data Least (s : Spec) (A : Type 0) : ℕ → Type 0 where
     empty : {e : ℕ} (word : List ℕ) → node_at s e ≡ Some (Node.Empty word) → Least s A e
     atom : {e : ℕ} (word : List ℕ) → node_at s e ≡ Some (Node.Atom word) → A → Least s A e
-    class : {e : ℕ} (c body : ℕ) → node_at s e ≡ Some (Node.Class c) → body_of s c ≡ Some body → Least s A body → Least s A e
-    union : {e : ℕ} (parts : List ℕ) (i part : ℕ) → node_at s e ≡ Some (Node.Union parts) → slice_get parts i ≡ Some part → Least s A part → Least s A e
-    product : {e : ℕ} (parts : List ℕ) → node_at s e ≡ Some (Node.Product parts) → LeastEach s A parts → Least s A e
+    class : {e : ℕ} (c body : ℕ) → node_at s e ≡ Some (Node.Class c) → body_of s c ≡ Some body
+        → Least s A body → Least s A e
+    union : {e : ℕ} (parts : List ℕ) (i part : ℕ) → node_at s e ≡ Some (Node.Union parts)
+        → slice_get parts i ≡ Some part → Least s A part → Least s A e
+    product : {e : ℕ} (parts : List ℕ) → node_at s e ≡ Some (Node.Product parts)
+        → LeastEach s A parts → Least s A e
     -- no part will do
     free : {e part : ℕ} {r : Range} → Counts s e part r → r.low ≡ 0 → Least s A e
     counted : {e part : ℕ} {r : Range} → Counts s e part r → Least s A part → Least s A e
@@ -50,12 +53,17 @@ HasSome s e = Least s (Unit {0}) e
 abbrev pub HasEmpty : Spec → ℕ → Type 0
 HasEmpty s e = Least s ⊥ e
 
--- A node is or holds a reference to class d, and beside the way down to it there can be objects of size 0 alone.
+-- A node is or holds a reference to class d, and beside the way down to it there can be objects of
+-- size 0 alone.
 pub data Under (s : Spec) (d : ℕ) : ℕ → Type 0 where
   here : {e : ℕ} → node_at s e ≡ Some (Node.Class d) → Under s d e
-  in_union : {e : ℕ} (parts : List ℕ) (i part : ℕ) → node_at s e ≡ Some (Node.Union parts) → slice_get parts i ≡ Some part → Under s d part → Under s d e
-  in_product : {e : ℕ} (before : List ℕ) (part : ℕ) (after : List ℕ) → node_at s e ≡ Some (Node.Product (before ++ (part ∷ after))) → LeastEach s ⊥ before → LeastEach s ⊥ after → Under s d part → Under s d e
-  in_counted : {e part : ℕ} {r : Range} → Counts s e part r → (r.low ≤ 1) ⊎ Least s ⊥ part → Under s d part → Under s d e
+  in_union : {e : ℕ} (parts : List ℕ) (i part : ℕ) → node_at s e ≡ Some (Node.Union parts)
+      → slice_get parts i ≡ Some part → Under s d part → Under s d e
+  in_product : {e : ℕ} (before : List ℕ) (part : ℕ) (after : List ℕ)
+      → node_at s e ≡ Some (Node.Product (before ++ (part ∷ after))) → LeastEach s ⊥ before
+      → LeastEach s ⊥ after → Under s d part → Under s d e
+  in_counted : {e part : ℕ} {r : Range} → Counts s e part r → (r.low ≤ 1) ⊎ Least s ⊥ part
+      → Under s d part → Under s d e
 
 -- Class c steps to class d.
 pub record StepsTo (s : Spec) (c d : ℕ) : Type 0 where

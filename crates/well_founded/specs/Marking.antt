@@ -8,7 +8,8 @@ use Rattle.well_founded.specs.EmptyObjects.{answer_at}
 abbrev pub IsMarked : List Bool → ℕ → Type 0
 IsMarked marks e = answer_at marks e ≡ true
 
--- There is a mark for each node, and the marked ones are those that the rule gives, where an atom counts if A holds.
+-- There is a mark for each node, and the marked ones are those that the rule gives, where an atom
+-- counts if A holds.
 pub record AreMarked (s : Spec) (A : Type 0) (marks : List Bool) : Type 0 where
   pub one_per_node : length marks ≡ length s.nodes
   pub right : (e : ℕ) → IsMarked marks e → Least s A e

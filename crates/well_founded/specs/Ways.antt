@@ -16,11 +16,13 @@ pub record Points (rows : List ClassSet) (c d : ℕ) : Type 0 where
 
 -- The row of one of these numbers has d.
 abbrev pub SomePoints : List ClassSet → List ℕ → ℕ → Type 0
-SomePoints rows parts d = (i : ℕ) × (part : ℕ) × (slice_get parts i ≡ Some part) × Points rows part d
+SomePoints rows parts d = (i : ℕ) × (part : ℕ) × (slice_get parts i ≡ Some part)
+    × Points rows part d
 
 -- The row of one of these numbers has d, and all the others are marked.
 abbrev pub OnePoints : List Bool → List ClassSet → List ℕ → ℕ → Type 0
-OnePoints marks rows parts d = (i : ℕ) × (part : ℕ) × (slice_get parts i ≡ Some part) × ((j q : ℕ) → slice_get parts j ≡ Some q → j ≢ i → IsMarked marks q) × Points rows part d
+OnePoints marks rows parts d = (i : ℕ) × (part : ℕ) × (slice_get parts i ≡ Some part)
+    × ((j q : ℕ) → slice_get parts j ≡ Some q → j ≢ i → IsMarked marks q) × Points rows part d
 
 -- One row or more, each that of a class that the row before has, lead from c to d.
 pub data Chain (rows : List ClassSet) (c : ℕ) : ℕ → Type 0 where

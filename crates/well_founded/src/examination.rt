@@ -1,5 +1,6 @@
 //! The examination of a specification, and what a founded one tells.
-ghost use Rattle.std.specs.Prelude.{◌≡◌, ◌≢◌, ℕ, ◌<◌, ◌≤◌, ◌⊎◌, ◌↔◌, length, OnOk, IfOk, IfErr, IfSome, IfNone, IsTrue};
+ghost use Rattle.std.specs.Prelude.{◌≡◌, ◌≢◌, ℕ, ◌<◌, ◌≤◌, ◌⊎◌, ◌↔◌, length, OnOk, IfOk, IfErr};
+ghost use Rattle.std.specs.Prelude.{IfSome, IfNone, IsTrue};
 ghost use Rattle.bz_model.specs.Spec.{Spec};
 ghost use Rattle.bz_model.specs.Object.{Object, Belongs};
 ghost use Rattle.bz_model.specs.Measures.{HasZero};
@@ -11,8 +12,8 @@ ghost use Rattle.well_founded.specs.Marking.{AreMarked};
 ghost use Rattle.well_founded.specs.Examination.{IsLeast, EachHasObject, TellsCause, IsFoundedBy};
 
 use crate::cause::UnfoundedCause;
-use crate::leading::{first_round, leads};
-use crate::marking::{is_marked, mark};
+use crate::class_graph::{first_round, leads};
+use crate::inhabited::{is_marked, mark};
 use class_system::expr::Expr;
 use class_system::ids::{ClassId, ExprId};
 use class_system::system::System;

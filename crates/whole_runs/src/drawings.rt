@@ -25,13 +25,37 @@ fn words_that_are_refused(rt: HostRuntime) -> Result<(), Fail> {
         ),
         ("oracle s 1/2 --fraction 47", "refused value fraction\n"),
         ("pool s 1/2 s", "refused words\n"),
-        ("verify s t", "refused not yet\n"),
         ("bulk 0", "refused value n\n"),
         ("bulk 1001", "refused value n\n"),
         ("bulk 1 --fraction 47", "refused value fraction\n"),
     ] {
         let text = "unlabelled\nC = Z + Z\n";
         compare(&rt, words, text, b"\x80", 2, want)?;
+    }
+    Ok(())
+}
+
+#[test]
+fn a_certificate_is_tested_and_migrated(rt: HostRuntime) -> Result<(), Fail> {
+    let old =
+        "boltzmann 1\nmode unlabelled\nx 1/2\nfraction 48\nwindow 0 1000\nbase C 281474976710912\nobject 1 at 0 size 1\ntext 1.Z\ncells 1/1\nend done kept 1 thrown 0 bits 1 turns 3\n";
+    let new =
+        "boltzmann 2\nmode unlabelled\nspec 912b2203f35597570f0c2772d3efb0b59c614544f9d903c18ec3f84866edd780\nx 1/2\nfraction 48\nwindow 0 1000\nbase C 281474976710912\nobject 1 at 0 size 1\ntext 1.Z\ncells 1/1\nend done kept 1 thrown 0 bits 1 turns 3\n";
+    let two = "unlabelled\nC = Z + Z\n";
+    let three = "unlabelled\nC = Z + Z + Z\n";
+    for (words, text, certificate, status, want) in [
+        ("verify s t", two, old, 0, "end valid entries 1\n"),
+        ("verify s t", two, new, 0, "end valid entries 1\n"),
+        ("migrate s t", two, old, 0, new),
+        ("migrate s t", two, new, 0, new),
+        ("verify s t", three, old, 11, "invalid line 6 base\n"),
+        ("verify s t", three, new, 11, "invalid line 3 spec\n"),
+        ("migrate s t", three, new, 11, "invalid line 3 spec\n"),
+        ("verify s t", two, two, 11, "refused certificate line 1\n"),
+        ("migrate s t", two, "", 11, "refused certificate line 1\n"),
+        ("verify s c", two, new, 8, "refused read\n"),
+    ] {
+        compare(&rt, words, text, certificate.as_bytes(), status, want)?;
     }
     Ok(())
 }

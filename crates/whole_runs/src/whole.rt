@@ -41,6 +41,36 @@ pub fn shelf_of(
     Ok(shelf)
 }
 
+/// A shelf with the files of a pool: a specification, a schedule and three tapes of two bytes.
+///
+/// A read gives a byte, and none fails so far.
+pub fn pool_shelf(alloc: Global, schedule: &[u8]) -> Result<MemoryShelf, AllocError>
+    ensures { IfOk result (λ shelf. shelf.calls.failing ≡ []) }
+{
+    let mut shelf = MemoryShelf::new(alloc, 1);
+    shelf.add(
+        Word::from_bytes(alloc, b"s")?,
+        Vec::from_slice(alloc, b"unlabelled\nC = Z + Z\n")?,
+    )?;
+    shelf.add(
+        Word::from_bytes(alloc, b"c")?,
+        Vec::from_slice(alloc, schedule)?,
+    )?;
+    shelf.add(
+        Word::from_bytes(alloc, b"t0")?,
+        Vec::from_slice(alloc, b"\x80\x80")?,
+    )?;
+    shelf.add(
+        Word::from_bytes(alloc, b"t1")?,
+        Vec::from_slice(alloc, b"\0\0")?,
+    )?;
+    shelf.add(
+        Word::from_bytes(alloc, b"t2")?,
+        Vec::from_slice(alloc, b"\xc0\xc0")?,
+    )?;
+    Ok(shelf)
+}
+
 /// The status of a run with these words, which stand between single blanks.
 ///
 /// Where memory is wanting in the run, nothing is to be written, and `Err` comes.

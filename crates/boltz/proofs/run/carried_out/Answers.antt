@@ -56,15 +56,3 @@ returns-in-Unrank-clause-ends g c = subst (λ (k : Command). EndsBy (Carries (fi
 -- the command's outcome is one of the call
 pub returns-in-Rank-clause-ends : goal.returns-in-Rank-clause-ends
 returns-in-Rank-clause-ends g c = subst (λ (k : Command). EndsBy (Carries (files (g.S.Shelf.content c.args.shelf.now) (g.S.Shelf.faults c.args.shelf.now) (g.S.Shelf.faults c.rank.new.shelf)) k) (output (g.K.Sink.written c.args.out.now) (g.K.Sink.written c.rank.new.out) (g.K.Sink.faults c.args.out.now) (g.K.Sink.faults c.rank.new.out) c.args.steps.now c.args.steps.now) c.rank.result) (sym c.in-Rank.is) (c.rank.ensures.ends c.args.steps.now)
-
--- the command isn't built yet
-pub returns-in-Verify-clause-ends : goal.returns-in-Verify-clause-ends
-returns-in-Verify-clause-ends g c =
-    let at = c.not_yet in
-    subst (λ (k : Command). EndsBy (Carries (files (g.S.Shelf.content c.args.shelf.now) (g.S.Shelf.faults c.args.shelf.now) (g.S.Shelf.faults c.args.shelf.now)) k) (output (g.K.Sink.written c.args.out.now) (g.K.Sink.written at.new.out) (g.K.Sink.faults c.args.out.now) (g.K.Sink.faults at.new.out) c.args.steps.now c.args.steps.now) at.result) (sym c.in-Verify.is) (at.ensures.ends c.args.steps.now)
-
--- the command isn't built yet
-pub returns-in-Migrate-clause-ends : goal.returns-in-Migrate-clause-ends
-returns-in-Migrate-clause-ends g c =
-    let at = c.not_yet-in-Migrate in
-    subst (λ (k : Command). EndsBy (Carries (files (g.S.Shelf.content c.args.shelf.now) (g.S.Shelf.faults c.args.shelf.now) (g.S.Shelf.faults c.args.shelf.now)) k) (output (g.K.Sink.written c.args.out.now) (g.K.Sink.written at.new.out) (g.K.Sink.faults c.args.out.now) (g.K.Sink.faults at.new.out) c.args.steps.now c.args.steps.now) at.result) (sym c.in-Migrate.is) (at.ensures.ends c.args.steps.now)

@@ -48,7 +48,7 @@ check-requires g c =
     let same = names-are (first_base_line c.args.cert.now.header) c.args.cert.now.header.names c.args.founded.now.names names_ok in
     let vals : c.in_ok-values.values.items ≡ c.args.cert.now.header.base = c.in_ok-values.ensures.items_if_clones_equal (λ x y e. e) ∙ c.items.ensures.items in
     let bodies = ap (λ (s : Spec). length s.bodies) (sym sys) in
-    (omega arith, (c.requires.fraction, ap length vals ∙ c.requires.header.one_each ∙ ap length same ∙ ap (λ (s : Spec). length s.names) (sym sys) ∙ sym c.known.ensures.sound.bodies ∙ sym bodies))
+    (omega arith, (c.requires.fraction_bits, ap length vals ∙ c.requires.header.one_each ∙ ap length same ∙ ap (λ (s : Spec). length s.names) (sym sys) ∙ sym c.known.ensures.sound.bodies ∙ sym bodies))
 
 pub returns-in-Err-NotPostFixed-clause-verdict : goal.returns-in-Err-NotPostFixed-clause-verdict
 returns-in-Err-NotPostFixed-clause-verdict g c =
@@ -80,7 +80,7 @@ test_from_base-requires g c =
     let headed = subst (FirstFails (header_checks c.args.founded.now g.row.F c.args.cert.now.header)) c.in-Valid.is told in
     let vals : c.in_ok-values.values.items ≡ c.args.cert.now.header.base = c.in_ok-values.ensures.items_if_clones_equal (λ x y e. e) ∙ c.items.ensures.items in
     let window = header-window c.args.founded.now g.row.F c.args.cert.now.header headed in
-    (omega arith, (c.requires.fraction, (window.within, (omega (arith, c.first_base_line-line.ensures.small, c.from.ensures, c.class_count.ensures.count, c.known.ensures.limits.classes), (c.in-Ok.ensures.same ∙ vals, subst (IsPostFixed (setting_of c.args.founded.now g.row.F c.args.cert.now.header)) vals c.in-Ok.ensures.post_fixed)))))
+    (omega arith, (c.requires.fraction_bits, (window.within, (omega (arith, c.first_base_line-line.ensures.small, c.from.ensures, c.class_count.ensures.count, c.known.ensures.limits.classes), (c.in-Ok.ensures.same ∙ vals, subst (IsPostFixed (setting_of c.args.founded.now g.row.F c.args.cert.now.header)) vals c.in-Ok.ensures.post_fixed)))))
 
 pub returns-in-Ok-clause-verdict : goal.returns-in-Ok-clause-verdict
 returns-in-Ok-clause-verdict g c =

@@ -1,6 +1,6 @@
 -- Each thing is done.
 use Rattle.std.proofs.Common.{◌∷◌, [], refl, sym, ap, subst}
-use Rattle.object_text.specs.declared.todo.Todo.TheVariants as todo
+use Rattle.object_text.specs.declared.print_stack.Todo.TheVariants as todo
 use Rattle.object_text.specs.Output.{grown, parted, closed}
 use Rattle.object_text.specs.Printing.{Prints, nodes_of}
 use Rattle.object_text.proofs.Ways.{passes-one, passes-from}

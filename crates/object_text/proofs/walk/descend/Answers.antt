@@ -1,7 +1,7 @@
 -- The way down, step by step.
 use Rattle.std.proofs.Common.{◌≤◌, ◌∷◌, arith, sym, subst}
 use Rattle.object_store.proofs.Descent.{Descent, descent-start}
-use Rattle.object_text.specs.declared.todo.Todo.TheVariants as todo
+use Rattle.object_text.specs.declared.print_stack.Todo.TheVariants as todo
 use Rattle.object_text.specs.Printing.{Prints, nodes_of, IsNextNode, ExpandsIf}
 use Rattle.object_text.proofs.Ways.{all-below, not_over, through}
 use Rattle.object_text.proofs.walk.descend.Goals as goal

@@ -3,7 +3,7 @@ use Rattle.std.proofs.Common.{◌≡◌, ◌∷◌, [], ◌++◌, map, sym, ◌�
 use Rattle.bz_model.specs.Spec.{Node, node_at}
 use Rattle.class_system.specs.Views.{number, spec_node}
 use Rattle.object_store.specs.Walk.{Expands}
-use Rattle.object_text.specs.declared.todo.Todo.TheVariants as todo
+use Rattle.object_text.specs.declared.print_stack.Todo.TheVariants as todo
 use Rattle.object_text.specs.Todos.{joined_objects}
 use Rattle.object_text.specs.Output.{grown}
 use Rattle.object_text.specs.Printing.{Prints, nodes_of}

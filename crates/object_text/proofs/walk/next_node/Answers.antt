@@ -1,6 +1,6 @@
 -- One thing more is done.
 use Rattle.std.proofs.Common.{◌∷◌, length, arith, ap, subst}
-use Rattle.object_text.specs.declared.todo.Todo.TheVariants as todo
+use Rattle.object_text.specs.declared.print_stack.Todo.TheVariants as todo
 use Rattle.object_text.specs.Printing.{IsBegun}
 use Rattle.object_text.proofs.Ways.{passes-then, passes-from}
 use Rattle.object_text.proofs.walk.next_node.Goals as goal

@@ -4,7 +4,7 @@ use Rattle.std.proofs.lemmas.List.{length-map}
 use Rattle.std.proofs.lemmas.Result.{IfOk-weaker, MatchResult-weaker}
 use Rattle.bz_model.specs.Spec.{Node, node_at}
 use Rattle.class_system.specs.Views.{spec_node, spec_range, number}
-use Rattle.object_text.specs.declared.taken.Kind.TheVariants.{Sequence, Set, Cycle}
+use Rattle.object_text.specs.declared.parsed.Kind.TheVariants.{Sequence, Set, Cycle}
 use Rattle.object_text.specs.Scanning.{Faults}
 use Rattle.object_text.specs.Expected.{Comes}
 use Rattle.object_text.specs.States.{state}

@@ -1,7 +1,7 @@
 -- What stands behind an object, by what is expected.
 use Rattle.std.proofs.Common.{◌∷◌, sym, subst, length, Some, None, arith}
 use Rattle.std.proofs.lemmas.Result.{IfOk-weaker, MatchResult-weaker, err_from_is_err_and}
-use Rattle.object_text.specs.declared.expected.Expected.TheVariants as expected
+use Rattle.object_text.specs.declared.parse_stack.Expected.TheVariants as expected
 use Rattle.object_text.specs.Scanning.{Faults, StopsAt}
 use Rattle.object_text.specs.Expected.{Comes, AllCanCome, Moves}
 use Rattle.object_text.specs.States.{state}

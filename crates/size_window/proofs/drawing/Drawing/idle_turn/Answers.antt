@@ -2,7 +2,7 @@
 use Rattle.std.proofs.Common.{◌≡◌, ◌≢◌, Bool, true, false, [], Option, Some, None, refl, sym, ◌∙◌, ap, subst}
 use Rattle.std.specs.Prelude.{option_map}
 use Rattle.std.specs.Option.{is_some}
-use Rattle.size_window.specs.declared.made.Made.{Made}
+use Rattle.size_window.specs.declared.finished_shape.Made.{Made}
 use Rattle.size_window.specs.Drawing.{DrawingState, shape_of}
 use Rattle.size_window.specs.Turn.{GoesOn}
 use Rattle.size_window.specs.Turn as turning

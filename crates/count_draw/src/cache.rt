@@ -1,0 +1,186 @@
+//! Values of the counted nodes of a system, kept from draw to draw.
+ghost use Rattle.std.specs.Prelude.{◌≡◌, ◌<◌, ◌≤◌, IsTrue, IfSome, vec_len};
+ghost use Rattle.bz_model.specs.Fraction.{IsFractionBits};
+ghost use Rattle.bz_model.specs.Cell.{IsCell};
+ghost use Rattle.bz_model.specs.Spec.{IsWithinHigh};
+ghost use Rattle.choice_draw.specs.Decision.{choice_of};
+ghost use Rattle.count_draw.specs.Decision.{top_option, chosen_if};
+ghost use Rattle.count_draw.specs.Table.{options_of};
+ghost use Rattle.count_draw.specs.Row.{AreFor};
+
+use crate::choice::choose;
+use crate::kind::{CountChoice, CountKind};
+use crate::partial_sums::CountSums;
+use crate::prefix_sums::{LowerRow, UpperRow};
+use bz_model::cell::{Bounds, Cell};
+use class_system::expr::Expr;
+use class_system::ids::ExprId;
+use class_system::system::System;
+use std::alloc::{AllocError, Global};
+use std::marker::Model;
+
+/// The lower and upper values of the first options, and what they are kept for.
+///
+/// A decision for something else begins them anew, so that they never tell of what they aren't for.
+#[derive(Drop)]
+pub(crate) struct KeptRows {
+    // 0 where nothing is kept.
+    bits: u32,
+    kind: CountKind,
+    low: u64,
+    part: Bounds,
+    whole: Bounds,
+    lower: LowerRow,
+    upper: UpperRow,
+}
+
+impl Model for KeptRows {
+    ghost use Rattle.std.specs.Prelude.{◌<◌};
+    ghost use Rattle.count_draw.specs.Kinds.{kind_of};
+    ghost use Rattle.count_draw.specs.Row.{RowsKey, IsLowerRow, IsUpperRow};
+
+    ghost Value = { RowsKey };
+
+    ghost view = { λ r. record {
+      bits = r.bits;
+      filling = record {
+        kind = kind_of r.kind;
+        low = r.low;
+        part =
+            r.part;
+        whole = r.whole;
+        room = 0;
+      };
+    } };
+
+    ghost invariant = { λ r. 0 < r.bits
+        → IsLowerRow r.bits (record {
+          kind = kind_of r.kind;
+          low = r.low;
+          part = r.part;
+          whole =
+              r.whole;
+          room = 0;
+        }) r.lower
+        × IsUpperRow r.bits (record {
+          kind = kind_of r.kind;
+          low = r.low;
+          part = r.part;
+          whole =
+              r.whole;
+          room = 0;
+        }) r.upper };
+}
+
+impl KeptRows {
+    /// Rows that keep nothing yet.
+    pub(crate) fn empty() -> KeptRows {
+        let nothing = Bounds { lo: 0, hi: 0 };
+        KeptRows {
+            bits: 0,
+            kind: CountKind::Seq,
+            low: 0,
+            part: nothing,
+            whole: nothing,
+            lower: LowerRow::empty(),
+            upper: UpperRow::empty(),
+        }
+    }
+
+    /// What a cell decides among the options of these sums.
+    #[inline]
+    pub(crate) fn decide<const F: u32>(
+        &mut self,
+        sums: &CountSums<F>,
+        high: Option<u32>,
+        room: u64,
+        cell: Cell,
+    ) -> Option<CountChoice>
+        requires fraction_bits { IsFractionBits F }
+        requires top { sums.now.room ≡ top_option high room }
+        requires within { IsWithinHigh sums.now.low high }
+        requires cell { IsCell cell.k cell.b }
+        ensures exact { chosen_if result ≡ choice_of (options_of F sums.now high room) cell }
+    {
+        self.keep_for(sums);
+        choose(sums, &mut self.lower, &mut self.upper, high, room, cell)
+    }
+
+    /// Begins anew where the rows are kept for something else.
+    #[inline]
+    fn keep_for<const F: u32>(&mut self, sums: &CountSums<F>)
+        requires fraction_bits { IsFractionBits F }
+        ensures { AreFor F sums.now self.new }
+    {
+        if !self.is_for(sums) {
+            self.begin(sums);
+        }
+    }
+
+    /// Whether the rows are kept for these sums.
+    #[inline]
+    fn is_for<const F: u32>(&self, sums: &CountSums<F>) -> bool
+        ensures { IsTrue result → AreFor F sums.now self.now }
+    {
+        self.bits == F
+            && self.part == sums.part()
+            && self.whole == sums.whole()
+            && self.kind == sums.kind()
+            && self.low == sums.low()
+    }
+
+    /// Begins anew for these sums.
+    fn begin<const F: u32>(&mut self, sums: &CountSums<F>)
+        requires fraction_bits { IsFractionBits F }
+        ensures { AreFor F sums.now self.new }
+    {
+        self.bits = F;
+        self.kind = sums.kind();
+        self.low = sums.low();
+        self.part = sums.part();
+        self.whole = sums.whole();
+        self.lower.start(sums);
+        self.upper.start(sums);
+    }
+}
+
+/// Values that draws of numbers of parts keep, for the first 256 options of each sequence, set and
+/// cycle of a system, at the levels 1 and 2.
+///
+/// Each node's values are kept with what they were found for, and found anew for something else: so
+/// any tables serve any draw, and only its time depends on them.
+#[derive(Drop)]
+pub struct KeptTables {
+    // How many sequences, sets and cycles come before each node.
+    places: Vec<usize>,
+    // The rows of each, at level 1, and at a higher level.
+    pub(crate) rows: Vec<[KeptRows; 2]>,
+}
+
+impl KeptTables {
+    /// Tables for a system's nodes, that keep nothing yet. Further memory is never taken.
+    pub fn make(alloc: Global, system: &System) -> Result<KeptTables, AllocError> {
+        let mut places = Vec::new(alloc);
+        let mut rows = Vec::new(alloc);
+        for node in system.nodes() {
+            places.push(rows.len())?;
+            if let Expr::Seq(_) | Expr::Set(_) | Expr::Cyc(_) = node {
+                rows.push([KeptRows::empty(), KeptRows::empty()])?;
+            }
+        }
+        Ok(KeptTables { places, rows })
+    }
+
+    /// Where the rows of a node stand; `None` where it has none.
+    #[inline]
+    pub(crate) fn place_of(&self, node: ExprId) -> Option<usize>
+        ensures inside { IfSome result (λ place. place < vec_len self.now.rows) }
+    {
+        let place = *self.places.get(node.0 as usize)?;
+        if place < self.rows.len() {
+            Some(place)
+        } else {
+            None
+        }
+    }
+}

@@ -1,5 +1,0 @@
-use Rattle.well_founded.proofs.StepRows.{RowsTo}
-use Rattle.well_founded.proofs.leading.steps.Given as goal
-
-abbrev pub invariant-loop-body : goal.invariant-loop-body
-invariant-loop-body l = RowsTo l.sets l.bodies l.rows.items l.body-index

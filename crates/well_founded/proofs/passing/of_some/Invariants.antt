@@ -1,5 +1,0 @@
-use Rattle.well_founded.proofs.Pointed.{JoinsSome}
-use Rattle.well_founded.proofs.passing.of_some.Given as goal
-
-abbrev pub invariant-loop-part : goal.invariant-loop-part
-invariant-loop-part l = JoinsSome l.sets l.parts l.set l.part-index

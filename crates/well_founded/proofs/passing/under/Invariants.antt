@@ -1,5 +1,0 @@
-use Rattle.well_founded.proofs.Passed.{PassedTo}
-use Rattle.well_founded.proofs.passing.under.Given as goal
-
-abbrev pub invariant-loop-e : goal.invariant-loop-e
-invariant-loop-e l = PassedTo l.system l.sets.items l.e
