@@ -13,6 +13,8 @@ pub has_bits-first : (bits : ℕ → Option Bool) (place : ℕ) (first more : Li
 has_bits-first bits place [] more all = tt
 has_bits-first bits place (b ∷ first) more all = (all.0, has_bits-first bits (suc place) first more all.1)
 
+-- Where the bits of a tape from a place on are `first` and then `more`, those from the place after
+-- `first` on are `more`.
 pub has_bits-more : (bits : ℕ → Option Bool) (place : ℕ) (first more : List Bool) → HasBits bits place (first ++ more) → HasBits bits (place + length first) more
 has_bits-more bits place [] more all = subst (λ n. HasBits bits n more) (let e : place ≡ place + 0 = omega arith in e) all
 has_bits-more bits place (b ∷ first) more all = subst (λ n. HasBits bits n more) (let e : suc place + length first ≡ place + suc (length first) = omega arith in e) (has_bits-more bits (suc place) first more all.1)

@@ -23,6 +23,8 @@ pub lower_told : (m now : Memory) (s : Spec) (F level : ℕ) (lower : List ℕ) 
 lower_told m now s F level lower raised same zero is =
     is ∙ ap (λ (k : Memory). level_down_from (setting k.spec k.num k.den F) k.start k.raised) raised ∙ ap (λ (r : Spec). level_down_from (setting r m.num m.den F) m.start level) same ∙ ap (λ (v : List ℕ). level_down_from (setting s m.num m.den F) v level) zero
 
+-- The upper class vector of a memo of which only the level was raised is that of its old
+-- specification, x and base at the new level.
 pub upper_told : (m now : Memory) (s : Spec) (F level : ℕ) (upper : List ℕ) → now ≡ record m { raised = level } → m.spec ≡ s → upper ≡ level_up (setting now.spec now.num now.den F) now.base now.raised → upper ≡ level_up (setting s m.num m.den F) m.base level
 upper_told m now s F level upper raised same is =
     is ∙ ap (λ (k : Memory). level_up (setting k.spec k.num k.den F) k.base k.raised) raised ∙ ap (λ (r : Spec). level_up (setting r m.num m.den F) m.base level) same
@@ -33,6 +35,7 @@ next_raised m old now before same raised =
     let last : max before (before + 1) ≡ before + 1 = omega arith in
     raised ∙ ap (λ (k : Memory). record k { raised = max k.raised (before + 1) }) same ∙ ap (λ (r : ℕ). record m { raised = r }) last
 
+-- A memo whose highest raised level is 0 stays the same when that level is set to 0.
 pub none_raised : (m : Memory) → m.raised ≡ 0 → m ≡ record m { raised = 0 }
 none_raised m is = ap (λ (r : ℕ). record m { raised = r }) is
 

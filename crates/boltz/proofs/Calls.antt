@@ -97,6 +97,8 @@ module _ (laws : CertificateLaws) (w : World) (calm : IsUndisturbed w) (status o
 pub one_answer : (laws : CertificateLaws) (w : World) → IsUndisturbed w → IsOne (Answers w)
 one_answer laws w calm = record { one = λ status other text others ticks more m n p q. answered-twice laws w calm status other text others ticks more m n p q }
 
+-- An undisturbed call without a failed write ends with the one answer to its words, written whole,
+-- or for want of memory.
 pub exact : (laws : CertificateLaws) (w : World) (b a : Option (List ℕ)) (fb fa tb ta : ℕ) (result : Status) → EndsBy (Answers w) (output b a fb fa tb ta) result → (status : Status) (text : List ℕ) (ticks : ℕ) → IsUndisturbed w → Answers w status text ticks → status ≢ Status.OutOfMemory → ¬ (Rose fb fa) → (result ≡ Status.OutOfMemory) ⊎ ((result ≡ status) × Appends b a text)
 exact laws w b a fb fa tb ta result h status text ticks calm p memory fine = endings.exact (Answers w) (output b a fb fa tb ta) result status text ticks (one_answer laws w calm) h p memory fine
 
@@ -104,6 +106,8 @@ exact laws w b a fb fa tb ta result h status text ticks calm p memory fine = end
 pub carried_answers : (words : List (List ℕ)) (f : Files) (asked : Command) (b a : Option (List ℕ)) (fb fa tb ta : ℕ) (result : Status) → IsCommand words asked → EndsBy (Carries f asked) (output b a fb fa tb ta) result → EndsBy (Answers (world words f)) (output b a fb fa tb ta) result
 carried_answers words f asked b a fb fa tb ta result named h = ends_as (Carries f asked) (Answers (world words f)) b a fb fa tb ta result (λ status text ticks p. answers.carried asked named p) h
 
+-- A call whose words are refused and that ends by writing that refusal ends as an answer to those
+-- words.
 pub refused_answers : (words : List (List ℕ)) (f : Files) (fault : WordsFault) (b a : Option (List ℕ)) (fb fa tb ta : ℕ) (result : Status) → Refuses words fault → EndsBy (Unworded fault) (output b a fb fa tb ta) result → EndsBy (Answers (world words f)) (output b a fb fa tb ta) result
 refused_answers words f fault b a fb fa tb ta result refuses h = ends_as (Unworded fault) (Answers (world words f)) b a fb fa tb ta result (λ status text ticks p. answers.refused fault refuses p) h
 

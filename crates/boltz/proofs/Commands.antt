@@ -82,17 +82,23 @@ has-limits given name c takes (makes.count f t n e st) = st.within
 has-limits given name c takes (makes.unrank f t k n number e st ranked) = st.within
 has-limits given name c takes (makes.rank f o e) = tt
 
+-- A sample command that some words stand for has limits within those of a drawing.
 pub sample_limits : (file : List ℕ) (x : Fraction) (word : TapeWord) (limits : Limits) (F : FractionBits) (fast : Bool) → IsStoodFor (command.Sample file x word limits F fast) → AreWithin (limits_of limits)
 sample_limits file x word limits F fast h = has-limits _ _ (command.Sample file x word limits F fast) h.is.form.taken h.is.made
 
+-- A bulk command that some words stand for has a number from 1 to 1000.
 pub bulk_limits : (n : ℕ) (F : FractionBits) → IsStoodFor (command.Bulk n F) → (1 ≤ n) × (n ≤ 1000)
 bulk_limits n F h = has-limits _ _ (command.Bulk n F) h.is.form.taken h.is.made
 
+-- A count command that some words stand for has a greatest size of at most 500.
 pub count_limit : (file : List ℕ) (n : ℕ) → IsStoodFor (command.Count file n) → n ≤ 500
 count_limit file n h = has-limits _ _ (command.Count file n) h.is.form.taken h.is.made
 
+-- An unrank command that some words stand for has a size of at most 500.
 pub unrank_limit : (file : List ℕ) (n number : ℕ) → IsStoodFor (command.Unrank file n number) → n ≤ 500
 unrank_limit file n number h = has-limits _ _ (command.Unrank file n number) h.is.form.taken h.is.made
 
+-- A pool command that some words stand for has limits within those of a drawing, and from 1 to 64
+-- tapes.
 pub pool_limits : (file : List ℕ) (x : Fraction) (schedule : List ℕ) (tapes : List (List ℕ)) (limits : Limits) (F : FractionBits) → IsStoodFor (command.Pool file x schedule tapes limits F) → AreWithin (limits_of limits) × ((1 ≤ length tapes) × (length tapes ≤ 64))
 pool_limits file x schedule tapes limits F h = has-limits _ _ (command.Pool file x schedule tapes limits F) h.is.form.taken h.is.made

@@ -84,6 +84,8 @@ calm-of w asked file bytes given = record { bytes = bytes; known = given.is_know
 fit-only : (w : World) (asked : Command) (file : List ℕ) (s : Spec) (fit : IsFit w asked file s) (next : Spec → Outcome) (status : Status) (text : List ℕ) (ticks : ℕ) → status ≢ Status.OutOfMemory → Specified w.files file next status text ticks → next s status text ticks
 fit-only w asked file s fit next status text ticks memory p = specified-only w.files file s next status text ticks fit.has memory p
 
+-- Words that ask to print a well-founded specification are answered by its canonical form, unless
+-- memory runs out.
 pub printed : (w : World) (s : Spec) (status : Status) (text : List ℕ) (ticks : ℕ) → IsPrintable w s → status ≢ Status.OutOfMemory → Answers w status text ticks → (status ≡ Status.Done) × (text ≡ spec_text s)
 printed w s status text ticks p memory h =
     let asked = command.Spec p.file in
@@ -119,9 +121,13 @@ unfit-carried w p (command.Count file n) is status text ticks memory h = unfit-o
 unfit-carried w p (command.Unrank file n number) is status text ticks memory h = unfit-only w p (Unranked n number) status text ticks memory (subst (λ f. Specified w.files f (Unranked n number) status text ticks) is h)
 unfit-carried w p (command.Rank file object) is status text ticks memory h = unfit-only w p (RankedIn w.files object) status text ticks memory (subst (λ f. Specified w.files f (RankedIn w.files object) status text ticks) is h)
 
+-- Where the file holds no well-founded specification within the limits, a command on it ends with
+-- the status of a refused specification, unless memory runs out.
 pub refused : (w : World) (status : Status) (text : List ℕ) (ticks : ℕ) → IsUnfit w → status ≢ Status.OutOfMemory → Answers w status text ticks → status ≡ Status.SpecRefused
 refused w status text ticks p memory h = unfit-carried w p p.asked p.specifies status text ticks memory (outcome-of w p.asked p.given.named status text ticks memory h)
 
+-- Words that ask to bound a specification with a base are answered by the bounds of levels 1 to 6
+-- over it, unless memory runs out.
 pub bounded : (w : World) (s : Spec) (x : Fraction) (F : FractionBits) (base : List ℕ) (status : Status) (text : List ℕ) (ticks : ℕ) → IsBoundable w s x F base → status ≢ Status.OutOfMemory → Answers w status text ticks → (status ≡ Status.Done) × (text ≡ bounded_text (setting s x.num x.den (fraction_bits F)) base)
 bounded w s x F base status text ticks p memory h =
     let asked = command.Oracle p.file x F in
@@ -130,6 +136,8 @@ bounded w s x F base status text ticks p memory h =
     let over = based-only (t s) (Bounded (t s)) base p.has_base status text ticks memory own in
     may-say-only Status.Done (bounded_text (t s) base) (cost_at 6) status text over.0 memory over.1
 
+-- Words that ask to bound or draw at an x without a base are answered by a refusal that shows the
+-- search's proposals, unless memory runs out.
 pub baseless : (w : World) (s : Spec) (x : Fraction) (F : FractionBits) (status : Status) (text : List ℕ) (ticks : ℕ) → IsBaseless w s x F → status ≢ Status.OutOfMemory → Answers w status text ticks → (trials : List Trial) × HasNoUpper (setting s x.num x.den (fraction_bits F)) trials × (status ≡ Status.NoUpper) × (text ≡ no_upper_text s (fraction_bits F) trials)
 baseless w s x F status text ticks (complete.to_bound file fit none) memory h =
     let asked = command.Oracle file x F in
@@ -155,6 +163,8 @@ drawn-only cost header a base start limits t bits turns ending are_known calm en
       ),
     )
 
+-- A drawing that the words ask for and that ends is answered by its header, kept objects' lines,
+-- closing and its ending's status, unless memory runs out.
 pub draws : (w : World) (s : Spec) (x : Fraction) (F : FractionBits) (fast : Bool) (turns : ℕ) (limits : Limits) (base start : List ℕ) (bits : ℕ → Option Bool) (ending : Ending) (status : Status) (text : List ℕ) (ticks : ℕ) → IsDrawable w s x F fast limits base start bits turns ending → status ≢ Status.OutOfMemory → Answers w status text ticks → (status ≡ ending_status ending) × ((lines : List ℕ) × Lists s (undisturbed (setting s x.num x.den (fraction_bits F)) base start (limits_of limits) bits turns).entries lines × (text ≡ drawn_header (format_of fast) (setting s x.num x.den (fraction_bits F)) base (limits_of limits) ++ (lines ++ closing_lines (level_bounds_from (setting s x.num x.den (fraction_bits F)) start base) (undisturbed (setting s x.num x.den (fraction_bits F)) base start (limits_of limits) bits turns) ending)))
 draws w s x F fast turns limits base start bits ending status text ticks p memory h =
     let asked = command.Sample p.file x p.word limits F fast in
@@ -296,6 +306,7 @@ carried-no-words f (command.Count file n) status text ticks h is = specified-no-
 carried-no-words f (command.Unrank file n number) status text ticks h is = specified-no-words f file (Unranked n number) (unrank-no-words n number) status text ticks h is
 carried-no-words f (command.Rank file object) status text ticks h is = specified-no-words f file (RankedIn f object) (rank-no-words f object) status text ticks h is
 
+-- A call that ends with the status of refused words was given words that stand for no command.
 pub words_only : (w : World) (status : Status) (text : List ℕ) (ticks : ℕ) → Answers w status text ticks → status ≡ Status.WordsRefused → AreRefused w.words
 words_only w status text ticks (answers.refused fault refuses (answers.refused m says)) is = record { fault = fault; not_memory = m; refuses = refuses }
 words_only w status text ticks (answers.refused fault refuses (answers.no_memory says)) is = absurd (not-words Status.OutOfMemory status _ text _ ticks (λ e. absurd (cc)) says is)

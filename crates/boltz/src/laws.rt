@@ -61,8 +61,7 @@ pub fn an_undisturbed_call_has_one_answer()
 }
 
 /// But for want of memory, what comes of words that stand for a command is what comes of the
-/// command. So
-/// the laws of the crate of a command hold of the call.
+/// command. So the laws of the crate of a command hold of the call.
 pub fn a_call_has_the_outcome_of_its_command()
     ensures outcome { (w : World) (c : Command) (status : Status) (text : List ℕ) (ticks : ℕ)
         → IsCommand w.words c
@@ -136,8 +135,7 @@ pub fn what_can_be_drawn_is_drawn()
 {}
 
 /// What can be counted has no other answer than the line of the run over the base's levels and the
-/// bits
-/// of the number's seed, with the status of its end.
+/// bits of the number's seed, with the status of its end.
 pub fn what_a_number_draws_is_told()
     ensures told { (w : World) (n : ℕ) (F : FractionBits) (base : List ℕ) (turns : ℕ)
         (ending : Ending) (status : Status) (text : List ℕ) (ticks : ℕ)
@@ -159,8 +157,7 @@ pub fn what_is_unfit_is_refused()
 {}
 
 /// Where a call of `verify` is done, its first file has a specification, and the second is the text
-/// of
-/// a certificate that is valid for it and sound, whoever made it; what is printed counts its
+/// of a certificate that is valid for it and sound, whoever made it; what is printed counts its
 /// entries.
 pub fn what_a_call_finds_valid_is_sound()
     ensures sound { (w : World) (file cert : List ℕ) (status : Status) (text : List ℕ) (ticks : ℕ)
@@ -172,10 +169,8 @@ pub fn what_a_call_finds_valid_is_sound()
 }
 
 /// What a call of `sample` without `--fast`, or of `migrate`, wrote with Done is found valid by
-/// each
-/// call of `verify` whose files hold the same specification and what was written, unless memory
-/// runs
-/// out.
+/// each call of `verify` whose files hold the same specification and what was written, unless
+/// memory runs out.
 pub fn what_a_call_wrote_is_found_valid()
     ensures sample { (w v : World) (file again wrote : List ℕ) (s : Spec) (x : Fraction)
         (tape : TapeWord) (limits : Limits) (F : FractionBits) (status other : Status)

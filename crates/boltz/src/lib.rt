@@ -43,8 +43,8 @@
 //! - `content`, `counts`, `writes`: no call changes what a shelf holds or lowers a count of faults.
 //!
 //! The laws of `laws` say which outcome a call has: what is printed, refused, bounded, drawn and
-//! counted. No
-//! clause says that memory suffices, how long a call takes, or that the bits of a tape are random.
+//! counted. No clause says that memory suffices, how long a call takes, or that the bits of a tape
+//! are random.
 //!
 //! To believe it, read in this order: `specs/Answers.antt` (one line for each command); in
 //! `call_stages`

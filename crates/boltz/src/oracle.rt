@@ -145,8 +145,7 @@ fn base_and_levels<const F: u32, L: Ledger>(
 }
 
 /// Appends the lines of the levels 1 to 6, and raises each. None is raised yet, and the lower
-/// sweeps
-/// start from zero.
+/// sweeps start from zero.
 #[tactic(auto, using(crate::proofs::OracleCommand::costs_no_more))]
 fn append_levels<const F: u32, L: Ledger>(
     alloc: Global,

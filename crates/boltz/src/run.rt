@@ -37,10 +37,8 @@ use std::sync::ledger::Ledger;
 /// answer.
 ///
 /// A drawing's lines are written while it goes on, other answers at their end. Where memory runs
-/// out, or
-/// a write fails, a prefix of an answer's text was written, and nothing more is. Words that stand
-/// for no
-/// command are refused, and nothing is read then.
+/// out, or a write fails, a prefix of an answer's text was written, and nothing more is. Words that
+/// stand for no command are refused, and nothing is read then.
 pub fn run<S: Shelf, K: Sink, L: Ledger>(
     alloc: Global,
     words: &[Word],

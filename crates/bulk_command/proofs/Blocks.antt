@@ -22,6 +22,8 @@ range-more n = let same : 0 + n ≡ n = omega arith in range-on 0 n ∙ ap (λ k
 pub blocks-more : {X : Type 0} (f : ℕ → List X) (n : ℕ) → flat_map f (range_with_len 0 (suc n)) ≡ flat_map f (range_with_len 0 n) ++ f n
 blocks-more f n = ap (flat_map f) (range-more n) ∙ flat_map-append f (range_with_len 0 n) (n ∷ []) ∙ ap (λ z. flat_map f (range_with_len 0 n) ++ z) (append-nil (f n))
 
+-- The list of the values of f at the numbers up to n is the list of those below n with the value at
+-- n appended.
 pub mapped-more : {X : Type 0} (f : ℕ → X) (n : ℕ) → map f (range_with_len 0 (suc n)) ≡ map f (range_with_len 0 n) ++ f n ∷ []
 mapped-more f n = ap (map f) (range-more n) ∙ map-append f (range_with_len 0 n) (n ∷ [])
 
@@ -70,6 +72,8 @@ pub each-blocks : {X : Type 0} (P : X → Type 0) (f : ℕ → List X) (n : ℕ)
 each-blocks P f zero all = Each-none P
 each-blocks P f (suc n) all = subst (Each P) (sym (blocks-more f n)) (each-both P (flat_map f (range_with_len 0 n)) (f n) (each-blocks P f n (λ i h. all i (omega (arith, h)))) (all n (omega arith)))
 
+-- What holds of f at each number below n holds of each element of the list of the values of f
+-- there.
 pub each-mapped : {X : Type 0} (P : X → Type 0) (f : ℕ → X) (n : ℕ) → ((i : ℕ) → i < n → P (f i)) → Each P (map f (range_with_len 0 n))
 each-mapped P f zero all = Each-none P
 each-mapped P f (suc n) all = subst (Each P) (sym (mapped-more f n)) (Each-more P (map f (range_with_len 0 n)) (f n) (each-mapped P f n (λ i h. all i (omega (arith, h)))) (all n (omega arith)))
@@ -88,6 +92,8 @@ blocks-same f g (suc n) same =
 pub text_start : (block : ℕ → List ℕ) (text head : List ℕ) → text ≡ head → text ≡ head ++ flat_map block (range_with_len 0 0)
 text_start block text head same = same ∙ sym (append-nil head)
 
+-- A text of a head and the blocks of the numbers below n, with the block of n appended, is that
+-- head and the blocks of the numbers up to n.
 pub text_more : (block : ℕ → List ℕ) (n : ℕ) (head text next more : List ℕ) → text ≡ head ++ flat_map block (range_with_len 0 n) → more ≡ block n → next ≡ text ++ more → next ≡ head ++ flat_map block (range_with_len 0 (n + 1))
 text_more block n head text next more text_is more_is next_is =
     next_is ∙ ap (λ t. t ++ more) text_is ∙ ap (λ m. (head ++ flat_map block (range_with_len 0 n)) ++ m) more_is

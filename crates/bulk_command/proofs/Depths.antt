@@ -48,6 +48,7 @@ three-deep (suc n) = subst (λ z. greatest z ≤ 3) (sym (blocks-more class_dept
 few-parts : (n : Node) → length (parts_of n) ≤ 64 → HasFewParts n
 few-parts n few = record { few = few }
 
+-- The tables of at most 41 classes are within the limits on classes, parts, depth and nodes.
 pub is-within : (m : ℕ) → m ≤ 41 → IsWithinLimits (tables_of m)
 is-within m few =
     let named = length-map-range_with_len class_name 0 m in

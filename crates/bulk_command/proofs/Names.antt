@@ -17,6 +17,7 @@ use Rattle.bulk_command.proofs.Blocks.{at-mapped}
 pub some-classes : (n : ℕ) → 2 ≤ classes_of n
 some-classes n = omega arith
 
+-- The specification made from a number has at most 41 classes.
 pub few-classes : (n : ℕ) → classes_of n ≤ 41
 few-classes n = omega arith
 
@@ -56,6 +57,7 @@ short-run class less =
 other-word : (class b : ℕ) (rest : List ℕ) → 65 ≢ b → class_name class ≢ (b ∷ rest)
 other-word class b rest differ e = differ (ap (λ word. slice_index word 0) e)
 
+-- The letter A followed by a number below 41 is an allowed name of a class.
 pub is-name : (class : ℕ) → class < 41 → IsName (class_name class)
 is-name class less =
     let h = short-run class less in
@@ -70,6 +72,7 @@ is-name class less =
 one-name : (i j : ℕ) → i < 41 → j < 41 → class_name i ≡ class_name j → i ≡ j
 one-name i j h k e = let same : decimal i ≡ decimal j = cc in decimal_injective i j (omega (arith, h)) (omega (arith, k)) same
 
+-- The names of at most 41 classes are pairwise distinct.
 pub are-distinct : (classes : ℕ) → classes ≤ 41 → AreDistinct (map class_name (range_with_len 0 classes))
 are-distinct classes few = record { once = go }
   where

@@ -54,6 +54,8 @@ run-only n t base turns e at status text ticks memory (bulk.ended c given d h sa
       says.text_is ∙ ap (λ (z : Course). course_line n z d) same.0 ∙ ap (course_line n quiet) same.1,
     )
 
+-- If the run of n over its base at 3/16 ends after some turns, the bulk command gives that ending's
+-- status and the line of that run, unless memory runs out.
 pub drawn-only : (n F : ℕ) → IsAccepted (bulk_text n) (bulk_tables n) → IsWellFounded (bulk_tables n) → (base : List ℕ) → base_of (setting (bulk_tables n) 3 16 F) ≡ Some base → (turns : ℕ) (e : Ending) → (bulk_course n (setting (bulk_tables n) 3 16 F) base turns).state.ending ≡ Some e → (status : Status) (text : List ℕ) (ticks : ℕ) → status ≢ Status.OutOfMemory → CarriesBulk n F status text ticks → (status ≡ ending_status e) × (text ≡ course_line n (bulk_course n (setting (bulk_tables n) 3 16 F) base turns) e)
 drawn-only n F accepted founded base has turns e at status text ticks memory h =
     let t = setting (bulk_tables n) 3 16 F in

@@ -12,6 +12,7 @@ use Rattle.bulk_command.proofs.Blocks.{blocks-more}
 abbrev pub with_range : Node → Node × Range
 with_range n = (n, plain_range n)
 
+-- Nodes zipped with their plain ranges are the nodes each paired with its plain range.
 pub zip-plain : (nodes : List Node) → zip nodes (map plain_range nodes) ≡ map with_range nodes
 zip-plain [] = refl
 zip-plain (n ∷ nodes) = ap (λ z. (n, plain_range n) ∷ z) (zip-plain nodes)

@@ -96,6 +96,8 @@ line-is name other v e =
     ∙ append_assoc name (codes " = ") (text ++ 10 ∷ [])
     ∙ ap (λ z. name ++ (codes " = E + Z*" ++ z)) (append_assoc name (codes "*" ++ other) (10 ∷ []))
 
+-- The canonical text of the tables of m classes, at least two, is the line of the mode followed by
+-- the rule of each class in order.
 pub canonical-is : (m : ℕ) → 2 ≤ m → canonical_text (tables_of m) ≡ codes "unlabelled" ++ (10 ∷ [] ++ flat_map (rule_line m) (range_with_len 0 m))
 canonical-is m some =
     let shown = all_shown (tables_of m) in

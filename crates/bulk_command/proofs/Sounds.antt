@@ -53,6 +53,7 @@ in-order m (suc k) =
     (subst (λ bodies. SpanEach (first_nodes m (suc k)) 0 bodies (suc (6 * k + 5))) (sym (mapped-more (λ class. 6 * class + 5) k))
     (subst (λ nodes. SpanEach nodes 0 (first_bodies k ++ (6 * k + 5) ∷ []) (suc (6 * k + 5))) (sym (blocks-more (class_nodes m) k)) both))
 
+-- The class after any class, taken modulo m, is one of the m classes, where m is at least 2.
 pub next-below : (m class : ℕ) → 2 ≤ m → next_class m class < m
 next-below m class some = omega (arith, some)
 
@@ -63,6 +64,7 @@ plain-ranges nodes each = record {
   at = λ i n r at_n at_r. subst (HasTextRange n) (same_Some (plain_range n) r (sym (slice_get-map plain_range nodes i ∙ ap (option_map plain_range) at_n) ∙ at_r)) (each.at i n at_n);
 }
 
+-- The tables of 2 to 41 classes are sound.
 pub is-sound : (m : ℕ) → 2 ≤ m → m ≤ 41 → IsSound (tables_of m)
 is-sound m some few =
     let named : length (map class_name (range_with_len 0 m)) ≡ m = length-map-range_with_len class_name 0 m in

@@ -105,5 +105,6 @@ no-round : (m c d : ℕ) → ¬ (Leads (tables_of m) c d)
 no-round m c d (rule.one step) = no-step m c d step
 no-round m c d (rule.further lead step) = no-step m _ d step
 
+-- The specification of 2 to 41 classes is well founded.
 pub is-well-founded : (m : ℕ) → 2 ≤ m → m ≤ 41 → IsWellFounded (tables_of m)
 is-well-founded m some few = accepted-founded (tables_of m) (orderly (tables_of m) (is-sound m some few)) (record { objects = has-some m; parts = no-repeat m; loops = λ c h. no-round m c c h.leads })

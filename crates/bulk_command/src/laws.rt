@@ -1,6 +1,5 @@
 //! Laws of the specification of a number, and of what comes of the command. Each function's
-//! contract is a
-//! law, and its body calls only laws.
+//! contract is a law, and its body calls only laws.
 ghost use Rattle.std.specs.Prelude.{◌≡◌, ◌≢◌, ℕ, List, Some};
 ghost use Rattle.bz_model.specs.WellFounded.{IsWellFounded};
 ghost use Rattle.class_system.specs.CanonicalText.{canonical_text};
@@ -18,8 +17,7 @@ ghost use Rattle.bulk_command.specs.BulkCommand.{bulk_course, course_line, BulkD
 use spec_reader::laws::{a_canonical_text_is_short, a_canonical_text_stands_for_its_specification};
 
 /// The text of a number is the canonical one of its tables and stands for them; they are within the
-/// limits
-/// and well founded.
+/// limits and well founded.
 pub fn the_text_stands_for_the_tables()
     ensures canonical { (n : ℕ) → canonical_text (bulk_tables n) ≡ bulk_text n }
     ensures accepted { (n : ℕ) → IsAccepted (bulk_text n) (bulk_tables n) }
@@ -30,8 +28,7 @@ pub fn the_text_stands_for_the_tables()
 }
 
 /// No number's specification is refused: but for want of memory, what comes of the command is that
-/// no base
-/// is found for its tables, or a run over one.
+/// no base is found for its tables, or a run over one.
 pub fn no_specification_of_a_number_is_refused()
     ensures goes_on { (n F : ℕ) (status : Status) (text : List ℕ) (ticks : ℕ)
         → status ≢ Status.OutOfMemory → CarriesBulk n F status text ticks
@@ -42,8 +39,7 @@ pub fn no_specification_of_a_number_is_refused()
 }
 
 /// Where a base is found and the run over it comes to its end, the command answers the end's status
-/// and
-/// writes the line of that run.
+/// and writes the line of that run.
 pub fn a_run_that_ends_is_told()
     ensures told { (n F : ℕ) (base : List ℕ) → base_of (setting (bulk_tables n) 3 16 F) ≡ Some base
         → (turns : ℕ) (ending : Ending)

@@ -22,6 +22,7 @@ listed (Object.SetOf os) = os
 listed (Object.CycOf os) = os
 listed _ = none
 
+-- The size of a sequence, set or cycle is the sum of the sizes of its parts.
 pub counted-size : (node : Node) (part : ℕ) (form : Objects → Object) (os : Objects) → IsCounted node part form → size (form os) ≡ sizes os
 counted-size (Node.Seq p) part form os c = subst (λ f. size (f os) ≡ sizes os) (sym c.1) refl
 counted-size (Node.Set p) part form os c = subst (λ f. size (f os) ≡ sizes os) (sym c.1) refl

@@ -14,6 +14,7 @@ use Rattle.bz_laws.proofs.Samples.{AllByRecursion-append}
 min-suc : (a b : ℕ) → min (suc a) (suc b) ≡ suc (min a b)
 min-suc a b = omega arith
 
+-- The lesser of a label and no label, for which 0 stands, is the label.
 pub lesser-zero : (a : ℕ) → lesser_label a 0 ≡ a
 lesser-zero zero = refl
 lesser-zero (suc a) = refl
@@ -23,6 +24,7 @@ lesser-comm zero b = sym (lesser-zero b)
 lesser-comm (suc a) zero = refl
 lesser-comm (suc a) (suc b) = omega arith
 
+-- Taking the lesser of labels, 0 standing for none, is associative.
 pub lesser-assoc : (a b c : ℕ) → lesser_label (lesser_label a b) c ≡ lesser_label a (lesser_label b c)
 lesser-assoc zero b c = refl
 lesser-assoc (suc a) zero c = refl
@@ -43,6 +45,7 @@ lesser-is (suc a) (suc b) = go (leb_tells (suc a) (suc b))
     go (inl k) = let le = k.1 in inl (omega arith)
     go (inr k) = let lt = k.1 in inr (omega arith)
 
+-- The least label of two lists together is the lesser of their least labels.
 pub least-append : (l m : List ℕ) → least_label (l ++ m) ≡ lesser_label (least_label l) (least_label m)
 least-append [] m = refl
 least-append (a ∷ l) m = ap (lesser_label a) (least-append l m) ∙ sym (lesser-assoc a (least_label l) (least_label m))
@@ -68,6 +71,7 @@ abbrev pub labels_of : List Item → List ℕ
 labels_of [] = []
 labels_of (i ∷ items) = i.labels ++ labels_of items
 
+-- The least of all labels of some items is the least of the items' own least labels.
 pub labels-least : (items : List Item) → least_label (labels_of items) ≡ least_label (map key items)
 labels-least [] = refl
 labels-least (i ∷ items) = least-append i.labels (labels_of items) ∙ ap (lesser_label (key i)) (labels-least items)
@@ -172,6 +176,7 @@ put-least i (j ∷ items) = go (nat_le (key i) (key j)) (put-least i items)
     go true k = refl
     go false k = ap (lesser_label (key j)) k ∙ lesser-swap (key j) (key i) (least_label (map key items))
 
+-- Items put in order have the same least label as before.
 pub order-least : (items : List Item) → least_label (map key (items_in_order items)) ≡ least_label (map key items)
 order-least [] = refl
 order-least (i ∷ items) = put-least i (items_in_order items) ∙ ap (lesser_label (key i)) (order-least items)
@@ -179,6 +184,8 @@ order-least (i ∷ items) = put-least i (items_in_order items) ∙ ap (lesser_la
 keys-append : (xs ys : List Item) → least_label (map key (xs ++ ys)) ≡ lesser_label (least_label (map key xs)) (least_label (map key ys))
 keys-append xs ys = ap least_label (map-append key xs ys) ∙ least-append (map key xs) (map key ys)
 
+-- Items that are rotated, together with those passed already, have as least label the lesser of the
+-- least labels of both.
 pub rotate-least : (label : ℕ) (seen items : List Item) → least_label (map key (items_rotated label seen items)) ≡ lesser_label (least_label (map key seen)) (least_label (map key items))
 rotate-least label seen [] = sym (lesser-zero (least_label (map key seen)))
 rotate-least label seen (i ∷ items) = go (nat_eq (key i) label) (rotate-least label (seen ++ i ∷ []) items)
@@ -209,6 +216,7 @@ from-rising : (numbers : List ℕ) → IsRisingFrom 0 numbers → IsRising numbe
 from-rising [] h = tt
 from-rising (a ∷ numbers) h = h.1
 
+-- The least labels of items that are put in order never fall from one item to the next.
 pub order-rising : (items : List Item) → IsRising (map key (items_in_order items))
 order-rising items = from-rising (map key (items_in_order items)) (go items)
   where
@@ -235,6 +243,7 @@ rotate-begins label seen (i ∷ items) e m = go (rotate-begins label (seen ++ i 
         (e ∙ sym (lesser-assoc (least_label (map key seen)) (key i) (least_label (map key items))) ∙ ap (λ z. lesser_label z (least_label (map key items))) (sym (keys-append seen (i ∷ []) ∙ ap (lesser_label (least_label (map key seen))) (lesser-zero (key i)))))
         (further k.1 m))
 
+-- Items that are rotated to their least label begin with the item that holds it.
 pub rotated-begins : (items : List Item) → BeginsWithLeast (map key (items_rotated (least_label (map key items)) [] items))
 rotated-begins [] = tt
 rotated-begins (i ∷ items) = rotate-begins (least_label (map key (i ∷ items))) [] (i ∷ items) refl (least-attained (key i) (map key items))

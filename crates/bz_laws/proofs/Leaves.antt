@@ -56,6 +56,7 @@ module _ (s : Spec) (x : Fraction) (e : ℕ) where
 pub class-body : (s : Spec) (h c body : ℕ) → body_of s c ≡ Some body → (o : Object) → HasWithin s h (Some body) o → ClassHas s (suc h) c o
 class-body s h c body at o k = subst (λ p. HasWithin s h p o) (sym at) k
 
+-- What a class has with height at most h + 1, the body of the class has with height at most h.
 pub body-class : (s : Spec) (h c body : ℕ) → body_of s c ≡ Some body → (o : Object) → ClassHas s (suc h) c o → HasWithin s h (Some body) o
 body-class s h c body at o k = subst (λ p. HasWithin s h p o) at k
 
@@ -63,6 +64,8 @@ body-class s h c body at o k = subst (λ p. HasWithin s h p o) at k
 pub class-into-within : (s : Spec) (h e c body : ℕ) → node_at s e ≡ Some (Node.Class c) → body_of s c ≡ Some body → (o : Object) → HasWithin s h (Some body) o → HasWithin s (suc h) (Some e) o
 class-into-within s h e c body node at o k = unknown s (ClassHas s (suc h)) e node o (class-body s h c body at o k)
 
+-- What a reference to a class has with height at most h + 1, the class's body has with height at
+-- most h.
 pub class-from-within : (s : Spec) (h e c body : ℕ) → node_at s e ≡ Some (Node.Class c) → body_of s c ≡ Some body → (o : Object) → HasWithin s (suc h) (Some e) o → HasWithin s h (Some body) o
 class-from-within s h e c body node at o k = body-class s h c body at o (known s (ClassHas s (suc h)) e node o k)
 
@@ -70,9 +73,11 @@ class-from-within s h e c body node at o k = body-class s h c body at o (known s
 pub class-none-within : (s : Spec) (e c : ℕ) → node_at s e ≡ Some (Node.Class c) → (o : Object) → ¬ (HasWithin s 0 (Some e) o)
 class-none-within s e c node o k = let none_there : ClassHas s 0 c o = known s (ClassHas s 0) e node o k in none_there
 
+-- What belongs to the body of a class belongs to each reference to the class.
 pub class-into : (s : Spec) (e c body : ℕ) → node_at s e ≡ Some (Node.Class c) → body_of s c ≡ Some body → (o : Object) → Belongs s body o → Belongs s e o
 class-into s e c body node at o b = (suc b.0, class-into-within s b.0 e c body node at o b.1)
 
+-- What belongs to a reference to a class belongs to the class's body.
 pub class-from : (s : Spec) (e c body : ℕ) → node_at s e ≡ Some (Node.Class c) → body_of s c ≡ Some body → (o : Object) → Belongs s e o → Belongs s body o
 class-from s e c body node at o b = go b.0 (known s (ClassHas s b.0) e node o b.1)
   where
@@ -84,5 +89,7 @@ class-from s e c body node at o b = go b.0 (known s (ClassHas s b.0) e node o b.
 pub above-class : (s : Spec) (x : Fraction) (e c body : ℕ) {f : Fraction} → node_at s e ≡ Some (Node.Class c) → body_of s c ≡ Some body → Above x f (Belongs s body) → Above x f (Belongs s e)
 above-class s x e c body node at up = AboveBy-weaker (class-from s e c body node at) up
 
+-- A lower bound of the totals of objects of a class's body is one of objects of a reference to the
+-- class.
 pub below-class : (s : Spec) (x : Fraction) (e c body : ℕ) {f : Fraction} → node_at s e ≡ Some (Node.Class c) → body_of s c ≡ Some body → Below x f (Belongs s body) → Below x f (Belongs s e)
 below-class s x e c body node at down = BelowBy-weaker (class-into s e c body node at) down

@@ -14,6 +14,7 @@ pub all-members : {A : Type 0} (xs : List A) → AllByRecursion (IsOneOf xs) xs
 all-members [] = tt
 all-members (a ∷ xs) = (inl refl, AllByRecursion-weaker (λ b m. inr m) xs (all-members xs))
 
+-- What holds for all elements of a list holds for each one that stands in it.
 pub of-member : {A : Type 0} (P : A → Type 0) (xs : List A) (a : A) → AllByRecursion P xs → IsOneOf xs a → P a
 of-member P [] a h m = elim m [ ]
 of-member P (b ∷ xs) a h (inl e) = subst P (sym e) h.0
@@ -23,9 +24,11 @@ of-member P (b ∷ xs) a h (inr m) = of-member P xs a h.1 m
 pub equal-refl : (a : Fraction) → AreEqual a a
 equal-refl a = record { at_most = AtMost-refl a; at_least = AtMost-refl a }
 
+-- Where a is equal to b and b is equal to c, the fraction a is equal to c.
 pub equal-trans : {a b c : Fraction} → AreEqual a b → AreEqual b c → AreEqual a c
 equal-trans h k = record { at_most = AtMost-trans h.at_most k.at_most; at_least = AtMost-trans k.at_least h.at_least }
 
+-- Where a fraction a is equal to b, the fraction b is equal to a.
 pub equal-sym : {a b : Fraction} → AreEqual a b → AreEqual b a
 equal-sym h = record { at_most = h.at_least; at_least = h.at_most }
 

@@ -26,6 +26,7 @@ ClassBelongs s c o = (h : ℕ) × ClassHas s h c o
 pub known : (s : Spec) (R : ℕ → Object → Type 0) (e : ℕ) {node : Node} → node_at s e ≡ Some node → (o : Object) → HasAt s R e o → Has s R (Some node) (range_at s e) o
 known s R e at o h = subst (λ n. Has s R n (range_at s e) o) at h
 
+-- Where node number e is a given node, what that node has with the range of e, number e has.
 pub unknown : (s : Spec) (R : ℕ → Object → Type 0) (e : ℕ) {node : Node} → node_at s e ≡ Some node → (o : Object) → Has s R (Some node) (range_at s e) o → HasAt s R e o
 unknown s R e at o h = subst (λ n. Has s R n (range_at s e) o) (sym at) h
 
@@ -61,12 +62,17 @@ mutual
 pub belongs-has : (s : Spec) (e : ℕ) (o : Object) → Belongs s e o → HasAt s (ClassBelongs s) e o
 belongs-has s e o b = has-mono s (ClassHas s b.0) (ClassBelongs s) (λ c p k. (b.0, k)) (node_at s e) (range_at s e) o b.1
 
+-- An object that a node has, where each class has what belongs to it, belongs to the node.
 pub belongs-of : (s : Spec) (e : ℕ) (o : Object) → HasAt s (ClassBelongs s) e o → Belongs s e o
 belongs-of s e o h = has-belongs s (node_at s e) (range_at s e) o h
 
+-- An object of a node with an option of at most i is one that the node has, where each class has
+-- what belongs to it, with the same bound.
 pub upto-has : (s : Spec) (e i : ℕ) (o : Object) → Upto s e i o → HasUpto s (ClassBelongs s) e i o
 upto-has s e i o h = (belongs-has s e o h.0, h.1)
 
+-- An object that a node has, where each class has what belongs to it, with an option of at most i,
+-- belongs to the node with the same bound.
 pub upto-of : (s : Spec) (e i : ℕ) (o : Object) → HasUpto s (ClassBelongs s) e i o → Upto s e i o
 upto-of s e i o h = (belongs-of s e o h.0, h.1)
 

@@ -29,6 +29,8 @@ rising-in_order (p ∷ []) h = refl
 rising-in_order (p ∷ q ∷ parts) h =
     ap (put p) (rising-in_order (q ∷ parts) h.1) ∙ if-true (nat_le p.least q.least) (p ∷ q ∷ parts) (q ∷ put p parts) (elim (leb_tells p.least q.least) [ inl k ↦ k.0 | inr k ↦ absurd (let a = h.0 in let b = k.1 in omega arith) ])
 
+-- The least label that any part's text holds is the least label of the list of the parts' least
+-- labels.
 pub least-same : (parts : List PartText) → least_of parts ≡ least_label (map least_at parts)
 least-same [] = refl
 least-same (p ∷ parts) = ap (lesser_label p.least) (least-same parts)
@@ -39,6 +41,7 @@ beginning-rotated (p ∷ parts) h =
     let e : p.least ≡ least_of (p ∷ parts) = h ∙ ap (lesser_label p.least) (sym (least-same parts)) in
     if-true (nat_eq p.least (least_of (p ∷ parts))) ((p ∷ parts) ++ []) (rotated_to (least_of (p ∷ parts)) ([] ++ p ∷ []) parts) (elim (eqb_tells p.least (least_of (p ∷ parts))) [ inl k ↦ k.0 | inr k ↦ absurd (k.1 e) ]) ∙ append-nil (p ∷ parts)
 
+-- The least labels of the objects of a part are the least labels that stand with their texts.
 pub leasts-texts : (a : Arrangement) (s : Spec) (T : ℕ → Object → List ℕ → List ℕ) (part : ℕ) (os : Objects) (l : List ℕ) → leasts os l ≡ map least_at (texts_of_all a s T part os l)
 leasts-texts a s T part none l = refl
 leasts-texts a s T part (more o os) l = ap (λ ls. least_label (take (size o) l) ∷ ls) (leasts-texts a s T part os (drop (size o) l))

@@ -56,6 +56,7 @@ counted_from s x (Node.Set p) part form e room us r left c h = subst (λ f. Coun
 counted_from s x (Node.Cyc p) part form e room us r left c h = subst (λ f. CountedAs s x part f e room us r left) (sym c.1) (subst (λ q. CountedAs s x q Object.CycOf e room us r left) c.0 h)
 counted_from s x _ part form e room us r left c h = elim c [ ]
 
+-- Two values of one optional number are the same number.
 pub same_number : (p : Option ℕ) (a b : ℕ) → p ≡ Some a → p ≡ Some b → a ≡ b
 same_number p a b h k = cc
 

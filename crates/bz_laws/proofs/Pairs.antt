@@ -46,6 +46,7 @@ from_apart (and ne d) = (from_every ne, from_apart d)
 from_sample : {A : Type 0} {P : A → Type 0} {xs : List A} → SampleOf P xs → IsSample P xs
 from_sample s = record { distinct = from_apart s.apart; each = from_every s.every }
 
+-- Two pairs are the same where their first elements are the same and their second elements are.
 pub pair_path : {A B : Type 0} {a c : A} {b d : B} → a ≡ c → b ≡ d → ◌≡◌ {A = A × B} (a, b) (c, d)
 pair_path p q = λ i. (p i, q i)
 

@@ -91,6 +91,8 @@ each-apart s h [] none k = tt
 each-apart s h (part ∷ parts) (more o os) k = ((h, k.0), each-apart s h parts os k.1)
 each-apart s h _ _ k = elim k [ ]
 
+-- Where a list has one object of each part, there is one height h such that each part has its
+-- object with height at most h.
 pub each-together : (s : Spec) (parts : List ℕ) (os : Objects) → BelongEach s parts os → (h : ℕ) × HaveEach s (ClassHas s h) parts os
 each-together s [] none k = (0, tt)
 each-together s (part ∷ parts) (more o os) k =
@@ -102,5 +104,6 @@ each-together s _ _ k = elim k [ ]
 pub product-has : (s : Spec) (e : ℕ) (parts : List ℕ) → node_at s e ≡ Some (Node.Product parts) → (o : Object) → Belongs s e o → (o ≡ Object.Tuple (parts_of o)) × BelongEach s parts (parts_of o)
 product-has s e parts node o b = let r = has-product s (ClassHas s b.0) parts (range_at s e) o (known s (ClassHas s b.0) e node o b.1) in (r.0, each-apart s b.0 parts (parts_of o) r.1)
 
+-- A tuple of one object of each part, in order, belongs to the product of these parts.
 pub into-product : (s : Spec) (e : ℕ) (parts : List ℕ) → node_at s e ≡ Some (Node.Product parts) → (os : Objects) → BelongEach s parts os → Belongs s e (Object.Tuple os)
 into-product s e parts node os k = let r = each-together s parts os k in (r.0, unknown s (ClassHas s r.0) e node (Object.Tuple os) r.1)

@@ -133,10 +133,14 @@ drop-nil zero xs e = e
 drop-nil (suc n) [] e = refl
 drop-nil (suc n) (x ∷ xs) e = absurd (cc)
 
+-- Of the labels of a list of objects, the first ones, as many as the first object's size, are
+-- labels of the first object.
 pub first-labels : (mode : Mode) (o : Object) (os : Objects) (labels : List ℕ) → HasAllLabels mode (more o os) labels → HasLabels mode o (take (size o) labels)
 first-labels Mode.Unlabelled o os labels h = take-nil (size o) labels h
 first-labels Mode.Labelled o os labels h = (let n = h.0 in omega (arith, length-take (size o) labels), all-take (λ label. (1 ≤ label) × (label ≤ 1000000)) (size o) labels h.1)
 
+-- Of the labels of a list of objects, those after the first object's are labels of the other
+-- objects.
 pub other-labels : (mode : Mode) (o : Object) (os : Objects) (labels : List ℕ) → HasAllLabels mode (more o os) labels → HasAllLabels mode os (drop (size o) labels)
 other-labels Mode.Unlabelled o os labels h = drop-nil (size o) labels h
 other-labels Mode.Labelled o os labels h = (let n = h.0 in omega (arith, length-drop (size o) labels), all-drop (λ label. (1 ≤ label) × (label ≤ 1000000)) (size o) labels h.1)
@@ -145,10 +149,12 @@ no-labels : (labels : List ℕ) → length labels ≡ 0 → labels ≡ []
 no-labels [] e = refl
 no-labels (a ∷ labels) e = absurd (omega arith)
 
+-- An empty list of objects has no labels.
 pub none-labels : (mode : Mode) (labels : List ℕ) → HasAllLabels mode none labels → labels ≡ []
 none-labels Mode.Unlabelled labels h = h
 none-labels Mode.Labelled labels h = no-labels labels h.0
 
+-- A neutral object has no labels.
 pub neutral-labels : (mode : Mode) (labels : List ℕ) → HasLabels mode Object.Unit_ labels → labels ≡ []
 neutral-labels Mode.Unlabelled labels h = h
 neutral-labels Mode.Labelled labels h = no-labels labels h.0
@@ -201,10 +207,12 @@ option-few s R parts i o few h =
     let out : length parts ≤ i → ⊥ = λ le. let none_there : Has s R (node_of s None) (range_of s None) o = subst (λ q. Has s R (node_of s q) (range_of s q) o) (part_missing parts i le) h in none_there in
     omega (arith, out)
 
+-- Labels of a pick of a union's part are labels of the object that is picked.
 pub pick-labels : (mode : Mode) (i : ℕ) (o : Object) (labels : List ℕ) → HasLabels mode (Object.Pick i o) labels → HasLabels mode o labels
 pick-labels Mode.Unlabelled i o labels h = h
 pick-labels Mode.Labelled i o labels h = h
 
+-- Labels of an object are labels of a list of objects whose sizes add up to the object's size.
 pub part-labels : (mode : Mode) (o : Object) (os : Objects) (labels : List ℕ) → size o ≡ sizes os → HasLabels mode o labels → HasAllLabels mode os labels
 part-labels Mode.Unlabelled o os labels e h = h
 part-labels Mode.Labelled o os labels e h = (h.0 ∙ e, h.1)

@@ -165,6 +165,8 @@ decided : {A : Type 0} → A ⊎ (¬ A) → Dec A
 decided (inl a) = yes a
 decided (inr n) = no n
 
+-- Where it is decided which nodes have an object of size 0, a node that freely makes an object
+-- above size max is over at room max, with no fewer numbers left.
 pub exceeds_by : (s : Spec) (x : Fraction) (e max : ℕ) (us left : List Fraction) (o : Object) → ((part : ℕ) → HasZero s part ⊎ (¬ (HasZero s part))) → MakesFreely s x e us o left → max < size o → (taken : List Fraction) × Makes s x e max us Over (taken ++ left)
 exceeds_by s x e max us left o known h le =
     let r = exceeds s x (λ p. decided (known p)) h.made max le in

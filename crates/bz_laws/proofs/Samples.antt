@@ -5,14 +5,17 @@ use Rattle.bz_model.specs.Fraction.{Fraction, AtMost, plus, times, whole}
 use Rattle.bz_model.specs.Totals.{AboveBy, BelowBy, IsSample, IsDistinct, total_by}
 use Rattle.bz_laws.proofs.Fractions.{AtMost-trans, AtMost-refl, plus-mono, times-mono, plus-assoc, plus-assoc', plus-swap, times-plus, times-plus'}
 
+-- Where all elements of a list have P, and P implies Q, all have Q.
 pub AllByRecursion-weaker : {A : Type 0} {P Q : A → Type 0} → ((a : A) → P a → Q a) → (xs : List A) → AllByRecursion P xs → AllByRecursion Q xs
 AllByRecursion-weaker f [] h = tt
 AllByRecursion-weaker f (x ∷ xs) h = (f x h.0, AllByRecursion-weaker f xs h.1)
 
+-- Where all elements of a list have P and all have Q, all have both P and Q.
 pub AllByRecursion-both : {A : Type 0} (P Q : A → Type 0) (xs : List A) → AllByRecursion P xs → AllByRecursion Q xs → AllByRecursion (λ o. P o × Q o) xs
 AllByRecursion-both P Q [] h k = tt
 AllByRecursion-both P Q (x ∷ xs) h k = ((h.0, k.0), AllByRecursion-both P Q xs h.1 k.1)
 
+-- What holds for all elements of xs and for all of ys holds for all of xs followed by ys.
 pub AllByRecursion-append : {A : Type 0} (P : A → Type 0) (xs ys : List A) → AllByRecursion P xs → AllByRecursion P ys → AllByRecursion P (xs ++ ys)
 AllByRecursion-append P [] ys h k = k
 AllByRecursion-append P (x ∷ xs) ys h k = (h.0, AllByRecursion-append P xs ys h.1 k)
@@ -21,12 +24,17 @@ pub always : {A : Type 0} (xs : List A) → AllByRecursion (λ o. Unit {0}) xs
 always [] = tt
 always (o ∷ xs) = (tt, always xs)
 
+-- A sample of elements with P is a sample of elements with Q, where P implies Q.
 pub IsSample-weaker : {A : Type 0} {P Q : A → Type 0} {xs : List A} → ((o : A) → P o → Q o) → IsSample P xs → IsSample Q xs
 IsSample-weaker {xs = xs} f h = record { distinct = h.distinct; each = AllByRecursion-weaker f xs h.each }
 
+-- An upper bound of the totals of elements with P is one of those of elements with Q, where Q
+-- implies P.
 pub AboveBy-weaker : {A : Type 0} {w : A → Fraction} {f : Fraction} {P Q : A → Type 0} → ((a : A) → Q a → P a) → AboveBy w f P → AboveBy w f Q
 AboveBy-weaker g a = record { holds = λ xs s. a.holds xs (IsSample-weaker g s) }
 
+-- Where some distinct elements with P total at least f, and P implies Q, some distinct elements
+-- with Q total at least f.
 pub BelowBy-weaker : {A : Type 0} {w : A → Fraction} {f : Fraction} {P Q : A → Type 0} → ((a : A) → P a → Q a) → BelowBy w f P → BelowBy w f Q
 BelowBy-weaker g b = record { list = b.list; sample = IsSample-weaker g b.sample; reached = b.reached }
 
@@ -146,6 +154,7 @@ above-one {A} v a P only = record { holds = λ xs s. go xs s.distinct s.each }
     go (b ∷ []) d h = subst (λ c. AtMost (plus (v b) (whole 0)) (v c)) (only b h.0) (omega arith)
     go (b ∷ c ∷ xs) d h = absurd (d.0.0 (only c h.1.0 ∙ sym (only b h.0)))
 
+-- A single element with the property shows that its own weight is a lower bound of the totals.
 pub below-one : {A : Type 0} (v : A → Fraction) (a : A) (P : A → Type 0) → P a → BelowBy v (v a) P
 below-one v a P p = record { list = a ∷ []; sample = record { distinct = (tt, tt); each = (p, tt) }; reached = omega arith }
 
@@ -154,12 +163,17 @@ pub scaled_le : {A : Type 0} (w : A → Fraction) (r : Fraction) (xs : List A) �
 scaled_le w r [] = omega arith
 scaled_le w r (a ∷ xs) = AtMost-trans (plus-mono (AtMost-refl (times r (w a))) (scaled_le w r xs)) (times-plus' r (w a) (total_by w xs))
 
+-- The product of r and the total of a list by w is at most the total by r times w.
 pub scaled_ge : {A : Type 0} (w : A → Fraction) (r : Fraction) (xs : List A) → AtMost (times r (total_by w xs)) (total_by (λ a. times r (w a)) xs)
 scaled_ge w r [] = omega arith
 scaled_ge w r (a ∷ xs) = AtMost-trans (times-plus r (w a) (total_by w xs)) (plus-mono (AtMost-refl (times r (w a))) (scaled_ge w r xs))
 
+-- Where f is an upper bound of the totals by w, the fraction r * f is one of the totals by r times
+-- w.
 pub above-scaled : {A : Type 0} {w : A → Fraction} {f : Fraction} {P : A → Type 0} (r : Fraction) → AboveBy w f P → AboveBy (λ a. times r (w a)) (times r f) P
 above-scaled {w = w} r a = record { holds = λ xs s. AtMost-trans (scaled_le w r xs) (times-mono (AtMost-refl r) (a.holds xs s)) }
 
+-- Where some distinct elements with a property total at least f by w, some total at least r * f by
+-- r times w.
 pub below-scaled : {A : Type 0} {w : A → Fraction} {f : Fraction} {P : A → Type 0} (r : Fraction) → BelowBy w f P → BelowBy (λ a. times r (w a)) (times r f) P
 below-scaled {w = w} r b = record { list = b.list; sample = b.sample; reached = AtMost-trans (times-mono (AtMost-refl r) b.reached) (scaled_ge w r b.list) }

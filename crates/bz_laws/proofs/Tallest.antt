@@ -11,6 +11,8 @@ use Rattle.bz_laws.proofs.Heights.{within-up_to}
 use Rattle.bz_laws.proofs.Nodes.{ClassBelongs}
 use Rattle.bz_laws.proofs.Leaves.{class-body, body-class}
 
+-- For finitely many objects of one node there is one height h such that the node has each with
+-- height at most h.
 pub tallest : (s : Spec) (e : ℕ) (os : List Object) → AllByRecursion (Belongs s e) os → (h : ℕ) × AllByRecursion (HasWithin s h (Some e)) os
 tallest s e [] b = (0, tt)
 tallest s e (o ∷ os) b =
@@ -54,6 +56,7 @@ module _ (s : Spec) (x : Fraction) (entry : ℕ → Fraction)
 pub class-belongs-of : (s : Spec) (c body : ℕ) → body_of s c ≡ Some body → (o : Object) → Belongs s body o → ClassBelongs s c o
 class-belongs-of s c body at o b = (suc b.0, class-body s b.0 c body at o b.1)
 
+-- What belongs to a class belongs to the class's body.
 pub class-belongs-has : (s : Spec) (c body : ℕ) → body_of s c ≡ Some body → (o : Object) → ClassBelongs s c o → Belongs s body o
 class-belongs-has s c body at o k = go k.0 k.1
   where
@@ -73,5 +76,7 @@ above-class-belongs s x f c up = go (body_of s c) refl
     go None eq = above-none (λ o k. nothing eq k.0 o k.1)
     go (Some body) eq = AboveBy-weaker (class-belongs-has s c body eq) (up body eq)
 
+-- A lower bound of the totals of objects of a class's body is one of objects that belong to the
+-- class.
 pub below-class-belongs : (s : Spec) (x : Fraction) (c body : ℕ) {f : Fraction} → body_of s c ≡ Some body → Below x f (Belongs s body) → Below x f (ClassBelongs s c)
 below-class-belongs s x c body at down = BelowBy-weaker (class-belongs-of s c body at) down

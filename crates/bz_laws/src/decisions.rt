@@ -43,8 +43,7 @@ pub fn bounds_decide()
 /// An option that a cell's tests name is the ideal option of every number of the cell.
 ///
 /// Option 0, and each option whose predecessor fails the second test, need the first test or to be
-/// the greatest. A low
-/// above 0 is no case of its own: up to an option below it 0 is an upper bound.
+/// the greatest. A low above 0 is no case of its own: up to an option below it 0 is an upper bound.
 pub fn decisions_are_ideal()
     ensures first { (s : Spec) (x u : Fraction) (k b F e hi lo_first : ℕ) (o : Object) → 0 < x.num
         → Belongs s e o → Above x (units F hi) (Belongs s e)
@@ -89,8 +88,7 @@ pub fn the_ideal_option_is_taken()
 {}
 
 /// The option of a union's object is below its number of parts, that of a sequence, set or cycle
-/// lies
-/// in its range. So a cycle has a part where its low is at least 1.
+/// lies in its range. So a cycle has a part where its low is at least 1.
 pub fn options_lie_in_the_range()
     ensures union { (s : Spec) (e : ℕ) (parts : List ℕ) (o : Object)
         → node_at s e ≡ Some (Node.Union parts) → Belongs s e o → option_of o < length parts }

@@ -37,6 +37,7 @@ pair_height = record { within = (tt, (tt, tt)); least = none_less }
     none_less zero h b = b.0
     none_less (suc j) h b = absurd (omega arith)
 
+-- In T = Z * Set(T), the body of T has the root with no child with height at most h, for each h.
 pub leaf_belongs : (h : ℕ) → HasWithin tree h (Some 3) leaf_tree
 leaf_belongs zero = (tt, (((lit≤ tt, tt), tt), tt))
 leaf_belongs (suc h) = (tt, (((lit≤ tt, tt), tt), tt))

@@ -58,6 +58,8 @@ pub record Parted (text : List ℕ) (i : ℕ) (form : HasFractionForm text) : Ty
   pub num : form.num ≡ take i text
   pub den : form.den ≡ drop (i + 1) text
 
+-- Where a text has the form of a fraction and its first stroke is at place i, the numerator is what
+-- stands before that place and the denominator what follows it.
 pub parted : (text : List ℕ) (i : ℕ) → i < length text → get_or text i 0 ≡ 47 → ((k : ℕ) → k < i → get_or text k 0 ≢ 47) → (form : HasFractionForm text) → Parted text i form
 parted text i lt here before form =
     let place : i ≡ length form.num = first-place form.num form.den i (no_stroke form.num form.is_num) (subst (λ t. i < length t) form.is lt) (subst (λ t. get_or t i 0 ≡ 47) form.is here) (subst (λ t. (k : ℕ) → k < i → get_or t k 0 ≢ 47) form.is before) in

@@ -13,6 +13,8 @@ use Rattle.call_stages.specs.declared.status.Status.TheVariants as variants
 pub was_written : (status : Status) (text : List ℕ) (b a : Option (List ℕ)) (fb fa : ℕ) → Appends b a text → EndsBy (Says status text 0) (output b a fb fa 0 0) status
 was_written status text b a fb fa h = ends.whole (record { text = text; ticks = 0; is = record { status_is = refl; text_is = refl; ticks_are = refl }; appends = h; few = omega arith })
 
+-- A call of which a write failed and only a front of a text was written ends as one that says that
+-- text, with the status of a failed write.
 pub write_failed : (status : Status) (text : List ℕ) (b a : Option (List ℕ)) (fb fa : ℕ) → AppendsFront b a text → Rose fb fa → EndsBy (Says status text 0) (output b a fb fa 0 0) Status.WriteFault
 write_failed status text b a fb fa h rose = ends.write_failed status refl rose (record { text = text; ticks = 0; is = record { status_is = refl; text_is = refl; ticks_are = refl }; front = h; few = omega arith })
 
@@ -21,6 +23,7 @@ appends-nothing : (o : Option (List ℕ)) → o ≡ option_map (λ written. writ
 appends-nothing None = refl
 appends-nothing (Some written) = ap Some (sym (append-nil written))
 
+-- A sink that is as it was before has been given a front of any text, namely the empty one.
 pub no_front : (o : Option (List ℕ)) (text : List ℕ) → AppendsFront o o text
 no_front o text = record { count = 0; within = omega arith; front = record { told = appends-nothing o } }
 
@@ -41,6 +44,8 @@ written_on P b a fb fa tb ta result said text ticks (ends.write_failed status e 
 begun-on : (P Q : Outcome) (b a : Option (List ℕ)) (fb fa tb ta sb sa : ℕ) (status : Status) → ((text : List ℕ) (ticks : ℕ) → P status text ticks → (more : ℕ) × Q status text more × (ta ≤ tb + ticks → sa ≤ sb + more)) → IsBegun P (output b a fb fa tb ta) status → IsBegun Q (output b a fb fa sb sa) status
 begun-on P Q b a fb fa tb ta sb sa status on h = let q = on h.text h.ticks h.is in record { text = h.text; ticks = q.0; is = q.1; front = h.front; few = q.2 h.few }
 
+-- A call that ends by outcomes P ends by outcomes Q, where each outcome of P is one of Q with the
+-- same status and text, and its step bound carries over.
 pub ends_on : (P Q : Outcome) (b a : Option (List ℕ)) (fb fa tb ta sb sa : ℕ) (result : Status) → ((status : Status) (text : List ℕ) (ticks : ℕ) → P status text ticks → (more : ℕ) × Q status text more × (ta ≤ tb + ticks → sa ≤ sb + more)) → EndsBy P (output b a fb fa tb ta) result → EndsBy Q (output b a fb fa sb sa) result
 ends_on P Q b a fb fa tb ta sb sa result on (ends.whole h) = let q = on result h.text h.ticks h.is in ends.whole (record { text = h.text; ticks = q.0; is = q.1; appends = h.appends; few = q.2 h.few })
 ends_on P Q b a fb fa tb ta sb sa result on (ends.out_of_memory e h) = ends.out_of_memory e (begun-on P Q b a fb fa tb ta sb sa Status.OutOfMemory (on Status.OutOfMemory) h)
@@ -73,6 +78,8 @@ lacks-memory variants.PointRefused = inr (λ e. absurd (cc))
 lacks-memory variants.ObjectRefused = inr (λ e. absurd (cc))
 lacks-memory variants.RankRefused = inr (λ e. absurd (cc))
 
+-- With one possible outcome and no failed write, a call ends with that status and its whole text
+-- written, or else for want of memory.
 pub exact : (P : Outcome) (o : Output) (result status : Status) (text : List ℕ) (ticks : ℕ) → IsOne P → EndsBy P o result → P status text ticks → status ≢ Status.OutOfMemory → ¬ (Rose o.faults_before o.faults_after) → (result ≡ Status.OutOfMemory) ⊎ ((result ≡ status) × Appends o.before o.after text)
 exact P o result status text ticks one (ends.whole h) p memory fine = go (lacks-memory result)
   where
@@ -96,5 +103,7 @@ ended_whole P o result (ends.write_failed other e rose h) fine = absurd (fine ro
 pub said_written : (said : Status) (line text : List ℕ) (most : ℕ) (b a : Option (List ℕ)) (fb fa tb ta : ℕ) (result : Status) → EndsBy (Says said text 0) (output b a fb fa 0 0) result → text ≡ line → ta ≤ tb + most → EndsBy (MaySay said line most) (output b a fb fa tb ta) result
 said_written said line text most b a fb fa tb ta result h same few = written_on (MaySay said line most) b a fb fa tb ta result said text most h (outcomes.says (record { status_is = refl; text_is = same; ticks_are = refl })) few
 
+-- A call that wrote nothing and ran out of memory ends as one that may say the line, where it took
+-- no more steps than allowed.
 pub not_said : (said : Status) (line : List ℕ) (most : ℕ) (o : Option (List ℕ)) (fb fa tb ta : ℕ) → ta ≤ tb + most → EndsBy (MaySay said line most) (output o o fb fa tb ta) Status.OutOfMemory
 not_said said line most o fb fa tb ta few = ends.out_of_memory refl (record { text = []; ticks = most; is = outcomes.no_memory (record { status_is = refl; text_is = refl; ticks_are = refl }); front = no_front o []; few = few })

@@ -11,9 +11,12 @@ appended-twice : (o : Option (List ℕ)) (xs ys : List ℕ) → option_map (λ w
 appended-twice None xs ys = refl
 appended-twice (Some w) xs ys = ap Some (append_assoc w xs ys)
 
+-- A sink to which xs was appended and then ys has had xs followed by ys appended.
 pub appends-both : (b m a : Option (List ℕ)) (xs ys : List ℕ) → Appends b m xs → Appends m a ys → Appends b a (xs ++ ys)
 appends-both b m a xs ys h k = record { told = k.told ∙ ap (λ o. option_map (λ w. w ++ ys) o) h.told ∙ appended-twice b xs ys }
 
+-- A sink to which xs was appended and then a front of ys has had a front of xs followed by ys
+-- appended.
 pub front-both : (b m a : Option (List ℕ)) (xs ys : List ℕ) → Appends b m xs → AppendsFront m a ys → AppendsFront b a (xs ++ ys)
 front-both b m a xs ys h k = record {
   count = length xs + k.count;

@@ -39,9 +39,11 @@ only-said : (said : Status) (line : List ℕ) (most : ℕ) (status : Status) (te
 only-said said line most status text ticks memory (outcomes.says h) = (h.status_is, h.text_is)
 only-said said line most status text ticks memory (outcomes.no_memory h) = no-answer status [] text most ticks memory h
 
+-- What may be said, where memory doesn't run out, is the one status with its one line.
 pub may-say-only : (said : Status) (line : List ℕ) (most : ℕ) (status : Status) (text : List ℕ) (ticks : ℕ) → status ≢ Status.OutOfMemory → MaySay said line most status text ticks → (status ≡ said) × (text ≡ line)
 may-say-only said line most status text ticks memory h = only-said said line most status text ticks memory h
 
+-- A status that may be said with a line is one outcome, but for want of memory.
 pub one-said : (said : Status) (line : List ℕ) (most : ℕ) → IsOne (MaySay said line most)
 one-said said line most = record {
   one = λ status other text others ticks more m n p q.
@@ -60,6 +62,8 @@ read-only f name most next calm status text ticks memory (stages.failed rose say
 read-only f name most next calm status text ticks memory (stages.no_memory says) = no-answer status [] text 0 ticks memory says
 read-only f name most next calm status text ticks memory (stages.read bytes are p) = subst (λ b. next b status text ticks) (read-bytes (f.content name) calm.bytes bytes most calm.known are.are) p
 
+-- Reading a file has one outcome, but for want of memory, where its content is known, no read of it
+-- fails and what follows has one outcome.
 pub one-read : (f : Files) (name : List ℕ) (most : ℕ) (next : List ℕ → Outcome) → IsCalm f name → ((bytes : List ℕ) → IsOne (next bytes)) → IsOne (FileRead f name most next)
 one-read f name most next calm ones = record {
   one = λ status other text others ticks more m n p q.
@@ -114,12 +118,18 @@ module _ (next : Spec → Outcome) (bytes : List ℕ) (ones : (s : Spec) → IsS
 pub one-judged-founded : (next : Spec → Outcome) (bytes : List ℕ) → ((s : Spec) → IsSound s → IsWithinLimits s → IsWellFounded s → IsOne (next s)) → IsOne (Judged next bytes)
 one-judged-founded next bytes ones = record { one = λ status other text others ticks more m n p q. judged-twice next bytes ones status other text others ticks more m n p q }
 
+-- Judging given bytes as a specification has one outcome, but for want of memory, where what
+-- follows each specification has one.
 pub one-judged : (next : Spec → Outcome) (bytes : List ℕ) → ((s : Spec) → IsOne (next s)) → IsOne (Judged next bytes)
 one-judged next bytes ones = one-judged-founded next bytes (λ s is_sound within founded. ones s)
 
+-- Reading and judging a specification's file, known and read without a fault, has one outcome if
+-- what follows a sound, well-founded one within the limits has.
 pub one-specified-founded : (f : Files) (file : List ℕ) (next : Spec → Outcome) → IsCalm f file → ((s : Spec) → IsSound s → IsWithinLimits s → IsWellFounded s → IsOne (next s)) → IsOne (Specified f file next)
 one-specified-founded f file next calm ones = one-read f file 65537 (Judged next) calm (λ bytes. one-judged-founded next bytes ones)
 
+-- Reading and judging a specification's file has one outcome where the file is known, no read of it
+-- fails and what follows each specification has one.
 pub one-specified : (f : Files) (file : List ℕ) (next : Spec → Outcome) → IsCalm f file → ((s : Spec) → IsOne (next s)) → IsOne (Specified f file next)
 one-specified f file next calm ones = one-specified-founded f file next calm (λ s is_sound within founded. ones s)
 
@@ -143,5 +153,7 @@ module _ (t : Setting) (next : List ℕ → Outcome) (ones : (base : List ℕ) �
       let r = baseless-only t next lacks.no_base other others more n q in
       (says.status_is ∙ sym r.2, says.text_is ∙ one-search t trials r.0 lacks r.1 ∙ sym r.3)
 
+-- The search for a base has one outcome, but for want of memory, where what follows each base has
+-- one.
 pub one-based : (t : Setting) (next : List ℕ → Outcome) → ((base : List ℕ) → IsOne (next base)) → IsOne (Based t next)
 one-based t next ones = record { one = λ status other text others ticks more m n p q. based-twice t next ones status other text others ticks more m n p q }

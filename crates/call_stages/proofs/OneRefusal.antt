@@ -29,6 +29,8 @@ one-least P n m h k = go (dec_le n m) (dec_le m n)
 lacks-none : (s : Spec) (c : ℕ) → EachHasObject s → ¬ (LacksObject s c)
 lacks-none s c each lacks = lacks.without (each.objects c lacks.body lacks.is_body)
 
+-- A specification that isn't well founded is refused by one line: two causes told of it, neither of
+-- them want of memory, are written alike.
 pub one-cause : (s : Spec) (a b : UnfoundedCause) → a ≢ OutOfMemory → b ≢ OutOfMemory → TellsCause s a → TellsCause s b → cause_line s a ≡ cause_line s b
 one-cause s OutOfMemory b m n h k = absurd (m refl)
 one-cause s (NoObject c) OutOfMemory m n h k = absurd (n refl)
@@ -82,6 +84,7 @@ trials-lines t (x ∷ a) (y ∷ b) same h k =
     let line = one-trial t x y first (h.at 0 x refl) (k.at 0 y refl) in
     (ap (λ n. suc n) rest.0, ap (λ l. l ++ flat_map (proposal_line t.spec) a) line ∙ ap (λ ls. proposal_line t.spec y ++ ls) rest.1)
 
+-- Two searches that find no base in the same setting show the same text of proposals.
 pub one-search : (t : Setting) (a b : List Trial) → HasNoUpper t a → HasNoUpper t b → no_upper_text t.spec t.bits a ≡ no_upper_text t.spec t.bits b
 one-search t a b h k =
     let same = trials-lines t a b (h.in_order ∙ sym k.in_order) h.each k.each in

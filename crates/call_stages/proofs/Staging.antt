@@ -50,6 +50,8 @@ read_as f name most P Q status text ticks on (stages.failed rose says) = stages.
 read_as f name most P Q status text ticks on (stages.no_memory says) = stages.no_memory says
 read_as f name most P Q status text ticks on (stages.read bytes are p) = stages.read bytes are (on bytes are p)
 
+-- What comes of judging bytes with one continuation comes of it with another, where each outcome of
+-- the first on a specification is one of the second.
 pub judged_as : (P Q : Spec → Outcome) (bytes : List ℕ) (status : Status) (text : List ℕ) (ticks : ℕ) → ((s : Spec) → P s status text ticks → Q s status text ticks) → Judged P bytes status text ticks → Judged Q bytes status text ticks
 judged_as P Q bytes status text ticks on (stages.refused fault memory refuses says) = stages.refused fault memory refuses says
 judged_as P Q bytes status text ticks on (stages.unfounded s cause accepted memory tells says) = stages.unfounded s cause accepted memory tells says
@@ -59,6 +61,8 @@ judged_as P Q bytes status text ticks on (stages.founded s accepted founded p) =
 pub ended_by_reading : (f : Files) (file : List ℕ) (status : Status) (text : List ℕ) (ticks : ℕ) → FileRead f file 65537 (λ bytes. Never) status text ticks → Specified f file (λ s. Never) status text ticks
 ended_by_reading f file status text ticks h = read_as f file 65537 (λ bytes. Never) (Judged (λ s. Never)) status text ticks (λ bytes are never. absurd never) h
 
+-- A refusal of the bytes that were read from a file, or want of memory in judging them, is what
+-- comes of reading and judging that file.
 pub judged_after_reading : (content : List ℕ → Option (List ℕ)) (before after : List ℕ → ℕ) (file bytes : List ℕ) (status : Status) (text : List ℕ) (ticks : ℕ) → AreRead content file 65537 bytes → Judged (λ s. Never) bytes status text ticks → Specified (files content before after) file (λ s. Never) status text ticks
 judged_after_reading content before after file bytes status text ticks are h = stages.read bytes are h
 
@@ -69,6 +73,8 @@ is_specified content file bytes s are accepted founded = record { bytes = bytes;
 pub ended_before : (f : Files) (file : List ℕ) (next : Spec → Outcome) (status : Status) (text : List ℕ) (ticks : ℕ) → Specified f file (λ s. Never) status text ticks → Specified f file next status text ticks
 ended_before f file next status text ticks h = read_as f file 65537 (Judged (λ s. Never)) (Judged next) status text ticks (λ bytes are p. judged_as (λ s. Never) next bytes status text ticks (λ s never. absurd never) p) h
 
+-- Where a well-founded specification was read from the file, what follows it is what comes of
+-- reading and judging that file.
 pub goes_on_with : (f : Files) (file : List ℕ) (next : Spec → Outcome) (s : Spec) (status : Status) (text : List ℕ) (ticks : ℕ) → IsSpecified f.content file s → next s status text ticks → Specified f file next status text ticks
 goes_on_with f file next s status text ticks h p = stages.read h.bytes h.read (stages.founded s h.accepted h.founded p)
 

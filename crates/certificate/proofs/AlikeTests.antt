@@ -113,6 +113,7 @@ same-count [] (f ∷ fs) same = absurd same
 same-count (e ∷ es) [] same = absurd same
 same-count (e ∷ es) (f ∷ fs) same = ap suc (same-count es fs same.1)
 
+-- Certificates that are alike have equally many entries.
 pub alike-count : (a b : Certificate) → AreAlike a b → length a.entries ≡ length b.entries
 alike-count a b alike = same-count a.entries b.entries alike.entries
 
@@ -142,6 +143,8 @@ entries-checked s F c es same =
     (entries-same s F (levels_of s F c.header) c.header.min c.header.max 0 0 first c.entries es same)
     (subst (λ n. AreTheSame (kept (length c.entries) ∷ []) (kept n ∷ [])) count (themselves (kept (length c.entries) ∷ [])))))
 
+-- If two certificates are alike, a verdict that tells the first test that fails for one tells it
+-- for the other.
 pub alike-verdict : (s : Spec) (F : ℕ) (a b : Certificate) (told : Verdict) → AreAlike a b → FirstFails (checks s F a) told → FirstFails (checks s F b) told
 alike-verdict s F a b told alike h =
     let with-entries = carried (checks s F a) (checks s F (with_entries a b.entries)) told (entries-checked s F a b.entries alike.entries) h in
@@ -168,6 +171,7 @@ entries-lines (e ∷ es) (f ∷ fs) same =
     ∙ ap (λ l. Line.Object f.number f.place f.size ∷ Line.Text f.text ∷ l ∷ flat_map entry_lines es) all
     ∙ ap (λ ls. Line.Object f.number f.place f.size ∷ Line.Text f.text ∷ Line.Cells f.cells.items ∷ ls) later
 
+-- Certificates that are alike have the same lines.
 pub alike-lines : (a b : Certificate) → AreAlike a b → certificate_lines a ≡ certificate_lines b
 alike-lines a b alike =
     ap (λ ls. header_lines a.header ++ (ls ++ closing_lines a.closing)) (entries-lines a.entries b.entries alike.entries)

@@ -17,6 +17,8 @@ pub record ReadsCells (line : List ℕ) (found : List Cell) (rest : List ℕ) : 
   pub forth : (more : List Cell) → rest ≡ flat_map cell_field more → line ≡ cells_text (found ++ more)
   pub back : (all : List Cell) → AreCells all → line ≡ cells_text all → (more : List Cell) × AreCells more × (all ≡ found ++ more) × (rest ≡ flat_map cell_field more)
 
+-- After the word at the front of a line of cells, no cell is found yet and what follows the word is
+-- left.
 pub reads-first : (line rest : List ℕ) → line ≡ codes "cells" ++ rest → ReadsCells line [] rest
 reads-first line rest e = record {
   are = tt;
@@ -51,6 +53,7 @@ pub field-begins : (c : Cell) → (rest : List ℕ) → (tail : List ℕ) × (ce
 unfolding filled_from
 field-begins c rest = (_, refl)
 
+-- The fields of cells one after the other begin with no digit.
 pub no-digit-after : (more : List Cell) → HasNoDigit (flat_map cell_field more)
 no-digit-after [] = tt
 no-digit-after (c ∷ more) = let f = field-begins c (flat_map cell_field more) in subst HasNoDigit (sym f.1) (λ d. absurd (let low = d.0 in omega arith))
@@ -72,6 +75,8 @@ one-cell text c d rest more h g n m e f =
         let right : ℕ → Cell = λ z. record { k = d.k; b = z } in
         ap left k ∙ ap right b
 
+-- If what is left of a line of cells begins with a cell's field and no digit follows, that cell is
+-- the next one found and what follows is left.
 pub reads-cell : (line : List ℕ) (found : List Cell) (rest after : List ℕ) (c : Cell) → IsCell c.k c.b → rest ≡ cell_field c ++ after → HasNoDigit after → ReadsCells line found rest → ReadsCells line (found ++ c ∷ []) after
 reads-cell line found rest after c h e n r = record {
   are = are-more found c r.are h;
@@ -85,6 +90,8 @@ reads-cell line found rest after c h e n r = record {
         let one = one-cell rest c d after (flat_map cell_field more) h are.0 n (no-digit-after more) e left in
         (more, are.1, is ∙ ap (λ z. found ++ z ∷ more) (sym one.0) ∙ sym (append-more found c more), one.1)
 
+-- If something is left of a line after the cells found, and it begins with no cell's field without
+-- a digit behind it, the line isn't one of cells.
 pub no-cells-left : (line : List ℕ) (found : List Cell) (rest : List ℕ) → rest ≢ [] → ((c : Cell) (after : List ℕ) → IsCell c.k c.b → HasNoDigit after → rest ≢ cell_field c ++ after) → ReadsCells line found rest → (all : List Cell) → AreCells all → line ≢ cells_text all
 no-cells-left line found rest some none r all are e = go (r.back all are e)
   where
@@ -95,9 +102,11 @@ no-cells-left line found rest some none r all are e = go (r.back all are e)
 pub no-cells-begin : (line : List ℕ) → ((rest : List ℕ) → line ≢ codes "cells" ++ rest) → (all : List Cell) → line ≢ cells_text all
 no-cells-begin line none all e = none (flat_map cell_field all) e
 
+-- Where nothing is left of a line after the cells found, the line is the text of these cells.
 pub all-cells : (line : List ℕ) (found : List Cell) (rest : List ℕ) → rest ≡ [] → ReadsCells line found rest → line ≡ cells_text found
 all-cells line found rest e r = r.forth [] e ∙ ap cells_text (append-nil found)
 
+-- What follows a cell's field at the front of a text is shorter than the text.
 pub shorter : (c : Cell) (rest after : List ℕ) → rest ≡ cell_field c ++ after → length after < length rest
 shorter c rest after e =
     let f = field-begins c after in
@@ -112,13 +121,16 @@ cell-read text ns rest c more b h n e =
     let o = one-filling (codes " #/#") text ns (c.k ∷ c.b ∷ []) rest more refl b (cell-begins text c more h n e) in
     subst (λ k. IsCell k (get_or ns 1 0)) (sym (o.0 0 (omega arith))) (subst (λ k. IsCell c.k k) (sym (o.0 1 (omega arith))) h)
 
+-- A rest whose length a test found not to be 0 isn't empty.
 pub not-empty : (rest : List ℕ) (b : Bool) → b ≡ nat_eq (length rest) 0 → b ≡ false → rest ≢ []
 not-empty rest b e f g = let h : nat_eq (length rest) 0 ≡ true = eq-eqb (length rest) 0 (ap length g) in absurd (cc)
 
+-- A rest whose length a test found to be 0 is empty.
 pub is-empty : (rest : List ℕ) (b : Bool) → b ≡ nat_eq (length rest) 0 → b ≡ true → rest ≡ []
 is-empty [] b e f = refl
 is-empty (x ∷ rest) b e f = let h : length (x ∷ rest) ≡ 0 = eqb-true (length (x ∷ rest)) 0 (sym e ∙ f) in absurd (omega arith)
 
+-- A list of one number below 2^64 is one of numbers of 64 bits.
 pub one-small : (n : ℕ) → n < 2 ^ 64 → AreSmall (n ∷ [])
 one-small n h = record { each = λ i. at i }
   where

@@ -28,6 +28,7 @@ entries-pass s sound F table least greatest number place line (e ∷ es) k =
 same-names : (line : ℕ) (names : List (List ℕ)) → FirstFails (name_checks line names names) Valid
 same-names line names = names-pass line (length names) names names refl refl (λ i below. refl)
 
+-- For a sound specification, each test passes on a certificate that is of a drawing.
 pub complete : (s : Spec) (F : ℕ) (c : Certificate) → IsSound s → IsOfDrawing s F c → FirstFails (checks s F c) Valid
 complete s F c sound d =
     at-closing (header_checks s F c.header)

@@ -26,6 +26,7 @@ unfolding digest_bytes
 words-bytes h zero i = omega arith
 words-bytes h (suc n) i = joined-bytes (digest_bytes h n) (to_be_bytes w32 (slice_index h n)) (words-bytes h n) (number-bytes 4 (slice_index h n)) i
 
+-- The SHA-256 digest of any message is a digest, a list of 32 bytes.
 pub is-digest : (message : List ℕ) → IsDigest (sha256 message)
 unfolding sha256
 is-digest message = record { count = length-sha256 message; each = words-bytes (final_hash initial_hash_256 message) 8 }

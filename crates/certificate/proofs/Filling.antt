@@ -8,6 +8,7 @@ use Rattle.std.proofs.lemmas.List.{set_past}
 use Rattle.certificate.proofs.Numerals.{one-number}
 use Rattle.certificate.specs.Patterns.{filled_from, filled, places, begins_apart, is_apart, HasNoDigit, BeginsNumber, AreSmall, BeginsFilled}
 
+-- Two equal lists that have a first item have the same first item and the same rest.
 pub cons-same : (a b : ℕ) (xs ys : List ℕ) → a ∷ xs ≡ b ∷ ys → (a ≡ b) × (xs ≡ ys)
 cons-same a b xs ys e = (cc, cc)
 
@@ -16,10 +17,12 @@ pub sign-filled : (b : ℕ) (pattern ns : List ℕ) (next : ℕ) → b ≡ 35 �
 unfolding filled_from
 sign-filled b pattern ns next e = let t : nat_eq b 35 ≡ true = eq-eqb b 35 e in rw t refl
 
+-- A byte that is no number sign stands for itself in a filled pattern.
 pub byte-filled : (b : ℕ) (pattern ns : List ℕ) (next : ℕ) → b ≢ 35 → filled_from (b ∷ pattern) ns next ≡ b ∷ filled_from pattern ns next
 unfolding filled_from
 byte-filled b pattern ns next e = let t : nat_eq b 35 ≡ false = ne_eqb b 35 e in rw t refl
 
+-- The empty pattern filled with any numbers is the empty text.
 pub nothing-filled : (ns : List ℕ) (next : ℕ) → filled_from [] ns next ≡ []
 unfolding filled_from
 nothing-filled ns next = refl
@@ -28,6 +31,8 @@ nothing-filled ns next = refl
 pub sign-at : (p ns : List ℕ) (i j : ℕ) → i < length p → get_or p i 0 ≡ 35 → filled_from (drop i p) ns j ≡ decimal (get_or ns j 0) ++ filled_from (drop (i + 1) p) ns (j + 1)
 sign-at p ns i j lt e = rw (add-one i, add-one j) (ap (λ t. filled_from t ns j) (drop-cons p i 0 lt) ∙ sign-filled (get_or p i 0) (drop (suc i) p) ns j e)
 
+-- Where the byte at place i of a pattern is no number sign, the pattern filled from i on is that
+-- byte and the pattern filled from i + 1 on.
 pub byte-at : (p ns : List ℕ) (i j : ℕ) → i < length p → get_or p i 0 ≢ 35 → filled_from (drop i p) ns j ≡ get_or p i 0 ∷ filled_from (drop (i + 1) p) ns j
 byte-at p ns i j lt e = rw add-one (ap (λ t. filled_from t ns j) (drop-cons p i 0 lt) ∙ byte-filled (get_or p i 0) (drop (suc i) p) ns j e)
 
@@ -37,6 +42,7 @@ drop-end [] (suc i) h = refl
 drop-end (b ∷ p) zero h = absurd (omega arith)
 drop-end (b ∷ p) (suc i) h = drop-end p i (omega arith)
 
+-- From its end on, a pattern filled with numbers is the empty text.
 pub end-at : (p ns : List ℕ) (i j : ℕ) → length p ≤ i → filled_from (drop i p) ns j ≡ []
 end-at p ns i j h = ap (λ t. filled_from t ns j) (drop-end p i h) ∙ nothing-filled ns j
 
@@ -46,9 +52,13 @@ sign-places b p e = let t : nat_eq b 35 ≡ true = eq-eqb b 35 e in rw t refl
 byte-places : (b : ℕ) (p : List ℕ) → b ≢ 35 → places (b ∷ p) ≡ places p
 byte-places b p e = let t : nat_eq b 35 ≡ false = ne_eqb b 35 e in rw t refl
 
+-- Where a number sign stands at place i of a pattern, the pattern takes one number more from i on
+-- than from i + 1 on.
 pub sign-places-at : (p : List ℕ) (i : ℕ) → i < length p → get_or p i 0 ≡ 35 → places (drop i p) ≡ places (drop (i + 1) p) + 1
 sign-places-at p i lt e = rw (add-one i, add-one (places (drop (suc i) p))) (ap places (drop-cons p i 0 lt) ∙ sign-places (get_or p i 0) (drop (suc i) p) e)
 
+-- Where the byte at place i of a pattern is no number sign, the pattern takes as many numbers from
+-- i on as from i + 1 on.
 pub byte-places-at : (p : List ℕ) (i : ℕ) → i < length p → get_or p i 0 ≢ 35 → places (drop i p) ≡ places (drop (i + 1) p)
 byte-places-at p i lt e = rw add-one (ap places (drop-cons p i 0 lt) ∙ byte-places (get_or p i 0) (drop (suc i) p) e)
 
@@ -64,6 +74,8 @@ apart-sign b p s e =
     let t : nat_eq b 35 ≡ true = eq-eqb b 35 s in
     ap (λ v. cond v (begins_apart p) true) (sym t) ∙ (and-parts (cond (nat_eq b 35) (begins_apart p) true) (is_apart p) e).0
 
+-- If in a pattern from place i on each number sign is followed by no digit and no number sign, then
+-- so it is from place i + 1 on.
 pub apart-at : (p : List ℕ) (i : ℕ) → i < length p → is_apart (drop i p) ≡ true → is_apart (drop (i + 1) p) ≡ true
 apart-at p i lt e = rw add-one (apart-rest (get_or p i 0) (drop (suc i) p) (sym (ap is_apart (drop-cons p i 0 lt)) ∙ e))
 
@@ -99,12 +111,15 @@ pub record Reads (p text : List ℕ) (i j : ℕ) (ns rest : List ℕ) : Type 0 w
   pub forth : (ms q : List ℕ) → Agree j ms ns → rest ≡ filled_from (drop i p) ms j ++ q → text ≡ filled p ms ++ q
   pub back : (ms q : List ℕ) → AreSmall ms → HasNoDigit q → text ≡ filled p ms ++ q → Agree j ms ns × (rest ≡ filled_from (drop i p) ms j ++ q)
 
+-- Before anything is read, the whole text is left of the whole pattern and no number is taken.
 pub reads-start : (p text ns : List ℕ) → Reads p text 0 0 ns text
 reads-start p text ns = record {
   forth = λ ms q a e. e;
   back = λ ms q s h e. (record { same = λ k lt. absurd (omega arith) }, e);
 }
 
+-- If the next byte of the pattern is no number sign and begins what is left of the text, reading
+-- goes on behind that byte in both.
 pub reads-byte : (p text : List ℕ) (i j : ℕ) (ns rest more : List ℕ) → i < length p → get_or p i 0 ≢ 35 → rest ≡ get_or p i 0 ∷ more → Reads p text i j ns rest → Reads p text (i + 1) j ns more
 reads-byte p text i j ns rest more lt ne is h = record {
   forth = λ ms q a e. h.forth ms q a (is ∙ ap (λ t. get_or p i 0 ∷ t) e ∙ ap (λ t. t ++ q) (sym (byte-at p ms i j lt ne)));
@@ -116,6 +131,8 @@ reads-byte p text i j ns rest more lt ne is h = record {
 agree-less : (j : ℕ) (ms ns : List ℕ) (n : ℕ) → Agree (j + 1) ms (set ns j n) → Agree j ms ns
 agree-less j ms ns n a = record { same = λ k lt. let ne : k ≢ j = omega arith in a.same k (omega arith) ∙ get_or-set_other ns j k n 0 ne }
 
+-- If a number sign is next in the pattern and a number begins what is left, reading goes on behind
+-- both, with that number put in at its place.
 pub reads-number : (p text : List ℕ) (i j : ℕ) (ns rest more : List ℕ) (n : ℕ) → i < length p → get_or p i 0 ≡ 35 → is_apart (drop i p) ≡ true → j < length ns → BeginsNumber rest n more → Reads p text i j ns rest → Reads p text (i + 1) (j + 1) (set ns j n) more
 reads-number p text i j ns rest more n lt s a room b h = record {
   forth = λ ms q g e.
@@ -134,10 +151,14 @@ reads-number p text i j ns rest more n lt s a room b h = record {
       (agree-more j ms ns n room k.0 (sym one.0), one.1);
 }
 
+-- If the next byte of the pattern is no number sign and the rest of the text doesn't begin with it,
+-- the text begins with the pattern filled in no way.
 pub no-byte : (p text : List ℕ) (i j : ℕ) (ns rest : List ℕ) → i < length p → get_or p i 0 ≢ 35 → Reads p text i j ns rest → ((more : List ℕ) → rest ≢ get_or p i 0 ∷ more) → (ms q : List ℕ) → ¬ (BeginsFilled p text ms q)
 no-byte p text i j ns rest lt ne h none ms q b =
     none (filled_from (drop (i + 1) p) ms j ++ q) ((h.back ms q b.small b.apart b.split).1 ∙ ap (λ t. t ++ q) (byte-at p ms i j lt ne))
 
+-- If a number sign is next in a pattern with no digit after any sign, and no number begins the
+-- rest, the text begins with the pattern filled in no way.
 pub no-number-at : (p text : List ℕ) (i j : ℕ) (ns rest : List ℕ) → i < length p → get_or p i 0 ≡ 35 → is_apart (drop i p) ≡ true → Reads p text i j ns rest → ((n : ℕ) (more : List ℕ) → ¬ (BeginsNumber rest n more)) → (ms q : List ℕ) → ¬ (BeginsFilled p text ms q)
 no-number-at p text i j ns rest lt s a h none ms q b =
     none (get_or ms j 0) (filled_from (drop (i + 1) p) ms (j + 1) ++ q) (record {
@@ -146,6 +167,8 @@ no-number-at p text i j ns rest lt s a h none ms q b =
       apart = follows-at p ms q i (j + 1) lt s a b.apart;
     })
 
+-- Where the whole pattern was read, the numbers read have 64 bits and no digit follows, the text
+-- begins with the pattern filled with them.
 pub all-read : (p text : List ℕ) (i j : ℕ) (ns rest : List ℕ) → length p ≤ i → AreSmall ns → HasNoDigit rest → Reads p text i j ns rest → BeginsFilled p text ns rest
 all-read p text i j ns rest ge small none h = record {
   small = small;
@@ -153,6 +176,8 @@ all-read p text i j ns rest ge small none h = record {
   apart = none;
 }
 
+-- Where the whole pattern was read and what is left begins with a digit, the text begins with the
+-- pattern filled in no way.
 pub all-passed : (p text : List ℕ) (i j : ℕ) (ns rest : List ℕ) → length p ≤ i → ¬ (HasNoDigit rest) → Reads p text i j ns rest → (ms q : List ℕ) → ¬ (BeginsFilled p text ms q)
 all-passed p text i j ns rest ge digit h ms q b =
     let k = h.back ms q b.small b.apart b.split in
@@ -162,6 +187,7 @@ all-passed p text i j ns rest ge digit h ms q b =
 pub whole-filled : (p line ns rest : List ℕ) → BeginsFilled p line ns rest → rest ≡ [] → line ≡ filled p ns
 whole-filled p line ns rest b e = b.split ∙ ap (λ t. filled p ns ++ t) e ∙ append-nil (filled p ns)
 
+-- A line that is a pattern filled with numbers of 64 bits begins with that, and nothing follows.
 pub begins-whole : (p line ms : List ℕ) → AreSmall ms → line ≡ filled p ms → BeginsFilled p line ms []
 begins-whole p line ms small e = record { small = small; split = e ∙ sym (append-nil (filled p ms)); apart = tt }
 
@@ -212,6 +238,8 @@ one-filling p text ns ms rest q a b d =
 pub one-line : (p ns ms : List ℕ) → is_apart p ≡ true → AreSmall ns → AreSmall ms → filled p ns ≡ filled p ms → (k : ℕ) → k < places p → get_or ns k 0 ≡ get_or ms k 0
 one-line p ns ms a s t e = (one-filling p (filled p ns) ns ms [] [] a (begins-whole p (filled p ns) ns s refl) (begins-whole p (filled p ns) ms t e)).0
 
+-- Putting a number below 2^64 at a place of a list of numbers of 64 bits keeps all numbers of 64
+-- bits.
 pub small-set : (ns : List ℕ) (j n : ℕ) → n < 2 ^ 64 → AreSmall ns → AreSmall (set ns j n)
 small-set ns j n h s = record { each = λ k. go k (eqb_tells k j) (nat-cases j (length ns)) }
   where

@@ -34,6 +34,8 @@ cut-at [] end lt h = absurd (omega arith)
 cut-at (b ∷ text) zero lt h = ap (λ z. z ∷ text) h
 cut-at (b ∷ text) (suc end) lt h = ap (λ t. b ∷ t) (cut-at text end (omega arith) h)
 
+-- A text with a line feed at place end is what stands before that place, the line feed, and what
+-- follows it.
 pub cut-line : (text : List ℕ) (end : ℕ) → end < length text → get_or text end 0 ≡ 10 → text ≡ take end text ++ 10 ∷ take (length text - (end + 1)) (drop (end + 1) text)
 cut-line text end lt h = cut-at text end lt h ∙ ap (λ t. take end text ++ 10 ∷ t) (rw add-one (sym (take_all (length text - suc end) (drop (suc end) text) (omega (arith, length-drop (suc end) text)))))
 
@@ -64,48 +66,60 @@ stuck-here from text line rest h f none = record {
   unfinished = λ o e. absurd (not-nothing line rest (sym e ∙ f));
 }
 
+-- Where the version is wanted and the line in front is that of neither version 1 nor version 2,
+-- reading is stuck.
 pub stuck-version : (text line rest : List ℕ) → HasNoFeed line → text ≡ line ++ 10 ∷ rest → ((v : ℕ) → (v ≡ 1) ⊎ (v ≡ 2) → line ≢ version_line v) → IsStuck Stage.AtVersion text
 stuck-version text line rest h f none = stuck-here Stage.AtVersion text line rest h f (λ l next m. cases m)
   where
     cases : {l : Line} {next : Stage} → May Stage.AtVersion l next → line ≢ line_text l
     cases (May.version {v = v} is) = none v is
 
+-- Where the mode is wanted and the line in front is the line of no mode, reading is stuck.
 pub stuck-mode : (v : ℕ) (text line rest : List ℕ) → HasNoFeed line → text ≡ line ++ 10 ∷ rest → ((m : Mode) → line ≢ mode_line m) → IsStuck (Stage.AtMode v) text
 stuck-mode v text line rest h f none = stuck-here (Stage.AtMode v) text line rest h f (λ l next m. cases m)
   where
     cases : {l : Line} {next : Stage} → May (Stage.AtMode v) l next → line ≢ line_text l
     cases (May.mode {m = m}) = none m
 
+-- Where a digest is wanted and the line in front is the line of no digest, reading is stuck.
 pub stuck-digest : (text line rest : List ℕ) → HasNoFeed line → text ≡ line ++ 10 ∷ rest → ((d : List ℕ) → IsDigest d → line ≢ spec_line d) → IsStuck Stage.AtDigest text
 stuck-digest text line rest h f none = stuck-here Stage.AtDigest text line rest h f (λ l next m. cases m)
   where
     cases : {l : Line} {next : Stage} → May Stage.AtDigest l next → line ≢ line_text l
     cases (May.digest {d = d} is) = none d is
 
+-- Where x is wanted and the line in front is the line of no fraction, reading is stuck.
 pub stuck-x : (text line rest : List ℕ) → HasNoFeed line → text ≡ line ++ 10 ∷ rest → ((n d : ℕ) → IsPart n → IsPart d → line ≢ x_line n d) → IsStuck Stage.AtX text
 stuck-x text line rest h f none = stuck-here Stage.AtX text line rest h f (λ l next m. cases m)
   where
     cases : {l : Line} {next : Stage} → May Stage.AtX l next → line ≢ line_text l
     cases (May.x {n = n} {d = d} is are) = none n d is are
 
+-- Where the fraction bits are wanted and the line in front is the line of no number below 2^32,
+-- reading is stuck.
 pub stuck-fraction : (text line rest : List ℕ) → HasNoFeed line → text ≡ line ++ 10 ∷ rest → ((b : ℕ) → b < 2 ^ 32 → line ≢ fraction_line b) → IsStuck Stage.AtFraction text
 stuck-fraction text line rest h f none = stuck-here Stage.AtFraction text line rest h f (λ l next m. cases m)
   where
     cases : {l : Line} {next : Stage} → May Stage.AtFraction l next → line ≢ line_text l
     cases (May.fraction {f = b} is) = none b is
 
+-- Where the window is wanted and the line in front is that of no two numbers of 64 bits, reading is
+-- stuck.
 pub stuck-window : (text line rest : List ℕ) → HasNoFeed line → text ≡ line ++ 10 ∷ rest → ((a b : ℕ) → IsSmall a → IsSmall b → line ≢ window_line a b) → IsStuck Stage.AtWindow text
 stuck-window text line rest h f none = stuck-here Stage.AtWindow text line rest h f (λ l next m. cases m)
   where
     cases : {l : Line} {next : Stage} → May Stage.AtWindow l next → line ≢ line_text l
     cases (May.window {min = a} {max = b} is are) = none a b is are
 
+-- Where an object's text is wanted and the line in front is that of no printable text, reading is
+-- stuck.
 pub stuck-text : (text line rest : List ℕ) → HasNoFeed line → text ≡ line ++ 10 ∷ rest → ((t : List ℕ) → IsPrinted t → line ≢ text_line t) → IsStuck Stage.AtText text
 stuck-text text line rest h f none = stuck-here Stage.AtText text line rest h f (λ l next m. cases m)
   where
     cases : {l : Line} {next : Stage} → May Stage.AtText l next → line ≢ line_text l
     cases (May.text {text = t} is) = none t is
 
+-- Where cells are wanted and the line in front is the text of no cells, reading is stuck.
 pub stuck-cells : (text line rest : List ℕ) → HasNoFeed line → text ≡ line ++ 10 ∷ rest → ((c : List Cell) → AreCells c → line ≢ cells_text c) → IsStuck Stage.AtCells text
 stuck-cells text line rest h f none = stuck-here Stage.AtCells text line rest h f (λ l next m. cases m)
   where
@@ -119,6 +133,7 @@ no-object-none text none = record { none = λ n p s rest a b c e. none (object_l
 pub no-open-none : (text : List ℕ) → ((line rest : List ℕ) → text ≢ line ++ 10 ∷ rest) → HasNoOpen text
 no-open-none text none = record { none = λ s rest is r e. none (open_line s) rest (e ∙ whole-then (Line.Open s) rest) }
 
+-- Where a text has no whole line in front, no line of the base stands in front.
 pub no-base-none : (names : List (List ℕ)) (text : List ℕ) → ((line rest : List ℕ) → text ≢ line ++ 10 ∷ rest) → HasNoBase names text
 no-base-none names text none = record { none = λ n v rest is missing s e. none (base_line n v) rest (e ∙ whole-then (Line.Base n v) rest) }
 
@@ -126,9 +141,12 @@ no-base-none names text none = record { none = λ n v rest is missing s e. none 
 pub no-object-here : (text line rest : List ℕ) → HasNoFeed line → text ≡ line ++ 10 ∷ rest → ((n p s : ℕ) → IsSmall n → IsSmall p → IsSmall s → line ≢ object_line n p s) → HasNoObject text
 no-object-here text line rest h f none = record { none = λ n p s q a b c e. none n p s a b c (one-cut line (object_line n p s) rest q h (line-no-feed (May.object a b c)) (sym f ∙ e ∙ whole-then (Line.Object n p s) q)).0 }
 
+-- If the line in front is the line of no number that was left open, no such line stands in front.
 pub no-open-here : (text line rest : List ℕ) → HasNoFeed line → text ≡ line ++ 10 ∷ rest → ((s : Straddle) → IsOpen s → OpenInRange s → line ≢ open_line s) → HasNoOpen text
 no-open-here text line rest h f none = record { none = λ s q is r e. none s is r (one-cut line (open_line s) rest q h (line-no-feed (May.left_open is r)) (sym f ∙ e ∙ whole-then (Line.Open s) q)).0 }
 
+-- If the line in front is the line of no new name and value of the base, no line of the base stands
+-- in front.
 pub no-base-here : (names : List (List ℕ)) (text line rest : List ℕ) → HasNoFeed line → text ≡ line ++ 10 ∷ rest → ((n : List ℕ) (v : ℕ) → IsName n → IsMissing n names → IsSmall v → line ≢ base_line n v) → HasNoBase names text
 no-base-here names text line rest h f none = record { none = λ n v q is missing s e. none n v is missing s (one-cut line (base_line n v) rest q h (line-no-feed (May.base is missing s)) (sym f ∙ e ∙ whole-then (Line.Base n v) q)).0 }
 

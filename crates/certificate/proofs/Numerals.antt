@@ -27,9 +27,11 @@ digits-same (x ∷ xs) (y ∷ ys) r q h k m n e =
     let same : x ∷ xs ≡ y ∷ ys = cc (p.0, t.0) in
     (same, t.1)
 
+-- The decimal text of a number below 2^64 has only digits.
 pub digits-in : (n : ℕ) → n < 2 ^ 64 → AllDigits 10 (decimal n)
 digits-in n h = (decimal_is_IsNumeral n h).0.1
 
+-- A text begins with at most one number, and what follows it is determined too.
 pub one-number : (text : List ℕ) (n m : ℕ) (r q : List ℕ) → BeginsNumber text n r → BeginsNumber text m q → (n ≡ m) × (r ≡ q)
 one-number text n m r q a b =
     let t = digits-same (decimal n) (decimal m) r q (digits-in n a.small) (digits-in m b.small) a.apart b.apart (sym a.split ∙ b.split) in
@@ -56,9 +58,12 @@ ends-here [] (suc count) h = tt
 ends-here (b ∷ text) zero h = h (omega arith)
 ends-here (b ∷ text) (suc count) h = ends-here text count (λ lt. h (omega arith))
 
+-- Taking as many items as are left after the first count of a text gives all that is left.
 pub rest-of : (text : List ℕ) (count : ℕ) → take (length text - count) (drop count text) ≡ drop count text
 rest-of text count = take_all (length text - count) (drop count text) (omega (arith, length-drop count text))
 
+-- If the first count bytes of a text are a number n below 2^64 and no digit comes next, the text
+-- begins with the number n, and what stands behind it follows.
 pub found-number : (text : List ℕ) (count n : ℕ) → (count < length text → ¬ ((48 ≤ get_or text count 0) × (get_or text count 0 ≤ 57))) → IsNumber (take count text) → number_value (take count text) ≡ n → n < 2 ^ 64 → BeginsNumber text n (take (length text - count) (drop count text))
 found-number text count n ends is value small = subst (BeginsNumber text n) (sym (rest-of text count)) (record {
   small = small;
@@ -77,6 +82,8 @@ get-take (b ∷ text) zero k h = absurd (omega arith)
 get-take (b ∷ text) (suc count) zero h = (refl, omega arith)
 get-take (b ∷ text) (suc count) (suc k) h = let t = get-take text count k (omega arith) in let lt = t.1 in (t.0, omega arith)
 
+-- If the digits at the front of a text are no number, or one above 2^64 - 1, the text begins with
+-- no number of 64 bits.
 pub no-number : (text : List ℕ) (count : ℕ) → ((k : ℕ) → k < count → (48 ≤ get_or text k 0) × (get_or text k 0 ≤ 57)) → (count < length text → ¬ ((48 ≤ get_or text count 0) × (get_or text count 0 ≤ 57))) → (IsNumber (take count text) → 18446744073709551615 < number_value (take count text)) → (n : ℕ) (rest : List ℕ) → ¬ (BeginsNumber text n rest)
 no-number text count digits ends none n rest b =
     let t = digits-same (take count text) (decimal n) (drop count text) rest (all-digits (take count text) (λ k lt. let g = get-take text count k lt in subst (λ z. (48 ≤ z) × (z ≤ 57)) (sym g.0) (digits k g.1))) (digits-in n b.small) (ends-here text count ends) b.apart (take-append-drop count text ∙ b.split) in
@@ -89,6 +96,7 @@ no-number text count digits ends none n rest b =
 pub none-first : (text : List ℕ) → (0 < length text → ¬ ((48 ≤ get_or text 0 0) × (get_or text 0 0 ≤ 57))) → HasNoDigit text
 none-first text h = ends-here text 0 h
 
+-- A text that isn't empty and has a digit as its first byte doesn't begin with no digit.
 pub some-first : (text : List ℕ) → 0 < length text → (48 ≤ get_or text 0 0) × (get_or text 0 0 ≤ 57) → ¬ (HasNoDigit text)
 some-first [] lt d h = absurd (omega arith)
 some-first (b ∷ text) lt d h = h d

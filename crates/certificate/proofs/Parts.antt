@@ -27,6 +27,8 @@ stops-here text s = record { rest = text; fails = fails-here text s; count = ref
 pub stops-behind : {from mid : Stage} (text between : List ℕ) (left : ℕ) (ls : List Line) → Passes from text ls mid between → FailsAt mid between left → FailsAt from text left
 stops-behind text between left ls p f = record { rest = f.rest; fails = fails-more text between f.rest ls p f.fails; count = f.count }
 
+-- If a text begins with lines that may stand there, and reading stops somewhere in what follows
+-- them, then it stops there in the whole text.
 pub stops-more : {from mid : Stage} (text between : List ℕ) (ls : List Line) (stop : Stop) → Passes from text ls mid between → StopsAt mid between stop → StopsAt from text stop
 stops-more text between ls (At left) p f = stops-behind text between left ls p f
 stops-more text between ls OutOfMemory p f = tt
@@ -61,6 +63,7 @@ pub record BasesRead (text : List ℕ) (names : List (List ℕ)) (base rest : Li
   pub passes : Passes (Stage.AtBase []) text (base_lines names base) (Stage.AtBase names) rest
   pub one_each : length base ≡ length names
 
+-- Before any line of the base is read, no name or value is read and the whole text is left.
 pub bases-first : (text : List ℕ) → BasesRead text [] [] text
 bases-first text = record { passes = record { way = Way.stay; split = refl }; one_each = refl }
 
@@ -70,6 +73,8 @@ base-lines-more [] (v ∷ base) name value e = absurd (omega arith)
 base-lines-more (n ∷ names) [] name value e = absurd (omega arith)
 base-lines-more (n ∷ names) (v ∷ base) name value e = ap (λ ls. Line.Base n v ∷ ls) (base-lines-more names base name value (omega arith))
 
+-- If a further line of the base is passed, its name and value are the last ones of the lines that
+-- are read so far.
 pub bases-more : (text : List ℕ) (names : List (List ℕ)) (base rest name : List ℕ) (value : ℕ) (after : List ℕ) → BasesRead text names base rest → Passes (Stage.AtBase names) rest (Line.Base name value ∷ []) (Stage.AtBase (names ++ name ∷ [])) after → BasesRead text (names ++ name ∷ []) (base ++ value ∷ []) after
 bases-more text names base rest name value after r p = record {
   passes = subst (λ ls. Passes (Stage.AtBase []) text ls (Stage.AtBase (names ++ name ∷ [])) after) (sym (base-lines-more names base name value r.one_each))
@@ -83,6 +88,7 @@ bases-more text names base rest name value after r p = record {
 pub record EntriesRead (text : List ℕ) (es : List CertEntry) (rest : List ℕ) : Type 0 where
   pub passes : Passes Stage.AtObject text (flat_map entry_lines es) Stage.AtObject rest
 
+-- Before any entry is read, no entry is there and the whole text is left.
 pub entries-first : (text : List ℕ) → EntriesRead text [] text
 entries-first text = record { passes = record { way = Way.stay; split = refl } }
 
@@ -90,6 +96,8 @@ entry-lines-more : (es : List CertEntry) (e : CertEntry) → flat_map entry_line
 entry-lines-more [] e = refl
 entry-lines-more (d ∷ es) e = ap (λ ls. Line.Object d.number d.place d.size ∷ Line.Text d.text ∷ Line.Cells d.cells.items ∷ ls) (entry-lines-more es e)
 
+-- If the lines of a further entry are passed, it is the last one of the entries that are read so
+-- far.
 pub entries-more : (text : List ℕ) (es : List CertEntry) (rest : List ℕ) (e : CertEntry) (after : List ℕ) → EntriesRead text es rest → Passes Stage.AtObject rest (entry_lines e) Stage.AtObject after → EntriesRead text (es ++ e ∷ []) after
 entries-more text es rest e after r p = record {
   passes = subst (λ ls. Passes Stage.AtObject text ls Stage.AtObject after) (sym (entry-lines-more es e)) (passes-more text rest after (flat_map entry_lines es) (entry_lines e) r.passes p);

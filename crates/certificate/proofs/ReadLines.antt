@@ -49,6 +49,7 @@ pub unlabelled-text : (ns : List ℕ) → filled (codes "mode unlabelled") ns �
 unfolding filled_from
 unlabelled-text ns = refl
 
+-- The line of the labelled mode has no number sign, so filled with any numbers it is its own text.
 pub labelled-text : (ns : List ℕ) → filled (codes "mode labelled") ns ≡ codes "mode labelled"
 unfolding filled_from
 labelled-text ns = refl
@@ -62,6 +63,8 @@ no-mode line a b mode.Labelled e = b e
 pub fits-unlabelled : (line : List ℕ) (b : Bool) → ((others : List ℕ) → AreSmall others → line ≡ filled (codes "mode unlabelled") others → b ≡ true) → b ≡ false → line ≢ codes "mode unlabelled"
 fits-unlabelled line b h f e = let t : b ≡ true = h [] no-numbers (e ∙ sym (unlabelled-text [])) in absurd (cc)
 
+-- Where a test that is true of the labelled mode's line with any numbers is false for a line, the
+-- line isn't that of the labelled mode.
 pub fits-labelled : (line : List ℕ) (b : Bool) → ((others : List ℕ) → AreSmall others → line ≡ filled (codes "mode labelled") others → b ≡ true) → b ≡ false → line ≢ codes "mode labelled"
 fits-labelled line b h f e = let t : b ≡ true = h [] no-numbers (e ∙ sym (labelled-text [])) in absurd (cc)
 
@@ -114,6 +117,7 @@ pub node-text : (ns : List ℕ) → filled (codes "undecided node # cell #/# wit
 unfolding filled_from
 node-text ns = refl
 
+-- The line of a label left undecided takes only the first three of the numbers it is filled with.
 pub label-text : (ns : List ℕ) → filled (codes "undecided label # cell #/#") ns ≡ filled (codes "undecided label # cell #/#") (get_or ns 0 0 ∷ get_or ns 1 0 ∷ get_or ns 2 0 ∷ [])
 unfolding filled_from
 label-text ns = refl

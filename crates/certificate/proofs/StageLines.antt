@@ -33,15 +33,19 @@ small-more n ns h s = record { each = λ k. each k }
     each zero = h
     each (suc k) = s.each k
 
+-- A number of 64 bits alone makes a list of numbers of 64 bits.
 pub small1 : (a : ℕ) → IsSmall a → AreSmall (a ∷ [])
 small1 a h = small-more a [] h no-numbers
 
+-- Two numbers of 64 bits make a list of numbers of 64 bits.
 pub small2 : (a b : ℕ) → IsSmall a → IsSmall b → AreSmall (a ∷ b ∷ [])
 small2 a b h k = small-more a (b ∷ []) h (small1 b k)
 
+-- Three numbers of 64 bits make a list of numbers of 64 bits.
 pub small3 : (a b c : ℕ) → IsSmall a → IsSmall b → IsSmall c → AreSmall (a ∷ b ∷ c ∷ [])
 small3 a b c h k l = small-more a (b ∷ c ∷ []) h (small2 b c k l)
 
+-- Four numbers of 64 bits make a list of numbers of 64 bits.
 pub small4 : (a b c d : ℕ) → IsSmall a → IsSmall b → IsSmall c → IsSmall d → AreSmall (a ∷ b ∷ c ∷ d ∷ [])
 small4 a b c d h k l m = small-more a (b ∷ c ∷ d ∷ []) h (small3 b c d k l m)
 
@@ -60,6 +64,7 @@ cell-small k b h =
 pub node-small : (node k b lo hi : ℕ) → node < 2 ^ 32 → IsCell k b → IsSmall lo → IsSmall hi → AreSmall (node ∷ k ∷ b ∷ lo ∷ hi ∷ [])
 node-small node k b lo hi n h l m = let c = cell-small k b h in small5 node k b lo hi (omega arith) c.0 c.1 l m
 
+-- If m is a number of 64 bits and k, b are a cell, then m, k and b are three numbers of 64 bits.
 pub label-small : (m k b : ℕ) → IsSmall m → IsCell k b → AreSmall (m ∷ k ∷ b ∷ [])
 label-small m k b n h = let c = cell-small k b h in small3 m k b n c.0 c.1
 
@@ -87,6 +92,7 @@ mode-no-feed : (m : Mode) → HasNoFeed (line_text (Line.InMode m))
 mode-no-feed mode.Unlabelled = tested-no-feed (codes "mode unlabelled") refl
 mode-no-feed mode.Labelled = tested-no-feed (codes "mode labelled") refl
 
+-- The versions 1 and 2 are numbers of 64 bits.
 pub version-small : (v : ℕ) → (v ≡ 1) ⊎ (v ≡ 2) → IsSmall v
 version-small v (inl e) = omega arith
 version-small v (inr e) = omega arith
@@ -117,15 +123,18 @@ one-base name other value more is are e =
     let t = one-cut-at 32 name other (decimal value ++ []) (decimal more ++ []) (run-no-space name is.run) (run-no-space other are.run) (append_cancel_left (codes "base ") (name ++ filled (codes " #") (value ∷ [])) (other ++ filled (codes " #") (more ∷ [])) e) in
     (t.0, sym (append-nil (decimal value)) ∙ t.1 ∙ append-nil (decimal more))
 
+-- The line of an object begins with the letter o, whatever its numbers.
 pub object-head : (number place size : ℕ) → get_or (object_line number place size) 0 0 ≡ 111
 unfolding filled_from
 object-head number place size = refl
 
+-- The line of a number that was left open begins with the letter u.
 pub open-head : (s : Straddle) → get_or (open_line s) 0 0 ≡ 117
 unfolding filled_from
 open-head (straddle.Node node cell lo hi) = refl
 open-head (straddle.Label m cell) = refl
 
+-- The closing line begins with the letter e, whatever its word and numbers.
 pub end-head : (word : ClosingWord) (kept thrown bits turns : ℕ) → get_or (end_line word kept thrown bits turns) 0 0 ≡ 101
 unfolding filled_from
 end-head Done kept thrown bits turns = refl
@@ -156,6 +165,7 @@ one-after-base (May.end {word = word} {kept = kept} {thrown = thrown} {bits = bi
 one-after-base (May.end {word = word} {kept = kept} {thrown = thrown} {bits = bits} {turns = turns} ne k t b u) (May.left_open {straddle = s} m r) e = absurd (differ (end_line word kept thrown bits turns) (open_line s) 101 117 (end-head word kept thrown bits turns) (open-head s) (omega arith) e)
 one-after-base (May.end ne k t b u) (May.end me l w c v) e = refl
 
+-- Two versions of 64 bits whose lines have the same text are the same version.
 pub one-version : (v w : ℕ) → IsSmall v → IsSmall w → line_text (Line.Version v) ≡ line_text (Line.Version w) → v ≡ w
 one-version v w h k e = one-line (codes "boltzmann #") (v ∷ []) (w ∷ []) refl (small1 v h) (small1 w k) e 0 (omega arith)
 

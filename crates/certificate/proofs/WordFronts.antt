@@ -35,10 +35,13 @@ no-word word text e rest f =
     let t : pointwise nat_eq (take (length word) text) word ≡ true = ap (λ u. pointwise nat_eq u word) (ap (take (length word)) f ∙ front-of word rest) ∙ pointwise-refl word in
     absurd (cc)
 
+-- Where removing a word from the front of a text leaves a rest, the text is the word and that rest.
 pub word-found : (word text : List ℕ) (r : Option (Bor (List ℕ))) → MatchOption r (pointwise nat_eq (take (length word) text) word ≡ false) (λ x. (pointwise nat_eq (take (length word) text) word ≡ true) × (x.now ≡ drop (length word) text) × (length x.now + length word ≡ length text)) → IfSome r (λ rest. text ≡ word ++ rest.now)
 word-found word text None h = tt
 word-found word text (Some x) h = found-word word text x.now h.0 h.1
 
+-- Where removing a word from the front of a text leaves no result, the text doesn't begin with the
+-- word.
 pub word-missing : (word text : List ℕ) (r : Option (Bor (List ℕ))) → MatchOption r (pointwise nat_eq (take (length word) text) word ≡ false) (λ x. (pointwise nat_eq (take (length word) text) word ≡ true) × (x.now ≡ drop (length word) text) × (length x.now + length word ≡ length text)) → IfNone r ((rest : List ℕ) → text ≢ word ++ rest)
 word-missing word text None h = no-word word text h
 word-missing word text (Some x) h = tt

@@ -6,6 +6,8 @@ use Rattle.certificate.specs.Patterns.{filled}
 use Rattle.certificate.specs.Lines.{Line, text_of, whole_line}
 use Rattle.certificate.specs.Certificates.{spec_lines, base_lines, header_lines}
 
+-- The text of two lists of lines one after the other is the text of the first and then that of the
+-- second.
 pub text-append : (xs ys : List Line) → text_of (xs ++ ys) ≡ text_of xs ++ text_of ys
 text-append [] ys = refl
 text-append (x ∷ xs) ys = ap (λ t. whole_line x ++ t) (text-append xs ys) ∙ sym (append_assoc (whole_line x) (text_of xs) (text_of ys))
@@ -41,6 +43,8 @@ base-more (n ∷ names) [] i name e lt = absurd (omega arith)
 base-more (n ∷ names) (v ∷ base) zero name e lt = let same : n ≡ name = cc in ap (λ z. Line.Base z v ∷ []) same
 base-more (n ∷ names) (v ∷ base) (suc i) name e lt = ap (λ t. Line.Base n v ∷ t) (base-more names base i name e (omega arith))
 
+-- Writing the line of class i after the lines of the classes before it, piece by piece, gives the
+-- lines of the base up to class i.
 pub base-step : (names : List (List ℕ)) (base : List ℕ) (i : ℕ) (name start t t1 t2 t3 : List ℕ) → t ≡ start ++ text_of (base_lines (take i names) (take i base)) → slice_get names i ≡ Some name → i < length base → t1 ≡ t ++ codes "base " → t2 ≡ t1 ++ name → t3 ≡ t2 ++ (filled (codes " #") (get_or base i 0 ∷ []) ++ 10 ∷ []) → t3 ≡ start ++ text_of (base_lines (take (i + 1) names) (take (i + 1) base))
 base-step names base i name start t t1 t2 t3 e at lt e1 e2 e3 =
     let field = filled (codes " #") (get_or base i 0 ∷ []) in

@@ -65,8 +65,7 @@ pub fn a_certificate_has_one_verdict()
 
 /// What a drawing prints is valid: each test passes of a certificate whose header is that of the
 /// specification, with a window and a post-fixed base, whose entries are of kept objects, each made
-/// of
-/// its cells by the levels of the base, and which counts its entries.
+/// of its cells by the levels of the base, and which counts its entries.
 pub fn what_a_drawing_prints_is_valid()
     ensures { (s : Spec) (F : ℕ) (c : Certificate) → IsSound s → IsOfDrawing s F c
         → FirstFails (checks s F c) Valid }

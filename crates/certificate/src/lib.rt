@@ -8,10 +8,9 @@
 //!
 //! A text is read exactly: what is read has this text, and a refusal names the first bad line
 //! (`specs/Reading.antt`). `specs/Stages.antt` says which line may stand next; `stages` reads the
-//! line in
-//! front of a text, by the readers of lines in `lines` and of fields in `fields`. `laws` says that
-//! one
-//! text has one certificate and at most one first bad line, and that what is written is read.
+//! line in front of a text, by the readers of lines in `lines` and of fields in `fields`. `laws`
+//! says that one text has one certificate and at most one first bad line, and that what is written
+//! is read.
 //!
 //! `verify` makes the tests of `specs/Checks.antt` in order, those of entries by `entry_tests`. Its
 //! verdict (`reason`) tells the first that fails (`specs/Verdicts.antt`); a valid certificate is

@@ -14,8 +14,7 @@ pub enum Reason {
     /// The names aren't the classes in order, or the base isn't post-fixed.
     Base,
     /// An entry's number isn't the next, its place is too early, or its size isn't that of its
-    /// object
-    /// or not within the window.
+    /// object or not within the window.
     Object,
     /// No object is made of an entry's cells.
     Cells,

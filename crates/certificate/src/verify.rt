@@ -41,14 +41,10 @@ use well_founded::examination::Founded;
 ///
 /// The verdict is that of the tests in order (`specs/Checks.antt`): `Invalid` tells the first that
 /// fails, with the line where its field is and the reason. Where it is `Valid`, the base is above
-/// the
-/// classes' totals, and each entry's object and labels are those that ideal making makes of every
-/// list
-/// of numbers in the entry's cells, whoever made the certificate. One tick for the base, and those
-/// of
-/// the levels raised. Takes memory for the canonical text, the base's levels, and for each entry
-/// its
-/// bits, object and text.
+/// the classes' totals, and each entry's object and labels are those that ideal making makes of
+/// every list of numbers in the entry's cells, whoever made the certificate. One tick for the base,
+/// and those of the levels raised. Takes memory for the canonical text, the base's levels, and for
+/// each entry its bits, object and text.
 pub fn verify<const F: u32, L: Ledger>(
     alloc: Global,
     founded: &Founded,

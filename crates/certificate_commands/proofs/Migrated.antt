@@ -36,6 +36,8 @@ was-written digests f file cert s c status text ticks has is done h =
 holds-in-2 : (g : Files) (wrote text bytes : List ℕ) (s : Spec) → HoldsText g wrote text → (w : WasWritten s bytes text) → HasCertificate g wrote (certificate_in_2 s w.certificate)
 holds-in-2 g wrote text bytes s holds w = record { calm = holds.calm; few = holds.few; is_text = subst (λ b. IsTextOf b (certificate_in_2 s w.certificate)) (sym holds.same) w.valid.is_text }
 
+-- The certificate that a migration wrote is found valid for the same specification, with as many
+-- entries as the one migrated, unless memory runs out.
 pub verified-again : (laws : OneText) → AreDigests → (f g : Files) (file cert again wrote : List ℕ) (s : Spec) (c : Certificate) (status other : Status) (text others : List ℕ) (ticks more : ℕ) → HasSpecification f file s → HasCertificate f cert c → status ≡ Status.Done → CarriesMigrate f file cert status text ticks → HasSpecification g again s → HoldsText g wrote text → other ≢ Status.OutOfMemory → CarriesVerify g again wrote other others more → (other ≡ Status.Done) × (others ≡ valid_line (length c.entries))
 verified-again laws digests f g file cert again wrote s c status other text others ticks more has is done h has_too holds memory k =
     let w = was-written digests f file cert s c status text ticks has is done h in
@@ -43,6 +45,8 @@ verified-again laws digests f g file cert again wrote s c status other text othe
     let v = valid-verified laws (λ t e. valid_line (length e.entries)) (one-counted laws) g again wrote s d other others more has_too (holds-in-2 g wrote text is.calm.bytes s holds w) w.valid.passes memory k in
     (v.0, v.1 ∙ one-counted laws s w.certificate c (laws.alike is.calm.bytes w.certificate c w.is is.is_text))
 
+-- Migrating the written result of a migration, for the same specification, is done and gives the
+-- same text again, unless memory runs out.
 pub migrated-again : (laws : OneText) → AreDigests → (f g : Files) (file cert again wrote : List ℕ) (s : Spec) (c : Certificate) (status other : Status) (text others : List ℕ) (ticks more : ℕ) → HasSpecification f file s → HasCertificate f cert c → status ≡ Status.Done → CarriesMigrate f file cert status text ticks → HasSpecification g again s → HoldsText g wrote text → other ≢ Status.OutOfMemory → CarriesMigrate g again wrote other others more → (other ≡ Status.Done) × (others ≡ text)
 migrated-again laws digests f g file cert again wrote s c status other text others ticks more has is done h has_too holds memory k =
     let w = was-written digests f file cert s c status text ticks has is done h in

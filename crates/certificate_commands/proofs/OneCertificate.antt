@@ -46,9 +46,12 @@ tests-carried laws s a b told alike h = subst (λ (k : Header). FirstFails (chec
 in-2-alike : (s : Spec) (a b : Certificate) → AreAlike a b → AreAlike (certificate_in_2 s a) (certificate_in_2 s b)
 in-2-alike s a b alike = record { header = ap (header_in_2 s) alike.header; entries = alike.entries; closing = alike.closing }
 
+-- Certificates that say the same, put into version 2 for one specification, have the same text.
 pub one-migrated : (laws : OneText) (s : Spec) (a b : Certificate) → AreAlike a b → migrated_text s a ≡ migrated_text s b
 one-migrated laws s a b alike = ap text_of (laws.lines (certificate_in_2 s a) (certificate_in_2 s b) (in-2-alike s a b alike))
 
+-- Certificates that say the same are valid with the same line, since they have equally many
+-- entries.
 pub one-counted : (laws : OneText) (s : Spec) (a b : Certificate) → AreAlike a b → valid_line (length a.entries) ≡ valid_line (length b.entries)
 one-counted laws s a b alike = ap valid_line (laws.count a b alike)
 

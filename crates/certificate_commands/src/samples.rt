@@ -26,9 +26,8 @@ use size_window::laws::{
 };
 
 /// What `sample` without `--fast` wrote with Done is the text of a certificate of version 2, and
-/// all
-/// its tests pass for the specification that was read. It has the fraction bits of the command's
-/// words, and as many entries as were wanted.
+/// all its tests pass for the specification that was read. It has the fraction bits of the
+/// command's words, and as many entries as were wanted.
 ///
 /// With `--fast` what is written is no certificate (`what_a_fast_sample_wrote_is_refused`).
 pub fn what_sample_wrote_is_valid()
@@ -77,8 +76,7 @@ pub fn what_sample_wrote_is_found_valid()
 }
 
 /// What `sample` with `--fast` wrote with Done is no certificate: its first line is another. Where
-/// a
-/// file holds it, `verify` has no other answer than that line 1 is bad.
+/// a file holds it, `verify` has no other answer than that line 1 is bad.
 pub fn what_a_fast_sample_wrote_is_refused()
     ensures bad { (f : Files) (file : List ℕ) (x : Fraction) (tape : TapeWord) (limits : Limits)
         (bits : FractionBits) (status : Status) (text : List ℕ) (ticks : ℕ)

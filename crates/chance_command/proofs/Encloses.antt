@@ -50,12 +50,16 @@ searched-only f file x object F s tokens labels status text ticks has found memo
     object-in-only f object s (λ others told. WeighedAt (setting s x.num x.den F) others) tokens labels sound has.accepted.within found status text ticks memory
     (specified-only f file s (λ (r : Spec). ReadAndWeighed f object (setting r x.num x.den F)) status text ticks has memory h)
 
+-- With a specification, an object's text and a base at x, the chance command is done and prints
+-- bounds that enclose the chance, unless memory runs out.
 pub weighed : (f : Files) (file : List ℕ) (x : Fraction) (object : List ℕ) (F : ℕ) (s : Spec) (tokens : List Token) (labels : Option (List ℕ)) (base : List ℕ) (status : Status) (text : List ℕ) (ticks : ℕ) → HasSpecification f file s → HasObjectText f object s tokens labels → base_of (setting s x.num x.den F) ≡ Some base → status ≢ Status.OutOfMemory → CarriesChance f file x object F status text ticks → (b : ChanceBounds) × AreBoundsOver (setting s x.num x.den F) base tokens b × (status ≡ Status.Done) × (text ≡ chance_text b)
 weighed f file x object F s tokens labels base status text ticks has found is memory h =
     let t = setting s x.num x.den F in
     let over = based-only t (Weighed t tokens) base is status text ticks memory (searched-only f file x object F s tokens labels status text ticks has found memory h) in
     weighed-only t tokens base status text over.0 memory over.1
 
+-- With a specification and an object's text, but no base at x, the chance command refuses and shows
+-- the search's proposals, unless memory runs out.
 pub baseless : (f : Files) (file : List ℕ) (x : Fraction) (object : List ℕ) (F : ℕ) (s : Spec) (tokens : List Token) (labels : Option (List ℕ)) (status : Status) (text : List ℕ) (ticks : ℕ) → HasSpecification f file s → HasObjectText f object s tokens labels → base_of (setting s x.num x.den F) ≡ None → status ≢ Status.OutOfMemory → CarriesChance f file x object F status text ticks → (trials : List Trial) × HasNoUpper (setting s x.num x.den F) trials × (status ≡ Status.NoUpper) × (text ≡ no_upper_text s F trials)
 baseless f file x object F s tokens labels status text ticks has found none memory h =
     let t = setting s x.num x.den F in
@@ -68,6 +72,8 @@ fault-only s next bytes fault sound within few n tells status text ticks memory 
 fault-only s next bytes fault sound within few n tells status text ticks memory (stage.read tokens labels f is p) = absurd (n (no-fault-read s sound within 0 (without_feed bytes) tokens labels fault is tells))
 fault-only s next bytes fault sound within few n tells status text ticks memory (stage.refused other f m tells_too says) = (says.status_is, says.text_is ∙ ap object_line (one-fault-told s sound within 0 (without_feed bytes) other fault tells_too tells m n))
 
+-- Where the object's file holds no canonical text of an object, for some cause, the chance command
+-- refuses it with that cause, unless memory runs out.
 pub refused : (f : Files) (file : List ℕ) (x : Fraction) (object : List ℕ) (F : ℕ) (s : Spec) (fault : TextFault) (status : Status) (text : List ℕ) (ticks : ℕ) → HasSpecification f file s → LacksObjectText f object s fault → fault ≢ TextFault.OutOfMemory → status ≢ Status.OutOfMemory → CarriesChance f file x object F status text ticks → (status ≡ Status.ObjectRefused) × (text ≡ object_line fault)
 refused f file x object F s fault status text ticks has lacks n memory h =
     let next = λ (others : List Token) (told : Option (List ℕ)). WeighedAt (setting s x.num x.den F) others in
@@ -87,6 +93,8 @@ long-only s next bytes long status text ticks memory (stage.no_memory says) = ab
 long-only s next bytes long status text ticks memory (stage.read tokens labels few is p) = absurd (omega (arith, few, long))
 long-only s next bytes long status text ticks memory (stage.refused fault few m tells says) = absurd (omega (arith, few, long))
 
+-- Where the object's file is known to have more than 16777216 bytes, the chance command refuses it
+-- as too long, unless memory runs out.
 pub refused-long : (f : Files) (file : List ℕ) (x : Fraction) (object : List ℕ) (F : ℕ) (s : Spec) (calm : IsCalm f object) (status : Status) (text : List ℕ) (ticks : ℕ) → HasSpecification f file s → 16777216 < length calm.bytes → status ≢ Status.OutOfMemory → CarriesChance f file x object F status text ticks → (status ≡ Status.ObjectRefused) × (text ≡ too_long_line)
 refused-long f file x object F s calm status text ticks has long memory h =
     let next = λ (others : List Token) (told : Option (List ℕ)). WeighedAt (setting s x.num x.den F) others in
@@ -121,6 +129,8 @@ read-enclosed t base bytes tokens labels b over is =
     let body : over.of.body ≡ is.body = let p = over.of.is_body in let q = is.is_body in cc in
     subst (λ e. IsEnclosed t.spec (ratio t.num t.den) e is.object b) body (subst (λ o. IsEnclosed t.spec (ratio t.num t.den) over.of.body o b) object over.enclose)
 
+-- A chance command that is done printed bounds that enclose the chance of the second file's object,
+-- one of the first class of the first file's specification.
 pub encloses : (f : Files) (file : List ℕ) (x : Fraction) (object : List ℕ) (F : ℕ) (status : Status) (text : List ℕ) (ticks : ℕ) → status ≡ Status.Done → CarriesChance f file x object F status text ticks → EnclosesChance f file x object text
 encloses f file x object F status text ticks done h =
     let d = done-specified f file (λ (r : Spec). ReadAndWeighed f object (setting r x.num x.den F)) status text ticks done h in

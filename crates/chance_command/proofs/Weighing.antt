@@ -96,6 +96,8 @@ object-ended content before after object t b a fb fa ticks result said text h p 
 pub one-carried : (f : Files) (file : List ℕ) (x : Fraction) (object : List ℕ) (F : ℕ) → AreCalm f (file ∷ object ∷ []) → IsOne (CarriesChance f file x object F)
 one-carried f file x object F calm = one-specified-founded f file (λ s. ReadAndWeighed f object (setting s x.num x.den F)) calm.0 (λ s sound within founded. one-object f s object (λ tokens labels. WeighedAt (setting s x.num x.den F) tokens) calm.1.0 sound within (λ text tokens labels is. one-based (setting s x.num x.den F) (Weighed (setting s x.num x.den F) tokens) (one-weighed (setting s x.num x.den F) tokens)))
 
+-- With calm files and no failed write, the chance command ends with the one outcome possible and
+-- its text written whole, or for want of memory.
 pub exact : (f : Files) (file : List ℕ) (x : Fraction) (object : List ℕ) (F : ℕ) (b a : Option (List ℕ)) (fb fa tb ta : ℕ) (result : Status) → EndsBy (CarriesChance f file x object F) (output b a fb fa tb ta) result → (status : Status) (text : List ℕ) (ticks : ℕ) → AreCalm f (file ∷ object ∷ []) → CarriesChance f file x object F status text ticks → status ≢ Status.OutOfMemory → ¬ (Rose fb fa) → (result ≡ Status.OutOfMemory) ⊎ ((result ≡ status) × Appends b a text)
 exact f file x object F b a fb fa tb ta result h status text ticks calm p memory fine = endings.exact (CarriesChance f file x object F) (output b a fb fa tb ta) result status text ticks (one-carried f file x object F calm) h p memory fine
 

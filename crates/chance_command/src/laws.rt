@@ -57,8 +57,8 @@ pub fn what_can_be_weighed_is_weighed()
 {}
 
 /// A file with more than 16,777,216 bytes has no other answer than the line that says so, and a
-/// text
-/// that is no canonical text of an object of the first class no other than the line of its fault.
+/// text that is no canonical text of an object of the first class no other than the line of its
+/// fault.
 pub fn what_is_no_object_is_refused()
     ensures too_long { (f : Files) (file : List ℕ) (x : Fraction) (object : List ℕ) (F : ℕ)
         (s : Spec) (calm : IsCalm f object) (status : Status) (text : List ℕ) (ticks : ℕ)
@@ -74,8 +74,7 @@ pub fn what_is_no_object_is_refused()
 {}
 
 /// What is printed of the worked chances: 1/2 for `1.Z` of `C = Z + Z` at 1/2, and 1 for the cycle
-/// of
-/// two atoms of `C = Cyc=2(Z)`.
+/// of two atoms of `C = Cyc=2(Z)`.
 pub fn worked_chances_are_printed()
     ensures second { chance_text one_half
         ≡ codes "chance lo 9223372036854775808 -64 hi 9223372036854775808 -64" ++ 10 ∷ []

@@ -52,6 +52,8 @@ pub leads-down : (x : Scaled) (fs gs : List Factor) (s t w : Scaled) → LeadsDo
 leads-down x [] gs s t w h k = subst (λ z. LeadsDown x z gs w) (sym h) k
 leads-down x (f ∷ fs) gs s t w h k = (h.0, h.1, leads-down x fs gs h.0 t w h.2 k)
 
+-- What leads up through some factors and then up through others leads up through all of them,
+-- rounded up at each step.
 pub leads-up : (x : Scaled) (fs gs : List Factor) (s t w : Scaled) → LeadsUp x s fs t → LeadsUp x t gs w → LeadsUp x s (fs ++ gs) w
 leads-up x [] gs s t w h k = subst (λ z. LeadsUp x z gs w) (sym h) k
 leads-up x (f ∷ fs) gs s t w h k = (h.0, h.1, leads-up x fs gs h.0 t w h.2 k)

@@ -22,6 +22,8 @@ exponent_at_least i j lt = elim (powers i (suc j)) [
   | Powers.more l f ↦ let z : 0 < 2 ^ suc j = pow_pos (suc j) in absurd (omega arith)
 ]
 
+-- A number from 2^63 to below 2^128, with its binary digits past the highest 64 left out, has
+-- exactly 64 binary digits.
 pub highest : (n left : ℕ) → 2 ^ 63 ≤ n → n < 2 ^ 128 → left ≡ 64 - min (count_leading_zeros 128 n) 64 → (2 ^ 63 ≤ n / 2 ^ left) × (n / 2 ^ left < 2 ^ 64)
 highest n left from below is =
     let t = leading_top 128 n (omega arith) below in

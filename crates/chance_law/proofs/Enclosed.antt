@@ -73,6 +73,8 @@ upper-quotient F x lo o c P pos h down =
 pub alone : (x : Fraction) (o : Object) (P : Object → Type 0) → P o → (os : List Object) × IsSample P os × AtMost (weight x o) (total x os)
 alone x o P h = (o ∷ [], record { distinct = (tt, tt); each = (h, tt) }, record { cross = omega arith })
 
+-- Where bounds enclose the value of a node and the upper one isn't 0, the chance bounds made from
+-- them enclose the chance of an object.
 pub enclosed : (s : Spec) (F : ℕ) (x : Fraction) (root : Bounds) (e : ℕ) (o : Object) (b : ChanceBounds) → 0 < root.hi → Below x (units F root.lo) (Belongs s e) → Above x (units F root.hi) (Belongs s e) → AreChanceBounds F x root o b → IsEnclosed s x e o b
 enclosed s F x root e o b pos down up h = record {
   lower = lower-chance F x root.hi o b.lo (Belongs s e) pos h.lower up;

@@ -12,6 +12,7 @@ use Rattle.chance_law.specs.Chance.{divided_by_units}
 use Rattle.chance_law.proofs.Multiplied.{equal-times}
 use Rattle.chance_law.proofs.Rounding.{power-sum}
 
+-- What a fraction is rounded down to, an equal fraction is rounded down to as well.
 pub down-equal : {f g : Fraction} (s : Scaled) → AreEqual f g → IsRoundedDown f s → IsRoundedDown g s
 down-equal s e h = record {
   scaled = h.scaled;
@@ -19,6 +20,7 @@ down-equal s e h = record {
   greatest = λ t n le. h.greatest t n (AtMost-trans le e.at_least);
 }
 
+-- What a fraction is rounded up to, an equal fraction is rounded up to as well.
 pub up-equal : {f g : Fraction} (s : Scaled) → AreEqual f g → IsRoundedUp f s → IsRoundedUp g s
 up-equal s e h = record {
   scaled = h.scaled;
@@ -33,6 +35,7 @@ quotient_nat n m = omega arith
 quotient_nat' : (n m : ℕ) → n * (1 * m) ≤ (n * 1) * m
 quotient_nat' n m = omega arith
 
+-- A fraction that equals n, times one part in d, equals the ratio of n to d.
 pub ratio-is : (v : Fraction) (n d : ℕ) → AreEqual v (whole n) → AreEqual (times v (ratio 1 d)) (ratio n d)
 ratio-is v n d e = equal-trans (equal-times e (equal-refl (ratio 1 d))) (record { at_most = record { cross = quotient_nat n (max d 1) }; at_least = record { cross = quotient_nat' n (max d 1) } })
 
@@ -46,6 +49,7 @@ units_nat' n p d v q m e h = rw (e, h) (omega arith)
 max-pos : (n : ℕ) → 0 < n → max n 1 ≡ n
 max-pos n h = omega arith
 
+-- Where g equals f times 2^F and v isn't 0, one part in v of g equals f divided by v units of 2^-F.
 pub units-quotient : (f g : Fraction) (F v : ℕ) → 0 < v → AreEqual g (times f (whole (2 ^ F))) → AreEqual (times g (ratio 1 v)) (divided_by_units f F v)
 units-quotient f g F v pos e =
     let p = max-pos (f.den * v) (mul-pos f.positive pos) in
@@ -71,6 +75,8 @@ power_nat m a b x y z ab xy xyz p q r e =
     let g = ap (λ n. m * n) h in
     omega arith
 
+-- Scaled numbers with the same digits, the first with an exponent greater by k, differ in value by
+-- the factor 2^k.
 pub power-exact : (s r : Scaled) (k : ℕ) → r.m ≡ s.m → rise r.e + fall s.e ≡ fall r.e + rise s.e + k → AreEqual (value r) (times (value s) (whole (2 ^ k)))
 power-exact s r k same e =
     let h = power_nat s.m (2 ^ rise r.e) (2 ^ fall s.e) (2 ^ fall r.e) (2 ^ rise s.e) (2 ^ k) (2 ^ (rise r.e + fall s.e)) (2 ^ (fall r.e + rise s.e)) (2 ^ (fall r.e + rise s.e + k)) (power-sum (rise r.e) (fall s.e)) (power-sum (fall r.e) (rise s.e)) (power-sum (fall r.e + rise s.e) k) (ap (λ n. 2 ^ n) e) in

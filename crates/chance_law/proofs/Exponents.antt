@@ -45,6 +45,8 @@ apart : (z : ℤ) → (rise z ≡ 0) ⊎ (fall z ≡ 0)
 apart (pos n) = inr refl
 apart (negsuc n) = inl refl
 
+-- The sum of x, y and a natural k is above 0 by at most k more than x and y are together, and below
+-- 0 by at most as much as they are.
 pub sum-near : (x y z : ℤ) (k : ℕ) → z ≡ (x +ℤ y) +ℤ pos k → (rise z ≤ rise x + rise y + k) × (fall z ≤ fall x + fall y)
 sum-near x y z k e =
     let a = sum-of-two x y z k e in

@@ -10,6 +10,7 @@ use Rattle.bz_laws.proofs.Fractions.{times-mono}
 use Rattle.bz_laws.proofs.Lists.{equal-refl, equal-trans, equal-sym}
 use Rattle.chance_law.specs.Factors.{Factor, over_two_to, factors, all_factors, multiplied, product_from}
 
+-- Products of equal fractions are equal.
 pub equal-times : {a b c d : Fraction} → AreEqual a b → AreEqual c d → AreEqual (times a c) (times b d)
 equal-times h k = record { at_most = times-mono h.at_most k.at_most; at_least = times-mono h.at_least k.at_least }
 

@@ -20,6 +20,8 @@ one-more-down x s t u (suc (suc k)) two h r =
     let Q : ℕ → Type 0 = λ n. LeadsDown x s (over_two_to n) u in
     subst Q (sym after) (leads-down x (over_two_to (suc k)) (Factor.Over (suc (suc k)) ∷ []) s t u (subst P before h) (u, r, refl))
 
+-- Where dividing by each of 2 to d - 1, rounded up, leads from s to t, and t / d is rounded up to
+-- u, dividing by each of 2 to d leads to u.
 pub one-more-up : (x s t u : Scaled) (d : ℕ) → 2 ≤ d → LeadsUp x s (over_two_to (d - 1)) t → IsRoundedUp (times (value t) (ratio 1 d)) u → LeadsUp x s (over_two_to (d + 1 - 1)) u
 one-more-up x s t u zero two h r = absurd (omega arith)
 one-more-up x s t u (suc zero) two h r = absurd (omega arith)

@@ -23,6 +23,7 @@ least-m s e = record { from_2_63 = omega arith; below_2_64 = omega arith }
 abbrev power : ℕ → Scaled
 power i = record { m = 9223372036854775808; e = negsuc i }
 
+-- With x one half and C = Z + Z, the chance of the object 1.Z is bounded by one half on both sides.
 pub second : AreChanceBounds 48 half exactly_one second_atom one_half
 second = record {
   lower = record {
@@ -45,6 +46,8 @@ second = record {
   };
 }
 
+-- With x one half and C = Cyc=2(Z), the chance of the cycle of two atoms is bounded by 1 on both
+-- sides.
 pub cycle : AreChanceBounds 48 half one_eighth pair certain
 cycle = record {
   lower = record {

@@ -45,8 +45,7 @@ impl Weights {
     }
 
     /// The weights after a visit: an atom multiplies by x, a set of k parts divides by 2 to k, and
-    /// a
-    /// cycle of k parts by k.
+    /// a cycle of k parts by k.
     pub(crate) fn after(self, visit: Visit, x: Weights) -> Weights
         requires within { AreWithin (2 ^ 50) self }
         requires x_within { AreWithin 256 x }

@@ -53,6 +53,8 @@ from-over o cell (Some j) e = elim (cases_Bool (is_reached o cell j)) [
   | inr fails ↦ over-over o cell o.room refl (sym (ap (λ b. cond b (Some (Choice.Take j)) (over_from o cell o.room)) fails) ∙ e)
 ]
 
+-- A cell decides that every option is above the room only where there is a room and no number of
+-- the cell lies before its end.
 pub choice-over : (o : Options) (cell : Cell) → choice_of o cell ≡ Some Choice.Over → IsOverRoom o cell
 choice-over o cell e = from-over o cell (least_option o cell) e
 

@@ -12,6 +12,7 @@ use Rattle.choice_draw.specs.Draw.{Bit, Draw, bit_or_end, bit_of, bit_number, ha
 use Rattle.choice_draw.specs.LeastCell.{front_of, IsLeastCell, DrawsLeast}
 use Rattle.choice_draw.proofs.DrawsOn.{whole_cell}
 
+-- The list of the b lowest bits of a number has length b.
 pub bits-length : (b k : ℕ) → length (bits_of b k) ≡ b
 bits-length zero k = refl
 bits-length (suc b) k = ap suc (bits-length b k)
@@ -58,6 +59,7 @@ front-all cell j e =
     let none : cell.b - j ≡ 0 = omega arith in
     ap (λ k. record { k = k; b = j }) (ap (λ m. cell.k / 2 ^ m) none ∙ div-one cell.k) ∙ ap (λ b. record { k = cell.k; b = b }) e
 
+-- If a number k is below 2^b, then 2k plus a bit is below 2^(b+1).
 pub half-below : (k b : ℕ) (v : Bool) → k < 2 ^ b → 2 * k + bit_number v < 2 ^ suc b
 half-below k b v h = let twice : 2 ^ suc b ≡ 2 * 2 ^ b = pow-succ' 2 b in let small = number-small v in omega (arith, twice, small)
 
@@ -66,6 +68,8 @@ given-is : (o : Option Bool) (v : Bool) → bit_or_end o ≡ Bit.Given v → o �
 given-is None v e = absurd (cc)
 given-is (Some w) v e = cc
 
+-- Where a tape gives a bit at a place, with a shelf that may fail or not, the tape has this bit
+-- there.
 pub given-told : (bits : ℕ → Option Bool) (fault : Option ℕ) (place : ℕ) (v : Bool) → bit_of bits fault place ≡ Bit.Given v → bits place ≡ Some v
 given-told bits None place v e = given-is (bits place) v e
 given-told bits (Some fault) place v e = go (nat_lt place fault) e
@@ -135,5 +139,7 @@ module _ {A : Type 0} (decide : Cell → Option A) (bits : ℕ → Option Bool) 
   unfolding Rest
   draw-least e = from-undecided 60 whole_cell start (record { room = refl; below = omega arith; up_to = omega arith; spells = tt; none = λ b some few. absurd (omega arith) }) e
 
+-- Wherever a draw over a tape decides an answer, its cell is that of the least number of bits that
+-- decides.
 pub draws_least : {A : Type 0} (decide : Cell → Option A) → DrawsLeast decide
 draws_least decide bits fault place answer cell e = draw-least decide bits fault place answer cell e

@@ -89,6 +89,8 @@ module _ {A : Type 0} (decide : Cell → Option A) (bits : ℕ → Option Bool) 
 none-above : (k w : ℕ) → k < w → 0 ≡ k / w
 none-above k w below = sym (ap (λ n. n / w) (let e : k ≡ 0 * w + k = omega arith in e) ∙ div-mul-add 0 w k below)
 
+-- A cell of the least number of bits that decides is drawn with its answer, if the shelf doesn't
+-- fail within its bits.
 pub least_is_drawn : {A : Type 0} (decide : Cell → Option A) → LeastIsDrawn decide
 least_is_drawn decide bits fault place answer cell least later =
     let c = least.is_cell in

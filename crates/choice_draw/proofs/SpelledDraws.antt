@@ -58,5 +58,6 @@ module _ {A : Type 0} (decide : Cell → Option A) (bits : ℕ → Option Bool) 
   unfolding Rest
   draw-spells = from-spells 60 whole_cell start (record { room = refl; below = omega arith; up_to = omega arith; spells = tt })
 
+-- Every draw over a tape used the bits that its cell spells, wherever the shelf may fail.
 pub draws_spell : {A : Type 0} (decide : Cell → Option A) → DrawsSpell decide
 draws_spell decide bits fault start = draw-spells decide bits fault start

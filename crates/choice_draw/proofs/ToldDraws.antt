@@ -14,6 +14,7 @@ pub on_both : {X : Type 0} (o : Option X) {P Q R : X → Type 0} → ((x : X) �
 on_both None f p q = tt
 on_both (Some x) f p q = f x p q
 
+-- What holds of every value holds of an optional value, where it is there.
 pub on_any : {X : Type 0} (o : Option X) {P : X → Type 0} → ((x : X) → P x) → IfSome o P
 on_any None f = tt
 on_any (Some x) f = f x

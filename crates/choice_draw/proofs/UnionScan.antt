@@ -16,6 +16,8 @@ use Rattle.choice_draw.proofs.Choices.{choice-is_taken, choice-unreached}
 abbrev pub union_choice_at : (table : (level node : ℕ) → Bounds) → (level e : ℕ) → (parts : List ℕ) → Cell → Option Choice
 union_choice_at table level e parts cell = choice_of (union_options (table level) e parts) cell
 
+-- An option that is kept only where a test holds is taken where it holds, and where it fails there
+-- is no choice.
 pub taken-then_some : (b : Bool) (i : ℕ) → taken (then_some b i) ≡ cond b (Some (Choice.Take i)) None
 taken-then_some true i = refl
 taken-then_some false i = refl

@@ -5,8 +5,8 @@ ghost use Rattle.choice_draw.specs.Decision.{Choice};
 ghost use Rattle.choice_draw.specs.LeastCell.{DrawsLeast, LeastIsDrawn, DrawsSpell};
 
 /// The cell of an answer is that of the least number of bits that decides: it spells the tape's
-/// bits
-/// from the draw's start on and decides the answer, and the cell of fewer of its bits decides none.
+/// bits from the draw's start on and decides the answer, and the cell of fewer of its bits decides
+/// none.
 pub fn a_draw_takes_the_least_cell()
     ensures wholes { (decide : Cell → Option ℕ) → DrawsLeast decide }
     ensures choices { (decide : Cell → Option Choice) → DrawsLeast decide }

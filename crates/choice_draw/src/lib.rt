@@ -2,9 +2,8 @@
 //!
 //! A draw takes bits until its cell decides (`specs/Draw.antt`, `specs/Answer.antt`). What a cell
 //! decides is a function of a table of bounds (`specs/Decision.antt`), and it is the ideal option,
-//! or
-//! the whole number, of every number of the cell (`specs/IdealOfCell.antt`, `specs/Whole.antt`). No
-//! clause says that a cell is ever decided, nor what a tape's bits are where its shelf doesn't
+//! or the whole number, of every number of the cell (`specs/IdealOfCell.antt`, `specs/Whole.antt`).
+//! No clause says that a cell is ever decided, nor what a tape's bits are where its shelf doesn't
 //! tell.
 #![tactic(auto)]
 

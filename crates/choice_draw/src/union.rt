@@ -31,8 +31,7 @@ use std::sync::ledger::Ledger;
 /// number that decides. The level of b bits, one for each ten bits begun, is raised before they are
 /// looked at, and no other. The answer is fixed by the bits that were given and the oracle's table,
 /// whether the shelf tells its content or not. `ReadFault` comes exactly where the count of faults
-/// of
-/// the tape's name rose, by one. Takes no memory.
+/// of the tape's name rose, by one. Takes no memory.
 pub fn draw_union<const F: u32, O: Oracle<F>, S: Shelf, L: Ledger>(
     system: &System,
     node: ExprId,

@@ -15,11 +15,9 @@ use bz_outside::shelf::Shelf;
 /// Draws a whole number below `m`: takes bits until their cell decides one.
 ///
 /// The number is `floor(u * m)` for every number u of its cell. At most 60 bits are taken, the
-/// least
-/// number that decides. The answer is fixed by the bits that were given, whether the shelf tells
-/// its
-/// content or not. `ReadFault` comes exactly where the count of faults of the tape's name rose, by
-/// one. Takes no memory.
+/// least number that decides. The answer is fixed by the bits that were given, whether the shelf
+/// tells its content or not. `ReadFault` comes exactly where the count of faults of the tape's name
+/// rose, by one. Takes no memory.
 pub fn draw_whole<S: Shelf>(m: u64, tape: &mut Tape, shelf: &mut S) -> Drawn
     requires at_least_two { 2 ≤ m }
     requires within_limit { m ≤ 1000000 }

@@ -1,4 +1,5 @@
 pub mod NameLists
+pub mod OneLimit
 pub mod Order
 pub mod Results
 pub mod Depths

@@ -23,6 +23,8 @@ take-at_suc [] i x at = absurd (omega (arith, slice_get_within [] i x at))
 take-at_suc (y ∷ ys) zero x at = ap (λ z. z ∷ []) (same_Some y x at)
 take-at_suc (y ∷ ys) (suc i) x at = ap (λ zs. y ∷ zs) (take-at_suc ys i x at)
 
+-- Where a list has an element at place i, its first i + 1 elements are the first i and then that
+-- one.
 pub take-at : {X : Type 0} (xs : List X) (i : ℕ) (x : X) → slice_get xs i ≡ Some x → take (i + 1) xs ≡ take i xs ++ x ∷ []
 take-at xs i x at = rw add-one (take-at_suc xs i x at)
 

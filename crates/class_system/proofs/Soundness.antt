@@ -50,6 +50,7 @@ class_in_range s sound e c at = sound.references.at e (Node.Class c) at
 pub union_parts : (s : Spec) → IsSound s → (e : ℕ) (parts : List ℕ) → node_at s e ≡ Some (Node.Union parts) → 2 ≤ length parts
 union_parts s sound e parts at = sound.parts.at e (Node.Union parts) at
 
+-- In a sound specification, a product has two parts or more.
 pub product_parts : (s : Spec) → IsSound s → (e : ℕ) (parts : List ℕ) → node_at s e ≡ Some (Node.Product parts) → 2 ≤ length parts
 product_parts s sound e parts at = sound.parts.at e (Node.Product parts) at
 
@@ -93,9 +94,12 @@ usable low r small (exactly k bound same) = rw same (record { low_within = omega
 pub seq_range : (s : Spec) → IsSound s → (e part : ℕ) (r : Range) → node_at s e ≡ Some (Node.Seq part) → range_at s e ≡ Some r → IsUsable 0 r
 seq_range s sound e part r at at_r = usable 0 r (omega arith) (sound.ranges.at e (Node.Seq part) r at at_r)
 
+-- In a sound specification, the range of a set has a usable low and high, and its low may be 0.
 pub set_range : (s : Spec) → IsSound s → (e part : ℕ) (r : Range) → node_at s e ≡ Some (Node.Set part) → range_at s e ≡ Some r → IsUsable 0 r
 set_range s sound e part r at at_r = usable 0 r (omega arith) (sound.ranges.at e (Node.Set part) r at at_r)
 
+-- In a sound specification, the range of a cycle has a usable low and high, and the low is at least
+-- 1.
 pub cycle_range : (s : Spec) → IsSound s → (e part : ℕ) (r : Range) → node_at s e ≡ Some (Node.Cyc part) → range_at s e ≡ Some r → IsUsable 1 r
 cycle_range s sound e part r at at_r = usable 1 r (omega arith) (sound.ranges.at e (Node.Cyc part) r at at_r)
 
@@ -113,6 +117,8 @@ pub record BodyListed (s : Spec) (items : List ExprId) (c : ℕ) (d : ExprId) : 
   pub is_body : body_of s c ≡ Some (get_or items c d).0
   pub in_range : (get_or items c d).0 < length s.nodes
 
+-- In a sound specification, whose bodies a list of numbers tells, the body of each class stands in
+-- that list at the class's place and is one of the nodes.
 pub body_listed : (s : Spec) → IsSound s → (items : List ExprId) (c : ℕ) (d : ExprId) → map number items ≡ s.bodies → c < length s.names → BodyListed s items c d
 body_listed s sound items c d same in_range =
     let within : c < length items = omega (arith, sound.bodies, ap length same, length-map items number) in

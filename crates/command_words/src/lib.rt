@@ -2,12 +2,10 @@
 //!
 //! A command's words are its name, and after it positional words, options with their values and the
 //! word `--fast`, in any order (`specs/Words.antt`). `read_words` answers the command that the
-//! words
-//! stand for, whose numbers are those given or their defaults (`specs/Commands.antt`). Words of
-//! another form are no command. In a command, the first value in a fixed order that isn't accepted
-//! is
-//! refused (`specs/Values.antt`). Words stand for one command at most, and for none where they are
-//! refused (`laws`). No clause says when there is memory enough.
+//! words stand for, whose numbers are those given or their defaults (`specs/Commands.antt`). Words
+//! of another form are no command. In a command, the first value in a fixed order that isn't
+//! accepted is refused (`specs/Values.antt`). Words stand for one command at most, and for none
+//! where they are refused (`laws`). No clause says when there is memory enough.
 #![tactic(auto)]
 
 mod arguments;

@@ -17,8 +17,7 @@ use bz_model::number::read_number;
 use size_window::limits::Limits;
 
 /// The values that a command is given, or their defaults. The x is None where the command has none;
-/// a seed,
-/// an n and a rank that aren't given are 0.
+/// a seed, an n and a rank that aren't given are 0.
 #[derive(Clone, Copy, Debug, PartialEq, Eq)]
 pub struct Values {
     pub x: Option<Fraction>,

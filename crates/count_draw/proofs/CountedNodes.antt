@@ -19,14 +19,17 @@ pub record IsCountedAs (s : Spec) (e part : ℕ) (kind : Kind) (r : Range) : Typ
   pub range : range_at s e ≡ Some r
   pub suits : SuitsRange kind r
 
+-- The range of a sequence, set or cycle of a sound specification suits its construction.
 pub suits : (s : Spec) (e part : ℕ) (kind : Kind) (r : Range) → IsSound s → node_at s e ≡ Some (counted_node kind part) → range_at s e ≡ Some r → SuitsRange kind r
 suits s e part Kind.Seq r sound node range = let u = seq_range s sound e part r node range in record { first = u.from_plain; few = u.low_few; within = u.low_within }
 suits s e part Kind.Set r sound node range = let u = set_range s sound e part r node range in record { first = u.from_plain; few = u.low_few; within = u.low_within }
 suits s e part Kind.Cyc r sound node range = let u = cycle_range s sound e part r node range in record { first = u.from_plain; few = u.low_few; within = u.low_within }
 
+-- The number of a sequence, set or cycle node is below the number of nodes.
 pub node_inside : (s : Spec) (e part : ℕ) (kind : Kind) → node_at s e ≡ Some (counted_node kind part) → e < length s.nodes
 node_inside s e part kind node = within s.nodes e (counted_node kind part) node
 
+-- The part of a sequence, set or cycle of a sound specification is the number of a node.
 pub part_inside : (s : Spec) (e part : ℕ) (kind : Kind) → IsSound s → node_at s e ≡ Some (counted_node kind part) → part < length s.nodes
 part_inside s e part Kind.Seq sound node = let inside = node_inside s e part Kind.Seq node in let before = part_below s sound e part (Node.Seq part) node (record { place = 0; is_there = refl }) in omega arith
 part_inside s e part Kind.Set sound node = let inside = node_inside s e part Kind.Set node in let before = part_below s sound e part (Node.Set part) node (record { place = 0; is_there = refl }) in omega arith
@@ -38,6 +41,8 @@ form_of Kind.Seq = Object.SeqOf
 form_of Kind.Set = Object.SetOf
 form_of Kind.Cyc = Object.CycOf
 
+-- The node of a counted construction with a part is counted over this part, and its objects have
+-- the construction's form.
 pub is_counted : (kind : Kind) (part : ℕ) → IsCounted (counted_node kind part) part (form_of kind)
 is_counted Kind.Seq part = (refl, refl)
 is_counted Kind.Set part = (refl, refl)

@@ -75,6 +75,8 @@ pub answer-take : (P : ℕ → Cell → Type 0) (c : CountChoice) (cell : Cell) 
 answer-take P (Take i) cell h = h
 answer-take P Over cell h = tt
 
+-- Where a fact of the cell holds if the choice passes over every number up to the room, it holds if
+-- the choice's answer does.
 pub answer-over : (P : Cell → Type 0) (c : CountChoice) (cell : Cell) → decision.OnOver (Some c) (P cell) → answers.OnOver (answer_of c cell) P
 answer-over P (Take i) cell h = tt
 answer-over P Over cell h = h

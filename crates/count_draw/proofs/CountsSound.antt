@@ -34,6 +34,7 @@ pub within-top : (high : Option ℕ) (low room i : ℕ) → low ≤ i → i < lo
 within-top None low room i from below = tt
 within-top (Some h) low room i from below = omega arith
 
+-- Each number of parts from the low up to the lesser of the high and the room is at most the room.
 pub up_to_room : (high : Option ℕ) (low room i : ℕ) → low ≤ i → i < low + (suc (top_option high room) - low) → i ≤ room
 up_to_room None low room i from below = omega arith
 up_to_room (Some h) low room i from below = omega arith

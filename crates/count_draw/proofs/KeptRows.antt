@@ -30,5 +30,6 @@ upper_roomless f t row h = record {
 pub lower-kept : (f bits : ℕ) (t filling : Filling) (row : LowerRow) → bits ≡ f → filling ≡ roomless t → IsLowerRow f t row → IsLowerRow bits filling row
 lower-kept f bits t filling row same_bits same h = subst (λ b. IsLowerRow b filling row) (sym same_bits) (subst (λ (s : Filling). IsLowerRow f s row) (sym same) (lower_roomless f t row h))
 
+-- A row of upper values for a filling is one for the filling with its room left out.
 pub upper-kept : (f bits : ℕ) (t filling : Filling) (row : UpperRow) → bits ≡ f → filling ≡ roomless t → IsUpperRow f t row → IsUpperRow bits filling row
 upper-kept f bits t filling row same_bits same h = subst (λ b. IsUpperRow b filling row) (sym same_bits) (subst (λ (s : Filling). IsUpperRow f s row) (sym same) (upper_roomless f t row h))

@@ -158,5 +158,6 @@ up_by kind f a low i cap (suc d) =
     let same : suc (i + d) ≡ i + suc d = omega arith in
     subst (λ j. part_up kind f a low i cap ≤ part_up kind f a low j cap) same (omega arith)
 
+-- The upper value from low parts to i parts, with a cap, doesn't decrease as i grows.
 pub part_up-later : (kind : Kind) (f a low i j cap : ℕ) → i ≤ j → part_up kind f a low i cap ≤ part_up kind f a low j cap
 part_up-later kind f a low i j cap h = let same : i + (j - i) ≡ j = omega arith in subst (λ k. part_up kind f a low i cap ≤ part_up kind f a low k cap) same (up_by kind f a low i cap (j - i))

@@ -24,9 +24,11 @@ term-small side Kind.Set j c w h = h
 term-small side Kind.Cyc zero c w h = omega arith
 term-small side Kind.Cyc (suc j) c w h = quotient-le side c (suc j) w (omega arith) (part_nat c j w h)
 
+-- For f at most 56, 2^f is at most 2^63.
 pub one-small : (f : ℕ) → f ≤ 56 → 2 ^ f ≤ 2 ^ 63
 one-small f h = let less : 2 ^ f ≤ 2 ^ 56 = pow-le-pow_right (omega arith) h in omega arith
 
+-- A list of n terms from a term on has length n.
 pub length-terms : (side : Side) (kind : Kind) (f a n j c : ℕ) → length (terms_from side kind f a n j c) ≡ n
 length-terms side kind f a zero j c = refl
 length-terms side kind f a (suc n) j c = ap suc (length-terms side kind f a n (suc j) (carried_on side kind f a j c))

@@ -34,12 +34,10 @@ use std::sync::ledger::Ledger;
 /// Draws the number of parts of a sequence, set or cycle: takes bits until their cell decides.
 ///
 /// The number is the ideal option of every number of its cell, and `Over` comes only where no
-/// option
-/// up to the room is ideal for any number of it. At most 60 bits are taken. The level of b bits,
-/// one
-/// for each ten bits begun, is raised before they are looked at, and no other. Where the shelf
-/// tells
-/// its content, the answer is fixed by the tape's bits and the oracle's table. Takes no memory.
+/// option up to the room is ideal for any number of it. At most 60 bits are taken. The level of b
+/// bits, one for each ten bits begun, is raised before they are looked at, and no other. Where the
+/// shelf tells its content, the answer is fixed by the tape's bits and the oracle's table. Takes no
+/// memory.
 pub fn draw_count<const F: u32, O: Oracle<F>, S: Shelf, L: Ledger>(
     system: &System,
     node: ExprId,
@@ -82,8 +80,7 @@ pub fn draw_count<const F: u32, O: Oracle<F>, S: Shelf, L: Ledger>(
 }
 
 /// Draws the number of parts of a sequence, set or cycle, as `draw_count` does, by kept values:
-/// those
-/// that a draw comes past are kept for later ones. Takes no memory.
+/// those that a draw comes past are kept for later ones. Takes no memory.
 pub fn draw_count_kept<const F: u32, O: Oracle<F>, S: Shelf, L: Ledger>(
     system: &System,
     node: ExprId,

@@ -17,8 +17,7 @@ use series_bounds::{cyc_part_hi, cyc_part_lo, seq_part_hi, seq_part_lo, set_part
 use std::marker::Model;
 
 /// The lower and upper values, in units of `2^-F`, of the objects with at most i parts, for each i
-/// up
-/// to a room: each is summed anew.
+/// up to a room: each is summed anew.
 #[derive(Debug, Drop)]
 pub(crate) struct CountSums<const F: u32> {
     kind: CountKind,
@@ -297,8 +296,7 @@ impl<const F: u32> CountSums<F> {
     }
 
     /// Whether the upper value of option i is at most `u`: a pass over the terms from a run on, up
-    /// to
-    /// one at which it isn't.
+    /// to one at which it isn't.
     pub(crate) fn stays_within(&self, u: u64, start: Run, i: u64) -> bool
         requires fraction_bits { IsFractionBits F }
         requires run { IsRun Side.Up F self.now start.place start.power start.sum }

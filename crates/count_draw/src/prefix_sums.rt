@@ -79,8 +79,7 @@ impl LowerRow {
     }
 
     /// Keeps further values, up to one that is at least `v`, that of the room, the last place, or
-    /// one
-    /// that all later ones are equal to.
+    /// one that all later ones are equal to.
     #[inline]
     fn grow_to<const F: u32>(&mut self, sums: &CountSums<F>, v: u64)
         requires fraction_bits { IsFractionBits F }

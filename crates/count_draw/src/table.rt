@@ -14,8 +14,7 @@ use bz_model::cell::{Bounds, Cell};
 use std::marker::Model;
 
 /// The lower and upper values, in units of `2^-F`, of the objects with at most i parts, for each i
-/// up
-/// to a room.
+/// up to a room.
 ///
 /// Those up to 255 parts are kept, as far as the numbers that they are found by have 63 bits, which
 /// they have where the bounds of the part are at most 1; others are summed where they are asked.
@@ -93,8 +92,7 @@ impl<const F: u32> CountTable<F> {
     /// `None` exactly where there is none. Takes no memory.
     ///
     /// Among the numbers whose values are kept it is found by halves, beyond them by a pass over
-    /// the
-    /// terms.
+    /// the terms.
     pub fn least(&self, cell: Cell) -> Option<u64>
         requires fraction_bits { IsFractionBits F }
         requires cell { IsCell cell.k cell.b }

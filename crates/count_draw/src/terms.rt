@@ -19,8 +19,7 @@ use fixed_enclosure::narrow::power_of_two;
 const MOST: u128 = 1 << 63;
 
 /// The number carried to term `place + 1` from the one carried to term `place`, rounded down; it
-/// may
-/// be `None` where it is above 2^63, for a set before it is divided by `place + 1`.
+/// may be `None` where it is above 2^63, for a set before it is divided by `place + 1`.
 #[inline]
 pub(crate) fn carry_down<const F: u32>(kind: CountKind, a: u64, place: u64, c: u64) -> Option<u64>
     requires fraction_bits { IsFractionBits F }

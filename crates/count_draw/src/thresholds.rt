@@ -18,8 +18,7 @@ pub(crate) fn end_of(cell: Cell, hi: u64) -> u64
 }
 
 /// The greatest upper value of an option that ends at or before every number of the cell, `lo`
-/// being
-/// a lower bound of the node.
+/// being a lower bound of the node.
 #[inline]
 pub(crate) fn begin_of(cell: Cell, lo: u64) -> u64
     requires { IsCell cell.k cell.b }

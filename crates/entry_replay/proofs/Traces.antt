@@ -46,6 +46,8 @@ module _ (s : Spec) (F : ℕ) (table : (level node : ℕ) → Bounds) (greatest 
   all-made [] h = tt
   all-made (e ∷ es) h = (record { redrawn = λ k by. alone k greatest e ((h k by).0.1) }, all-made es (λ k by. (h k by).1))
 
+-- In the trace of a drawing, the tokens and labels of each kept entry are made of the entry's own
+-- cells.
 pub trace-makes : (s : Spec) (x : Fraction) (F : ℕ) (table : (level node : ℕ) → Bounds) (limits : Limits) (told : Option (ℕ → Option Bool)) (turns most : ℕ) (c : Course) → IsTrace s x F table limits told turns most c → AllByRecursion (λ e. AreMadeOf s F table limits.max e.cells e.tokens e.labels) c.entries
 trace-makes s x F table limits told turns most c t =
     all-made s F table limits.max c.entries (λ k by.

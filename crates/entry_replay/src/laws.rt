@@ -14,8 +14,7 @@ ghost use Rattle.size_window.specs.Trace.{IsTrace};
 ghost use Rattle.entry_replay.specs.Replay.{AreMadeOf};
 
 /// Cells make at most one object with its labels: the tokens and labels that are drawn from the
-/// bits
-/// that they spell are the same however they are drawn.
+/// bits that they spell are the same however they are drawn.
 pub fn cells_make_one_object()
     ensures { (s : Spec) (F : ℕ) (table : (level node : ℕ)
         → Bounds) (greatest : ℕ) (cells : List Cell)
@@ -26,8 +25,7 @@ pub fn cells_make_one_object()
 {}
 
 /// Each entry of a drawing's trace is made of its own cells: whatever its tape and its shelf, the
-/// bits
-/// that the entry's cells spell make its tokens and labels again, with exactly these cells.
+/// bits that the entry's cells spell make its tokens and labels again, with exactly these cells.
 pub fn a_trace_makes_its_entries()
     ensures { (s : Spec) (x : Fraction) (F : ℕ) (table : (level node : ℕ)
         → Bounds) (limits : Limits)

@@ -102,8 +102,7 @@ pub fn replay<const F: u32, O: Oracle<F>, L: Ledger>(
 }
 
 /// Labels a shape that was made with its own cells, where the cells are these followed by those of
-/// its
-/// labels.
+/// its labels.
 fn label_again(
     alloc: Global,
     mode: Mode,

@@ -15,6 +15,7 @@ use Rattle.fast_lower.specs.Contraction.{one_unit_off}
 use Rattle.fast_lower.specs.FastChecks.{IsFirst, IsAboveAt, ArePositive, IsBelowUpper, IsLowVector, IsNotPreFixed, IsNotContracting, PassesAll}
 use Rattle.fast_lower.proofs.Theorem.{contracted-below-at}
 
+-- For a sound specification, there are as many lower values as nodes.
 pub length-values_down : (t : Setting) → IsSound t.spec → (classes : List ℕ) → length (values_down t classes) ≡ length t.spec.nodes
 length-values_down t sound classes = length-node_results (value_down t classes) [] (ranged_nodes t.spec) ∙ omega (arith, length-zip t.spec.nodes t.spec.ranges sound.ranges.lengths)
 

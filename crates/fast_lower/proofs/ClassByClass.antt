@@ -24,6 +24,8 @@ pub record IsSlopeBelow (slopes : List (Option ℕ)) (body weight : ℕ) : Type 
   pub is_there : value_at slopes body ≡ Some slope
   pub less : slope < weight
 
+-- If each body's slope, list along list, is there and less than its class's weight, then so it is
+-- at the body of each class c.
 pub slope-below : (slopes : List (Option ℕ)) (bodies weights : List ℕ) → AllZip IsLess (map (value_at slopes) bodies) weights → (c body : ℕ) → slice_get bodies c ≡ Some body → IsSlopeBelow slopes body (slice_index weights c)
 slope-below slopes [] weights each c body at = absurd (omega (arith, slice_get_within [] c body at))
 slope-below slopes (b ∷ bodies) [] each c body at = absurd each

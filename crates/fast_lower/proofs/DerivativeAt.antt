@@ -28,6 +28,8 @@ derivative-whole t values d all k (Node.Seq part) r below = ap (counted_derivati
 derivative-whole t values d all k (Node.Set part) r below = ap (counted_derivative Kind.Set t.bits r (value_at values part)) (front-at all k part None below)
 derivative-whole t values d all k (Node.Cyc part) r below = ap (counted_derivative Kind.Cyc t.bits r (value_at values part)) (front-at all k part None below)
 
+-- For a sound specification, the derivative of node e in the list of all derivatives is the one
+-- that its rule gives from that whole list.
 pub derivative-at : (t : Setting) (values : List (Option ℕ)) (d : List ℕ) → IsSound t.spec → (e : ℕ) (n : Node) (r : Range) → node_at t.spec e ≡ Some n → range_at t.spec e ≡ Some r → value_at (derivatives_up t values d) e ≡ derivative_up t values d (derivatives_up t values d) n r
 derivative-at t values d sound e n r at_n at_r =
     let all = derivatives_up t values d in

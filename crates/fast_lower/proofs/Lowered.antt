@@ -19,6 +19,8 @@ split (u ∷ upper) [] f c within same = absurd (omega arith)
 split (u ∷ upper) (w ∷ weights) f zero within same = refl
 split (u ∷ upper) (w ∷ weights) f (suc c) within same = split upper weights f c (omega arith) (omega arith)
 
+-- Entries of a lowered vector up to c, with upper's entry at c less f times its weight (0 if
+-- negative) put at the end, are its entries up to c + 1.
 pub lowered-more : (upper weights : List ℕ) (f c v : ℕ) (low more : List ℕ) → c < length upper → length weights ≡ length upper → low ++ lowered (drop c upper) (drop c weights) f ≡ lowered upper weights f → v ≡ slice_index upper c - f * slice_index weights c → more ≡ low ++ v ∷ [] → more ++ lowered (drop (c + 1) upper) (drop (c + 1) weights) f ≡ lowered upper weights f
 lowered-more upper weights f c v low more within same so_far is pushed =
     ap (λ (k : ℕ). more ++ lowered (drop k upper) (drop k weights) f) (add-one c)
@@ -40,5 +42,7 @@ none-left (u ∷ upper) [] f (suc c) all = gone (drop c upper)
     gone (u ∷ us) = refl
 none-left (u ∷ upper) (w ∷ weights) f (suc c) all = none-left upper weights f c (omega arith)
 
+-- If entries up to c make the lowered vector together with the lowered rest, and c is past the end,
+-- they are the whole lowered vector.
 pub lowered-all : (upper weights : List ℕ) (f c : ℕ) (low : List ℕ) → length upper ≤ c → low ++ lowered (drop c upper) (drop c weights) f ≡ lowered upper weights f → low ≡ lowered upper weights f
 lowered-all upper weights f c low all so_far = sym (append-nil low) ∙ ap (λ (vs : List ℕ). low ++ vs) (sym (none-left upper weights f c all)) ∙ so_far

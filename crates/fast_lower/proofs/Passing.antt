@@ -110,10 +110,13 @@ pub mapped-none : {V W : Type 0} (f : V → W) (o : Option V) → None ≡ optio
 mapped-none f None is = refl
 mapped-none f (Some v) is = absurd (cc)
 
+-- An operation on an optional value that is missing gives none.
 pub mapped-none' : {V W : Type 0} (f : V → W) (o : Option V) → o ≡ None → None ≡ option_map f o
 mapped-none' f None is = refl
 mapped-none' f (Some v) is = absurd (cc)
 
+-- If g has no value below k and has one at k, where k < n, its first value below n is the one at k,
+-- also after an operation f.
 pub mapped-first : {V : Type 0} {W : Type 0} (f : V → W) (g : ℕ → Option V) (k n : ℕ) (w : W) → first_below g k ≡ None → Some w ≡ option_map f (g k) → k < n → Some w ≡ option_map f (first_below g n)
 mapped-first {V = V} f g k n w so_far is below = go (g k) refl is
   where

@@ -7,10 +7,12 @@ use Rattle.newton_upper.proofs.FixedTest.{unfixed}
 use Rattle.rounded_map.proofs.FixedTests.{length-fixed}
 use Rattle.fast_lower.specs.FastVector.{swept_up}
 
+-- After no upper sweeps from a base the vector is the base itself.
 pub swept-none : (t : Setting) (v : List ℕ) → v ≡ swept_up t v 0
 unfolding swept_up
 swept-none t v = refl
 
+-- One more upper sweep of the vector after n upper sweeps from a base gives the one after n + 1.
 pub swept-more : (t : Setting) (v now next : List ℕ) (n m : ℕ) → m ≡ n + 1 → now ≡ swept_up t v n → next ≡ sweep_up t now → next ≡ swept_up t v m
 unfolding swept_up
 swept-more t v now next n m one so_far is = is ∙ ap (sweep_up t) so_far ∙ ap (λ (k : ℕ). swept_up t v k) (sym (one ∙ add-one n))

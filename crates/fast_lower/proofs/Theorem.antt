@@ -71,6 +71,8 @@ module _ (s : Spec) (x : Fraction) (F : ℕ) (upper low weights : List ℕ) (sou
 at_least_one : (d : ℕ) → 1 ≤ d → d ≡ max d 1
 at_least_one d h = omega arith
 
+-- A pre-fixed vector at most a post-fixed one, with contracting weights there and a sound
+-- specification, is below the classes' totals once a unit is taken off.
 pub contracted-below-at : (s : Spec) (num den F : ℕ) (upper low weights : List ℕ) → IsSound s → 1 ≤ den → IsPostFixed (setting s num den F) upper → AreAtMost low upper → IsPreFixed (setting s num den F) low → IsContracting (setting s num den F) upper weights → AreBelow s (ratio num den) F (one_unit_off low)
 contracted-below-at s num den F upper low weights sound positive fixed most pre_fixed contracting =
     let same = at_least_one den positive in

@@ -11,6 +11,7 @@ if_fits-fits n v e = let g = guarded (fits n) (Some n) e in let h = leb-true n g
 pub saturated-fits : (n : ℕ) → saturated n ≤ greatest
 saturated-fits n = min-le_right n greatest
 
+-- With fewer than 64 fraction bits, the lower value of 1 / (1 - a) has at most 64 bits.
 pub seq_down-fits : (f a : ℕ) → f < 64 → seq_down f a ≤ greatest
 seq_down-fits f zero h = let below : 2 ^ f < 2 ^ 64 = pow_below f 64 h in omega arith
 seq_down-fits f (suc a) h = elim (ltb (suc a) (2 ^ f)) as (λ t. cond t (saturated (2 ^ (2 * f) / (2 ^ f - suc a) - 1)) greatest ≤ greatest) [ true ↦ saturated-fits (2 ^ (2 * f) / (2 ^ f - suc a) - 1) | false ↦ le_refl greatest ]

@@ -9,10 +9,13 @@ use Rattle.fixed_enclosure.specs.UpperValues.{IsNoGreater}
 use Rattle.fixed_enclosure.specs.Rounded.{greatest, if_fits, quotient_up, of_both, add_up, mul_up, seq_up}
 use Rattle.fixed_enclosure.proofs.Quotients.{quotient_up-monotone, if_fits-within, if_fits-past}
 
+-- An optional number is no greater than itself.
 pub no_greater_refl : (u : Option ℕ) → IsNoGreater u u
 no_greater_refl None = tt
 no_greater_refl (Some u) = le_refl u
 
+-- Where u is no greater than v and v is no greater than w, the optional number u is no greater than
+-- w.
 pub no_greater_trans : (u v w : Option ℕ) → IsNoGreater u v → IsNoGreater v w → IsNoGreater u w
 no_greater_trans u v None p q = tt
 no_greater_trans None None (Some w) p q = q
@@ -20,18 +23,24 @@ no_greater_trans None (Some v) (Some w) p q = p
 no_greater_trans (Some u) None (Some w) p q = absurd q
 no_greater_trans (Some u) (Some v) (Some w) p q = le_trans p q
 
+-- Where m is at most n and n fits in 64 bits, m fits too, and is no greater.
 pub if_fits-monotone : (m n : ℕ) → m ≤ n → IsNoGreater (if_fits m) (if_fits n)
 if_fits-monotone m n h = ⊎_elim
     (λ past. subst (λ w. IsNoGreater (if_fits m) w) (sym (if_fits-past n past)) tt)
     (λ within. subst (λ w. IsNoGreater (if_fits m) w) (sym (if_fits-within n within)) (subst (λ u. IsNoGreater u (Some n)) (sym (if_fits-within m (le_trans h within))) h))
     (cases_lt greatest n)
 
+-- Where a is at most c and b is at most d, the upper sum of a and b is no greater than that of c
+-- and d.
 pub add_up-monotone : (a b c d : ℕ) → a ≤ c → b ≤ d → IsNoGreater (add_up a b) (add_up c d)
 add_up-monotone a b c d p q = if_fits-monotone (a + b) (c + d) (omega arith)
 
+-- Where a is at most c and b is at most d, the upper product of a and b is no greater than that of
+-- c and d.
 pub mul_up-monotone : (f a b c d : ℕ) → a ≤ c → b ≤ d → IsNoGreater (mul_up f a b) (mul_up f c d)
 mul_up-monotone f a b c d p q = if_fits-monotone (quotient_up (a * b) (2 ^ f)) (quotient_up (c * d) (2 ^ f)) (quotient_up-monotone (a * b) (c * d) (2 ^ f) (2 ^ f) (pow_pos f) (le_refl (2 ^ f)) (mul-le a b c d p q))
 
+-- Where a is at most b, the upper value of 1 / (1 - a) is no greater than that of 1 / (1 - b).
 pub seq_up-monotone : (f a b : ℕ) → a ≤ b → IsNoGreater (seq_up f a) (seq_up f b)
 seq_up-monotone f a b p = ⊎_elim
     (λ b_below. subst (λ t. IsNoGreater (seq_up f a) (cond t (if_fits (quotient_up (2 ^ (2 * f)) (2 ^ f - b))) None)) (sym (le-leb (suc b) (2 ^ f) b_below))

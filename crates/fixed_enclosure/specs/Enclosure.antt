@@ -1,6 +1,5 @@
 -- On which side of the exact result a rounded one lies. A number v stands for v / 2^f; all is said
--- in whole
--- numbers, by cross-multiplication.
+-- in whole numbers, by cross-multiplication.
 use Rattle.std.specs.Prelude.{ℕ, zero, suc, ◌+◌, ◌*◌, ◌^◌, ◌≤◌}
 
 -- The value v is at most num / den: v / 2^f ≤ num / den.

@@ -1,6 +1,5 @@
 -- Rounded arithmetic: numbers of units of 2^-f. Lower results are rounded down and stop at the
--- greatest
--- number of 64 bits. Upper results are rounded up, and have no value past it.
+-- greatest number of 64 bits. Upper results are rounded up, and have no value past it.
 use Rattle.std.specs.Prelude.{ℕ, zero, suc, ◌+◌, ◌-◌, ◌*◌, ◌/◌, ◌^◌, min, Bool, nat_le, nat_lt}
 use Rattle.std.specs.Prelude.{Option, Some, None, if◌then◌else◌}
 

@@ -52,8 +52,7 @@ impl<const F: u32> Lo<F> {
     ///
     /// That is `2^F` at a = 0 and `floor(2^(2F) / (2^F - a)) - 1` between 0 and 1: without the unit
     /// taken off, no finite sum might reach it. From a = 1 on the powers grow past every number,
-    /// and
-    /// the bound is `u64::MAX`.
+    /// and the bound is `u64::MAX`.
     #[inline]
     pub fn seq(self) -> Lo<F>
         requires fraction_bits { IsFractionBits F }

@@ -37,6 +37,7 @@ length-swept t start (suc n) same =
     let before : length v ≡ length t.spec.bodies = length-swept t start n same in
     length-at_each max v (bodies_down t (values_down t v)) (length-map t.spec.bodies (slice_index (values_down t v)) ∙ sym before) ∙ before
 
+-- Sweeps that go on from a start have one entry for each class.
 pub one_per_class : (t : Setting) (start : List ℕ) (a : Sweeps) → AreSweepsFrom t start a → length a.entries ≡ length t.spec.bodies
 one_per_class t start a are = ap length are.entries ∙ length-swept t start a.done are.one_per_class
 
@@ -44,6 +45,7 @@ one_per_class t start a are = ap length are.entries ∙ length-swept t start a.d
 pub begun : (t : Setting) (start : List ℕ) (a : Sweeps) → length start ≡ length t.spec.bodies → a.entries ≡ start → a.room ≡ length t.spec.nodes → a.done ≡ 0 → AreSweepsFrom t start a
 begun t start a lengths entries room done = record { one_per_class = lengths; entries = entries ∙ ap (λ (n : ℕ). swept_from t start n) (sym done); room = room }
 
+-- The vector of zeros has one entry for each class.
 pub length-zeros : (t : Setting) → length (zeros t) ≡ length t.spec.bodies
 length-zeros t = length-replicate (length t.spec.bodies) 0
 
@@ -55,6 +57,8 @@ swept-below s x F start sound lengths below (suc n) = sweep-below s x F sound (s
 at_least_one : (d : ℕ) → 1 ≤ d → max d 1 ≡ d
 at_least_one d h = omega arith
 
+-- In a sound specification, sweeps from a start of lower bounds of the classes have entries that
+-- are lower bounds of them.
 pub reached : (s : Spec) (num den F : ℕ) (start : List ℕ) (a : Sweeps) (entries : List ℕ) → IsSound s → 1 ≤ den → AreBelow s (ratio num den) F start → AreSweepsFrom (setting s num den F) start a → entries ≡ a.entries → AreBelow s (ratio num den) F entries
 reached s num den F start a entries sound positive below are same =
     subst (λ es. AreBelow s (ratio num den) F es) (sym (same ∙ are.entries))

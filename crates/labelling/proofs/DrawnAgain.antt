@@ -26,6 +26,7 @@ first-cell other place cell more have = has_bits-first other place (bits_of cell
 pub further-cells : (other : ℕ → Option Bool) (place : ℕ) (cell : Cell) (more : List Cell) → HasBits other place (spelled (cell ∷ more)) → HasBits other (place + cell.b) (spelled more)
 further-cells other place cell more have = subst (λ n. HasBits other (place + n) (spelled more)) (bits-length cell.b cell.k) (has_bits-more other place (bits_of cell.b cell.k) (spelled more) have)
 
+-- Cells spell as many bits as the first of them has, and as many more as the others spell.
 pub spelled-length : (cell : Cell) (more : List Cell) → length (spelled (cell ∷ more)) ≡ cell.b + length (spelled more)
 spelled-length cell more = length-append (bits_of cell.b cell.k) (spelled more) ∙ ap (λ n. n + length (spelled more)) (bits-length cell.b cell.k)
 
@@ -92,6 +93,8 @@ module _ (bits : ℕ → Option Bool) (fault : Option ℕ) (labels : List ℕ) (
   unfolding Rest
   comes n start e = comes-from n (numbers_from 1 n) [] [] start e
 
+-- Wherever a tape has the bits that a labelling's cells spell, it gives the same labels with the
+-- same cells from there on.
 pub labels_are_drawn_again : LabelsAreDrawnAgain
 labels_are_drawn_again bits fault n start labels cells end e other place have =
     let h = comes bits fault labels cells end n start e in

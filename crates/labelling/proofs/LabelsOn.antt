@@ -23,6 +23,8 @@ after_number bit k p place drawn = elim drawn as (λ _. Labelling) [
   | Draw.Failed end ↦ Labelling.Failed p.cells end
 ]
 
+-- While two or more labels remain, a labelling goes on as the whole number drawn below their number
+-- decides.
 pub unfolds : (bit : ℕ → Bit) (k : ℕ) (p : ProgressState) (place : ℕ) → labels_from bit (suc (suc k)) p.remaining p.given p.cells place ≡ after_number bit k p place (draw (whole_decision (suc (suc k))) bit place)
 unfolding after_number
 unfolds bit k p place = refl

@@ -16,6 +16,8 @@ use Rattle.labelling.proofs.Numbers.{last-of, least_of, least_of-in}
 pub record NamesIdeally (n : ℕ) (p : ProgressState) : Type 0 where
   pub names : (us rest : List Fraction) (labels : List ℕ) (left : List Fraction) → AreInCells us p.cells → LabelsOutOf p.remaining rest labels left → IdealLabels n (us ++ rest) (p.given ++ labels) left
 
+-- Before any number is drawn, a labelling with the labels 1 to n remaining stands for the ideal
+-- labelling of n atoms.
 pub names-first : (n : ℕ) → NamesIdeally n (record { remaining = numbers_from 1 n; given = []; cells = [] })
 names-first n = record { names = none }
   where
@@ -51,6 +53,8 @@ last-out [] rest few = refl
 last-out (a ∷ []) rest few = (refl, refl)
 last-out (a ∷ c ∷ more) rest few = absurd (omega arith)
 
+-- Once at most one label remains, a labelling that stands for the ideal one has the ideal labels,
+-- the last one included.
 pub names-done : (n : ℕ) (p : ProgressState) → NamesIdeally n p → length p.remaining ≤ 1 → AreIdealLabels n (p.given ++ p.remaining) p.cells
 names-done n p all few = record { labels_of = of; one_to = one_to n (least_of p.cells ++ []) (p.given ++ p.remaining) [] (of (least_of p.cells) [] (least_of-in p.cells)) }
   where

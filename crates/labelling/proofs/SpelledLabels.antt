@@ -15,6 +15,8 @@ use Rattle.choice_draw.proofs.SpelledDraws.{draws_spell}
 use Rattle.labelling.specs.LabelsByBits.{Labelling, labels_from}
 use Rattle.labelling.specs.Spelled.{AreSpelled, AreCutShort, SpellsLabelling, LabellingsSpell}
 
+-- Two lists of cells one after the other spell the bits of the first, followed by those of the
+-- second.
 pub spelled-both : (cs ds : List Cell) → spelled (cs ++ ds) ≡ spelled cs ++ spelled ds
 spelled-both [] ds = refl
 spelled-both (c ∷ cs) ds = ap (λ bs. bits_of c.b c.k ++ bs) (spelled-both cs ds) ∙ sym (append_assoc (bits_of c.b c.k) (spelled cs) (spelled ds))
@@ -99,6 +101,7 @@ module _ (bits : ℕ → Option Bool) (fault : Option ℕ) (start : ℕ) where
       subst (SpellsLabelling bits start) (sym (unfolds n remaining given cells place))
       (number-spells n remaining given cells place (draw (whole_decision (suc (suc n))) (bit_of bits fault) place) (from-spells (suc n)) h (draws_spell (whole_decision (suc (suc n))) bits fault place))
 
+-- Every labelling over a tape used the bits that its cells spell, wherever the shelf may fail.
 pub labellings_spell : LabellingsSpell
 unfolding Rest
 labellings_spell bits fault n start = from-spells bits fault start n (numbers_from 1 n) [] [] start (spelled-none bits start)

@@ -11,6 +11,7 @@ pub nodes-leaves : (h : ℕ) → nodes_in h + 1 ≡ 2 * 2 ^ h
 nodes-leaves zero = refl
 nodes-leaves (suc h) = let ih : nodes_in h + 1 ≡ 2 * 2 ^ h = nodes-leaves h in omega arith
 
+-- A tree of any height has at least one node.
 pub nodes-some : (h : ℕ) → 0 < nodes_in h
 nodes-some h = let n = nodes-leaves h in let w : 0 < 2 ^ h = pow_pos h in omega arith
 
@@ -23,6 +24,7 @@ length-adding (suc h) counts first sums =
     ∙ ap (λ n. count_of (left_of h counts) + n) (length-adding h (right_of h counts) (first + 2 ^ h) sums.2)
     ∙ sym sums.0
 
+-- As many labels remain in a tree of counts as its own node counts.
 pub length-labels : (h : ℕ) (counts : List ℕ) (first : ℕ) → IsCountTree h counts → length (labels_of h counts first) ≡ count_of counts
 length-labels h counts first tree = length-adding h counts first tree.adds_up
 
@@ -107,6 +109,8 @@ numbers-rest : (a w in_left rest : ℕ) → (0 < rest → in_left ≡ w) → num
 numbers-rest a w in_left zero full = let e : in_left + 0 ≡ in_left = omega arith in append-nil (numbers_from a in_left) ∙ ap (numbers_from a) (sym e)
 numbers-rest a w in_left (suc rest) full = let e : in_left ≡ w = full (omega arith) in ap (λ x. numbers_from a in_left ++ numbers_from (a + x) (suc rest)) (sym e) ∙ numbers-parts a in_left (suc rest)
 
+-- The lesser of n and w numbers from a on, followed by the rest of n from a + w on, are the n
+-- numbers from a on.
 pub numbers-halves : (a w n in_left : ℕ) → in_left ≡ min n w → numbers_from a in_left ++ numbers_from (a + w) (n - in_left) ≡ numbers_from a n
 numbers-halves a w n in_left is =
     let all : in_left + (n - in_left) ≡ n = omega arith in
@@ -116,6 +120,7 @@ numbers-halves a w n in_left is =
 pub height-above : (height : ℕ) → 0 < height → height ≡ suc (height - 1)
 height-above height some = omega arith
 
+-- A tree of positive height has twice as many leaves as one of height one less.
 pub leaves-above : (height : ℕ) → 0 < height → 2 ^ height ≡ 2 ^ (height - 1) + 2 ^ (height - 1)
 leaves-above height some = ap (λ n. 2 ^ n) (height-above height some) ∙ (let e : 2 ^ suc (height - 1) ≡ 2 ^ (height - 1) + 2 ^ (height - 1) = omega arith in e)
 
@@ -126,6 +131,7 @@ nodes-above height some = ap nodes_in (height-above height some)
 pub at-left : (xs ys : List ℕ) (i : ℕ) → i < length xs → slice_index (xs ++ ys) i ≡ slice_index xs i
 at-left xs ys i within = get_or_append_left xs ys 0 i within
 
+-- Past the end of a list xs of length n, the place i of xs followed by ys is the place i - n of ys.
 pub at-right : (xs ys : List ℕ) (n i : ℕ) → length xs ≡ n → n ≤ i → slice_index (xs ++ ys) i ≡ slice_index ys (i - n)
 at-right xs ys n i is past = get_or-append_right xs ys n i 0 is past
 

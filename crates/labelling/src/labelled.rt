@@ -7,8 +7,7 @@ use bz_model::cells::Cells;
 #[derive(Drop)]
 pub enum Labelled {
     /// The labels in token order, with the cells of the numbers drawn for them: one for each atom
-    /// but
-    /// the last.
+    /// but the last.
     Labels { labels: Labels, cells: Cells },
     /// 60 bits decided no whole number below `m`, so many labels remaining.
     Straddles { m: u64, cell: Cell },

@@ -4,8 +4,7 @@
 //! (bz_model: `specs/Labels.antt`). Which bits it takes, and how it ends, is a function of the bits
 //! that it was given (`specs/LabelsByBits.antt`, `specs/Answer.antt`), which its cells spell
 //! (`specs/Spelled.antt`, `laws`). No clause says that a number is ever decided, nor what a tape's
-//! bits
-//! are where its shelf doesn't tell.
+//! bits are where its shelf doesn't tell.
 #![tactic(auto)]
 
 pub mod label;

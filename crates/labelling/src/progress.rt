@@ -61,8 +61,7 @@ impl Progress {
     }
 
     /// Gives the last atom the label left, if there is one, and hands out labels and cells. Takes
-    /// no
-    /// memory.
+    /// no memory.
     pub(crate) fn finish(self) -> (Labels, Cells)
         requires last { length self.remaining ≤ 1 }
         ensures labels { result.0 ≡ self.given ++ self.remaining }

@@ -10,8 +10,7 @@ use std::marker::Model;
 /// The labels that remain, seen as their list, least first.
 ///
 /// The leaves of a complete binary tree stand for the labels, and each node counts those that
-/// remain
-/// below it. A tree for n labels takes fewer than 16 bytes for each, and 4 at least.
+/// remain below it. A tree for n labels takes fewer than 16 bytes for each, and 4 at least.
 #[derive(Drop)]
 pub struct LabelTree {
     counts: Vec<u32>,

@@ -8,6 +8,8 @@ use Rattle.newton_upper.specs.Newton.{column}
 pub written-whole : {V : Type 0} (n : ℕ) (xs ys : List V) → length xs ≡ n → take n (xs ++ ys) ≡ xs
 written-whole n xs ys same = take-append-le n xs ys (omega arith) ∙ take_all n xs (omega arith)
 
+-- Reading a list of numbers at a place within it gives an entry, the one that reading with default
+-- 0 gives.
 pub there-at : (xs : List ℕ) (i : ℕ) → i < length xs → slice_get xs i ≡ Some (get_or xs i 0)
 there-at [] i within = absurd (omega arith)
 there-at (x ∷ xs) zero within = refl

@@ -21,6 +21,7 @@ four-rises i (suc j) below = ⊎_elim
 pub factor-within : (f j : ℕ) → f ≤ 56 → j < (f - 8) / 2 + 1 → 4 ^ j ≤ 281474976710656
 factor-within f j few below = four-rises j 24 (omega arith)
 
+-- If a factor is 4 to the power j, then four times it is 4 to the power j + 1.
 pub factor-more : (j factor : ℕ) → factor ≡ 4 ^ j → factor * 4 ≡ 4 ^ (j + 1)
 factor-more j factor is = let e : 4 ^ (j + 1) ≡ 4 ^ suc j = ap (λ k. 4 ^ k) (add-one j) in omega (arith, pow-suc 4 j)
 
@@ -38,11 +39,14 @@ repeated-on f zero n m v same = let here : n ≡ m = omega arith in ap (λ (i : 
 repeated-on f (suc k) n zero v same = absurd (omega arith)
 repeated-on f (suc k) n (suc m) v same = ap f (repeated-on f k n m v (omega arith))
 
+-- Going on from the lower sweeps of r rounds by the sweeps still missing gives the vector after the
+-- sweeps of r + 1 rounds.
 pub swept-on : (t : Setting) (r further sweeps before : ℕ) (start new : List ℕ) → start ≡ swept_down t (sweeps_after r) → new ≡ repeated (sweep_down t) further start → sweeps ≡ sweeps_after (r + 1) → before ≡ sweeps_after r → further ≡ sweeps - before → new ≡ swept_down t (sweeps_after (r + 1))
 unfolding swept_down
 swept-on t r further sweeps before start new start_is swept more less is =
     swept ∙ ap (repeated (sweep_down t) further) start_is ∙ repeated-on (sweep_down t) further (sweeps_after r) (sweeps_after (r + 1)) (replicate (length t.spec.bodies) 0) (omega (arith, sweeps-double r))
 
+-- The vector after any number of lower sweeps from zero has one entry for each class.
 pub length-swept : (t : Setting) (n : ℕ) → length (swept_down t n) ≡ length t.spec.bodies
 unfolding swept_down
 length-swept t n = length-lower_sweeps t n

@@ -20,6 +20,8 @@ entry-copied [] c within = absurd (omega arith)
 entry-copied (n ∷ v) zero within = refl
 entry-copied (n ∷ v) (suc c) within = entry-copied v c (omega arith)
 
+-- A vector with a first place at which the body's upper value is greater than its entry isn't
+-- post-fixed.
 pub unfixed : (t : Setting) (v : List ℕ) (place : ℕ) (got : Option ℕ) → IsFirstAbove (bodies_up t (values_up t v)) v place got → IsPostFixed t v → ⊥
 unfixed t v place got fault fixed =
     let us = bodies_up t (values_up t v) in
@@ -27,6 +29,8 @@ unfixed t v place got fault fixed =
     (subst (λ o. IsNoGreater o (Some (slice_index v place))) (sym fault.value)
     (subst (λ o. IsNoGreater (value_at us place) o) (entry-copied v place fault.within) (no_greater-at us (map Some v) place fixed.each)))
 
+-- A vector with an entry for each class, one of which is less than its body's upper value, is
+-- dropped by the test for post-fixed vectors.
 pub fails : (t : Setting) (v : List ℕ) (place : ℕ) (got : Option ℕ) → length v ≡ length t.spec.bodies → IsFirstAbove (bodies_up t (values_up t v)) v place got → if_post_fixed t (Some v) ≡ None
 fails t v place got lengths fault = decide (is_post_fixed t v) refl
   where
@@ -39,6 +43,7 @@ pub all-there : (vs : List ℕ) → all_values (map Some vs) ≡ Some vs
 all-there [] = refl
 all-there (v ∷ vs) = ap (option_map (λ ws. v ∷ ws)) (all-there vs)
 
+-- If one of the values in a list is missing, the list of all values is missing.
 pub one-missing : (vs : List (Option ℕ)) (place : ℕ) → place < length vs → value_at vs place ≡ None → all_values vs ≡ None
 one-missing [] place within none = absurd (omega arith)
 one-missing (None ∷ vs) place within none = refl

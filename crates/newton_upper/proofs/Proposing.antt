@@ -20,9 +20,12 @@ pub map-push : {A B : Type 0} (f : A → B) (xs : List A) (x : A) → map f (xs 
 map-push f [] x = refl
 map-push f (y ∷ xs) x = ap (λ (ys : List _). f y ∷ ys) (map-push f xs x)
 
+-- If each item of a list has a property, and so has one more item, then each item has it after that
+-- one is put at the end.
 pub each-push : {X : Type 0} (P : X → Type 0) (xs ys : List X) (x : X) → ys ≡ xs ++ x ∷ [] → Each P xs → P x → Each P ys
 each-push P xs ys x pushed each last = subst (Each P) (sym pushed) (Each-more P xs x each last)
 
+-- Whatever the property, each item of an empty list has it.
 pub each-none : {X : Type 0} (P : X → Type 0) (xs : List X) → xs ≡ [] → Each P xs
 each-none P xs empty = subst (Each P) (sym empty) (record { at = λ i x is. absurd (omega (arith, slice_get_within [] i x is)) })
 

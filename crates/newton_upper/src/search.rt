@@ -46,8 +46,7 @@ impl From<AllocError> for UpperFault {
 }
 
 /// The base for a specification and x: the first candidate that is post-fixed or, where none is,
-/// the
-/// first such proposal.
+/// the first such proposal.
 ///
 /// The candidates of six rounds widen a vector of lower values, which ever more lower sweeps
 /// make, by ever greater multiples of a vector along which the map may grow; the proposals are

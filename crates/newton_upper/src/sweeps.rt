@@ -62,8 +62,7 @@ pub(crate) fn upper_values<const F: u32, L: Ledger>(
 /// The vector after so many dual sweeps from zero at the upper values of a class vector.
 ///
 /// None exactly where a node has no upper value or a sweep has no result. At most one tick more
-/// than
-/// there are sweeps.
+/// than there are sweeps.
 pub fn dual_vector<const F: u32, L: Ledger>(
     alloc: Global,
     system: &System,

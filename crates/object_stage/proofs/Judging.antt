@@ -60,5 +60,7 @@ ended_at_object content before after s file next status text ticks (stages.faile
 ended_at_object content before after s file next status text ticks (stages.no_memory says) = stages.no_memory says
 ended_at_object content before after s file next status text ticks (stages.read bytes are h) = stages.read bytes are (judged_as s nothing next bytes status text ticks (λ tokens labels is never. absurd never) h)
 
+-- Where an object was read from its file, what follows it is what comes of reading and judging that
+-- file.
 pub goes_on_with_object : (content : List ℕ → Option (List ℕ)) (before after : List ℕ → ℕ) (s : Spec) (file : List ℕ) (next : List Token → Option (List ℕ) → Outcome) (tokens : List Token) (labels : Option (List ℕ)) (status : Status) (text : List ℕ) (ticks : ℕ) → IsObjectIn content s file tokens labels → next tokens labels status text ticks → ObjectRead (files content before after) s file next status text ticks
 goes_on_with_object content before after s file next tokens labels status text ticks is p = stages.read is.bytes is.read (stage.read tokens labels is.few is.is_read p)

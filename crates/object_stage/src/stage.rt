@@ -26,8 +26,7 @@ const MOST_READ: u64 = 16_777_217;
 /// Reads an object of the first class from a file.
 ///
 /// One line feed at the end of the file is no part of the object's text. In `err` the counts of
-/// failed
-/// reads before the call may be those of an earlier time.
+/// failed reads before the call may be those of an earlier time.
 #[tactic(auto, using(crate::proofs::Judging::is_object, crate::proofs::Judging::ended_by_reading))]
 pub fn object_read<S: Shelf>(
     alloc: Global,

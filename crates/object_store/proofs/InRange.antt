@@ -11,6 +11,7 @@ pub each-below : (n : ℕ) (es : List ℕ) → ((i e : ℕ) → slice_get es i �
 each-below n [] h = tt
 each-below n (e ∷ es) h = (h 0 e cc, each-below n es (λ i f at. h (suc i) f at))
 
+-- Any number of copies of a node below n are all below n.
 pub replicate-below : (n k e : ℕ) → e < n → AllBelow n (replicate k e)
 replicate-below n zero e h = tt
 replicate-below n (suc k) e h = (h, replicate-below n k e h)

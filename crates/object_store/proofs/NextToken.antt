@@ -12,6 +12,8 @@ use Rattle.object_store.specs.declared.token.Token.TheVariants as token
 use Rattle.object_store.specs.Tokens.{tokens_of, tokens_all, BelongEach, AreOf}
 pub use Rattle.object_store.specs.Waiting.{joined}
 
+-- The tokens of two lists of objects put together are those of the first, followed by those of the
+-- second.
 pub tokens_all-joined : (os ps : Objects) → tokens_all (joined os ps) ≡ tokens_all os ++ tokens_all ps
 tokens_all-joined none ps = refl
 tokens_all-joined (more o os) ps = ap (λ ts. tokens_of o ++ ts) (tokens_all-joined os ps) ∙ sym (append_assoc (tokens_of o) (tokens_all os) (tokens_all ps))

@@ -7,10 +7,12 @@ use Rattle.object_store.specs.declared.token.Token.{Token}
 use Rattle.object_store.specs.declared.token.Token.TheVariants as token
 use Rattle.object_store.specs.Tokens.{tokens_of, tokens_all, token_size, size_of}
 
+-- The tokens of two lists, one after the other, have as many atoms as both lists together.
 pub size_of-append : (ts us : List Token) → size_of (ts ++ us) ≡ size_of ts + size_of us
 size_of-append [] us = sym (zero-add (size_of us))
 size_of-append (t ∷ ts) us = let e = size_of-append ts us in omega arith
 
+-- A token put after others adds its own number of atoms, one or none, to theirs.
 pub size_of-push : (ts : List Token) (t : Token) → size_of (ts ++ t ∷ []) ≡ size_of ts + token_size t
 size_of-push ts t = let e = size_of-append ts (t ∷ []) in omega arith
 

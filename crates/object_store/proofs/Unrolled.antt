@@ -5,14 +5,18 @@ use Rattle.class_system.proofs.Results.{take-at}
 use Rattle.object_store.specs.declared.pending.Run.{Run}
 use Rattle.object_store.specs.Runs.{unrolled, HaveSome}
 
+-- A run put at the end stands for its node, as many times as it has, in front of the nodes of the
+-- other runs.
 pub unrolled-push : (runs : List Run) (r : Run) → unrolled (runs ++ r ∷ []) ≡ replicate r.times r.node.0 ++ unrolled runs
 unrolled-push [] r = sym (append-nil (replicate r.times r.node.0))
 unrolled-push (q ∷ runs) r = ap (λ es. es ++ replicate q.times q.node.0) (unrolled-push runs r) ∙ append_assoc (replicate r.times r.node.0) (unrolled runs) (replicate q.times q.node.0)
 
+-- Where no run of a list is empty, none is after a run that isn't empty is put at the end.
 pub HaveSome-push : (runs : List Run) (r : Run) → HaveSome runs → 0 < r.times → HaveSome (runs ++ r ∷ [])
 HaveSome-push [] r h k = (k, tt)
 HaveSome-push (q ∷ runs) r h k = (h.0, HaveSome-push runs r h.1 k)
 
+-- Where no run of a list is empty, its last run isn't, and none of those before it is.
 pub HaveSome-rest : (runs : List Run) (r : Run) → HaveSome (runs ++ r ∷ []) → HaveSome runs × (0 < r.times)
 HaveSome-rest [] r h = (tt, h.0)
 HaveSome-rest (q ∷ runs) r h = let k = HaveSome-rest runs r h.1 in ((h.0, k.0), k.1)

@@ -82,10 +82,8 @@ impl<'a> Walk<'a> {
     /// Visits the next node.
     ///
     /// The objects right below the object that is visited wait in its place, and its token is
-    /// taken,
-    /// if it has one. At the end, and where there is no object, the walk stays as it was; so it
-    /// does
-    /// at an error, which comes only where memory runs out.
+    /// taken, if it has one. At the end, and where there is no object, the walk stays as it was; so
+    /// it does at an error, which comes only where memory runs out.
     pub fn next(&mut self) -> Result<Next, AllocError>
         ensures next { IfOk result (IsNext self.old self.new) }
         ensures err { OnErr result (self.new ≡ self.old) }

@@ -75,6 +75,8 @@ pub record WasRead (s : Spec) (e : ℕ) (text : List ℕ) (whole : Taken) : Type
   pub ordered : whole.ordered ≡ in_order object labels
   pub no_list : whole.lists ≡ []
 
+-- If from nothing read an object of node e comes and then the text ends, the whole text is one of
+-- an object of e, and what was read is that object.
 pub was-read : (s : Spec) (e : ExprId) (text : List ℕ) (whole : Taken) → Comes s (Some e) [] nothing whole text → WasRead s e.0 text whole
 was-read s e text whole h =
     let same = h.later.1 in
@@ -115,6 +117,8 @@ module _ (s : Spec) (sound : IsSound s) (limits : IsWithinLimits s) (e : ℕ) (t
     });
   }
 
+-- A text that was read whole as an object of a class's body, and stands in order, is the canonical
+-- text of an object of the class with these tokens and labels.
 pub read-of : (s : Spec) (sound : IsSound s) (limits : IsWithinLimits s) (c body : ℕ) → body_of s c ≡ Some body → (text : List ℕ) (whole : Taken) → WasRead s body text whole → (tokens : List Token) (labels : Option (List ℕ)) → IsFinished s.mode whole tokens labels → IsRead s c text tokens labels
 read-of s sound limits c body at text whole r tokens labels f = record {
   body = body;

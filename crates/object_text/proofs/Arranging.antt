@@ -288,6 +288,8 @@ pub record IsArranged (s : Spec) (e : ℕ) (o : Object) (l : List ℕ) (b : Belo
   pub ordered : StandsInOrder i.object i.labels
   pub sized : size i.object ≡ size o
 
+-- An object with labels, once arranged in canonical order, is one of the same node and size, stands
+-- in order, and has the printed text.
 pub is-arranged : (s : Spec) (e : ℕ) (o : Object) (l : List ℕ) (b : Belongs s e o) → HasLabels s.mode o l → IsArranged s e o l b (arranged o l)
 is-arranged s e o l b x =
     let c = is-form s (ClassHas s b.0) (class_text standing s b.0) (class_text canonical s b.0) (is-class s b.0) (node_at s e) (range_at s e) o l b.1 x in

@@ -13,6 +13,7 @@ abbrev pub HasNoDigit : List ℕ → Type 0
 HasNoDigit [] = Unit {0}
 HasNoDigit (b ∷ text) = ¬ (IsDigit b)
 
+-- Two equal lists that have a first item have the same first item and the same rest.
 pub cons-same : (a b : ℕ) (xs ys : List ℕ) → a ∷ xs ≡ b ∷ ys → (a ≡ b) × (xs ≡ ys)
 cons-same a b xs ys e = (cc, cc)
 
@@ -21,6 +22,8 @@ pub behind-byte : (b : ℕ) (text : List ℕ) → BeginsWithByte b text → text
 behind-byte b [] h = elim h [ ]
 behind-byte b (c ∷ text) h = ap (λ z. z ∷ text) h
 
+-- A text that begins with the byte of a digit d is the decimal text of d, followed by what stands
+-- behind the first byte.
 pub first-digit : (text : List ℕ) (d : ℕ) → d ≤ 9 → BeginsWithByte (48 + d) text → text ≡ decimal d ++ drop 1 text
 first-digit text d s h = behind-byte (48 + d) text h ∙ ap (λ ds. ds ++ drop 1 text) (sym (decimal_digit d (omega arith)))
 
@@ -35,6 +38,8 @@ append-one : (ds text : List ℕ) (b : ℕ) → ds ++ b ∷ text ≡ (ds ++ b �
 append-one [] text b = refl
 append-one (d ∷ ds) text b = ap (λ t. d ∷ t) (append-one ds text b)
 
+-- If a text begins with the digits of n and a further digit of a number of at most 1000000 follows,
+-- it begins with the digits of the longer number.
 pub further-digit : (most n : ℕ) (text rest : List ℕ) (more : ℕ) → most ≤ 1000000 → text ≡ decimal n ++ rest → FurtherDigit most n rest more → text ≡ decimal more ++ drop 1 rest
 further-digit most n text rest more small e f =
     let within = f.within in
@@ -134,6 +139,8 @@ pub record HasDigit (low most : ℕ) (text : List ℕ) : Type 0 where
   pub least : low ≤ byte - 48
   pub greatest : byte - 48 ≤ most
 
+-- A text that begins with a number n from low to most, where low is 0 or 1, begins with a digit
+-- from low to most.
 pub has-digit : (low most n : ℕ) → low ≤ 1 → low ≤ n → n ≤ most → most ≤ 1000000 → (q : List ℕ) → HasDigit low most (decimal n ++ q)
 has-digit low most n one least greatest small q = go (decimal n) refl (decimal_is_IsNumeral n (omega arith)).0.0 (decimal_is_IsNumeral n (omega arith)).0.1
   where
@@ -170,5 +177,6 @@ no-number low most n one least greatest small b text more q none e =
     let within : b - 48 ≤ most = subst (λ z. z - 48 ≤ most) (sym same) h.greatest in
     omega arith
 
+-- The empty text begins with no number of at most 1000000.
 pub no-number-end : (n : ℕ) → n ≤ 1000000 → (q : List ℕ) → [] ≡ decimal n ++ q → ⊥
 no-number-end n small q e = let h = has-digit 0 1000000 n (omega arith) (omega arith) small (omega arith) q in absurd (let same = e ∙ h.is in cc)

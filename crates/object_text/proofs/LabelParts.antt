@@ -9,6 +9,7 @@ use Rattle.bz_model.specs.ObjectText.{Arrangement, least_label, lesser_label, le
 use Rattle.bz_laws.proofs.Items.{lesser-zero, lesser-assoc, least-append}
 use Rattle.object_text.specs.Output.{Printed, grown}
 
+-- Leaving out the first n + m items of a list is leaving out n of them and then m.
 pub drop-drop : (n m : ℕ) (l : List ℕ) → drop (n + m) l ≡ drop m (drop n l)
 drop-drop zero m l = let e : zero + m ≡ m = omega arith in ap (λ k. drop k l) e
 drop-drop (suc n) m [] = drop-nil (suc n + m) ∙ sym (drop-nil m)
@@ -49,5 +50,6 @@ grown-grown p a b t u =
     ap (λ n. record { least = n; text = (p.text ++ t) ++ u; frames = p.frames }) (lesser-assoc p.least a b)
     ∙ ap (λ x. record { least = lesser_label p.least (lesser_label a b); text = x; frames = p.frames }) (append_assoc p.text t u)
 
+-- Printing no text and no label leaves what was printed as it is.
 pub grown-none : (p : Printed) → p ≡ grown p 0 []
 grown-none p = ap (λ n. record { least = n; text = p.text; frames = p.frames }) (sym (lesser-zero p.least)) ∙ ap (λ x. record { least = lesser_label p.least 0; text = x; frames = p.frames }) (sym (append-nil p.text))

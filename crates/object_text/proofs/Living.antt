@@ -96,6 +96,8 @@ ends-no-digit Sequence d = let h = d.to_9 in omega arith
 ends-no-digit Set d = let h = d.to_9 in omega arith
 ends-no-digit Cycle d = let h = d.to_9 in omega arith
 
+-- Where an object is read and the rest of what is expected can be read of a text, that text begins
+-- with no digit.
 pub reads-no-digit : (s : Spec) (whole : Taken) (stack : List Expected) (text : List ℕ) (t : Taken) → Reads s whole stack text t → HasNoDigit text
 reads-no-digit s whole [] text t h = subst HasNoDigit (sym h.0) tt
 reads-no-digit s whole (Close ∷ stack) text t h = no-digit 41 (λ d. let k = d.from_0 in omega arith) text h.rest h.split

@@ -109,6 +109,7 @@ module _ (start : List Bool) (labels : List ℕ) (place : ℕ) (seen : List Bool
   pub marking-ends : ¬ (IsFree seen (get_or labels place 0)) → ¬ (AreFree start labels)
   marking-ends n f = n (subst (AreFree seen) here (m.to f)).0
 
+-- Before any label is marked, the labels from place 0 on are free just where all are.
 pub marking-start : (start : List Bool) (labels : List ℕ) → Marking start labels 0 start
 marking-start start labels = record { to = λ f. f; from = λ f. f }
 
@@ -118,5 +119,7 @@ free-end seen [] (suc place) h = tt
 free-end seen (l ∷ labels) zero h = absurd (omega arith)
 free-end seen (l ∷ labels) (suc place) h = free-end seen labels place (omega arith)
 
+-- If the labels from a place on are free just where all are, and the place is past the last label,
+-- then all are free.
 pub marking-over : (start : List Bool) (labels : List ℕ) (place : ℕ) (seen : List Bool) → length labels ≤ place → Marking start labels place seen → AreFree start labels
 marking-over start labels place seen h m = m.from (free-end seen labels place h)

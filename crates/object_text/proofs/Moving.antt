@@ -31,9 +31,12 @@ moves-by s Before text rest {n} {next} {t} {taken} {k} {stack} e f g h =
 pub steps-by : (A B C : Taken → List ℕ → Type 0) (text rest : List ℕ) → ((whole : Taken) (other : List ℕ) → B whole other → A whole other) → ((whole : Taken) (other : List ℕ) → A whole other → B whole other) → Steps B C text rest → Steps A C text rest
 steps-by A B C text rest back forth h = steps-then A B C text text rest (steps-same A B text back forth) h
 
+-- If two ways of reading accept the same texts with the same results, a fault by the one is a fault
+-- by the other at the same byte.
 pub faults-by : (A B : Taken → List ℕ → Type 0) (text : List ℕ) (left : ℕ) → ((whole : Taken) (other : List ℕ) → B whole other → A whole other) → ((whole : Taken) (other : List ℕ) → A whole other → B whole other) → Faults B text left → Faults A text left
 faults-by A B text left back forth f = faults-through A B text text left (steps-same A B text back forth) f
 
+-- What follows a word that isn't empty at the front of a text is shorter than the text.
 pub shorter : (word text rest : List ℕ) → text ≡ word ++ rest → 0 < length word → length rest < length text
 shorter word text rest e some = omega (arith, ap length e, length-append word rest)
 
@@ -41,6 +44,7 @@ pub byte-first : (b : ℕ) (text : List ℕ) (c : ℕ) (rest : List ℕ) → tex
 byte-first b [] c rest e h = elim h [ ]
 byte-first b (d ∷ text) c rest e h = (cons-same c d rest text (sym e)).0 ∙ h
 
+-- A text that is a byte b and a rest begins with b.
 pub byte-there : (b : ℕ) (text rest : List ℕ) → text ≡ b ∷ rest → BeginsWithByte b text
 byte-there b [] rest e = absurd (cc)
 byte-there b (d ∷ text) rest e = (cons-same d b text rest e).0

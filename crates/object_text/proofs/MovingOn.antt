@@ -26,6 +26,8 @@ range-facts low r small (IsTextRange.at_least k b e) = subst (λ (q : Range). Is
 range-facts low r small (IsTextRange.at_most k b e) = let one = b.from_one in subst (λ (q : Range). IsWithinHigh q.low q.high × IsWithinHigh 1 q.high) (sym e) (omega arith, omega arith)
 range-facts low r small (IsTextRange.exactly k b e) = let one = b.from_one in subst (λ (q : Range). IsWithinHigh q.low q.high × IsWithinHigh 1 q.high) (sym e) (omega arith, omega arith)
 
+-- For a sound specification, the part of a list's node is a node, and the list's range allows one
+-- part and its own least number of parts.
 pub list-facts : (s : Spec) → IsSound s → (e : ℕ) (kind : Kind) (part : ℕ) (r : Range) → node_at s e ≡ Some (list_node kind part) → range_at s e ≡ Some r → ListFacts s part r
 list-facts s sound e kind part r at range = record { below = go kind at; some = (facts kind at).0; one = (facts kind at).1 }
   where

@@ -219,5 +219,6 @@ module _ (s : Spec) (sound : IsSound s) (limits : IsWithinLimits s) (have : HasO
 pub some-parts : (es : List ExprId) → 2 ≤ length (map number es) → 1 ≤ length es
 some-parts es h = omega (arith, length-map es number)
 
+-- A list of nodes has at most 64 items where the list of their numbers has.
 pub few-parts : (es : List ExprId) → length (map number es) ≤ 64 → length es ≤ 64
 few-parts es h = omega (arith, length-map es number)

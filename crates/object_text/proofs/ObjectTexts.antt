@@ -62,6 +62,7 @@ abbrev pub spaces : List (List ℕ) → List ℕ
 spaces [] = []
 spaces (text ∷ texts) = 32 ∷ (text ++ spaces texts)
 
+-- Texts joined by spaces are the first text, followed by each of the others with a space before it.
 pub join-first : (text : List ℕ) (texts : List (List ℕ)) → join_with_byte 32 (text ∷ texts) ≡ text ++ spaces texts
 join-first text [] = sym (append-nil text)
 join-first text (u ∷ texts) = ap (λ t. text ++ 32 ∷ t) (join-first u texts)

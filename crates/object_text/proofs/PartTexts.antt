@@ -12,6 +12,8 @@ abbrev pub after_spaces : List PartText → List ℕ
 after_spaces [] = []
 after_spaces (p ∷ parts) = 32 ∷ p.text ++ after_spaces parts
 
+-- The texts of parts joined by spaces are the first part's text, followed by each of the others
+-- with a space before it.
 pub spaced-first : (p : PartText) (parts : List PartText) → spaced (p ∷ parts) ≡ p.text ++ after_spaces parts
 spaced-first p [] = sym (append-nil p.text)
 spaced-first p (q ∷ parts) = ap (λ t. p.text ++ 32 ∷ t) (spaced-first q parts)

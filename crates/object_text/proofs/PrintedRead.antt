@@ -11,6 +11,8 @@ use Rattle.object_text.specs.Arranged.{arranged}
 use Rattle.object_text.proofs.Arranging.{form, form-same, is-arranged}
 use Rattle.object_text.proofs.Shuffles.{still-labels}
 
+-- The text printed for an object of a class with labels 1 to n in some order is read as that object
+-- arranged in canonical order.
 pub printed-read : (s : Spec) (c : ℕ) (tokens : List Token) (of : IsOf s c tokens) (labels : List ℕ) → HasLabels s.mode of.object labels → AreLabelsOf s.mode of.object labels → (text : List ℕ) → text ≡ object_text s of.body of.object of.belongs labels → IsRead s c text (tokens_of (arranged of.object labels).object) (told s.mode (arranged of.object labels).labels)
 printed-read s c tokens of labels x k text e =
     let a = is-arranged s of.body of.object labels of.belongs x in

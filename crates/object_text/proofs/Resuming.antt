@@ -23,6 +23,7 @@ module _ (s : Spec) (e f : ExprId) (same : SameTexts s e.0 f.0) (stack : List Ex
   pub faults-resolved : (text : List ℕ) (left : ℕ) → Faults (Comes s (Some f) stack taken) text left → Faults (Comes s (Some e) stack taken) text left
   faults-resolved text left h = faults-by (Comes s (Some e) stack taken) (Comes s (Some f) stack taken) text left object-in object-out h
 
+-- An optional node that is no node at all is missing.
 pub none-of : (o : Option ExprId) → ((e : ExprId) → o ≡ Some e → ⊥) → o ≡ None
 none-of None h = refl
 none-of (Some e) h = absurd (h e refl)
@@ -42,6 +43,8 @@ pub record Progress (s : Spec) (root : ExprId) (start : Taken) (text : List ℕ)
   pub shorter : length rest ≤ length text
   pub steps : Steps (Comes s (Some root) [] start) (Comes s next stack taken) text rest
 
+-- Where nothing else is expected, reading a node's object begins with the whole text left and
+-- nothing more taken.
 pub progress-start : (s : Spec) (root : ExprId) (taken : Taken) (text : List ℕ) (stack : List Expected) → stack ≡ [] → root.0 < length s.nodes → Progress s root taken text (Some root) stack taken text
 progress-start s root taken text stack e below = subst (λ k. Progress s root taken text (Some root) k taken text) (sym e) (record {
   next_below = below;

@@ -150,6 +150,7 @@ ties-label x y =
     ∙ ap (λ b. not (nat_lt x.least y.least) && not b) (less-test (nat_lt y.least x.least) (nat_eq y.least x.least))
     ∙ neither-less x.least y.least
 
+-- Parts ys that rise by least label and are a stable sort of xs are xs put in order one by one.
 pub stable-in_order : (xs ys : List PartText) → IsNonDecreasingBy least_at ys → IsStableByKey least_at nat_cmp xs ys → ys ≡ in_order xs
 stable-in_order xs ys rise stable = one-order ys (in_order xs) (rises-of ys rise) (rises-in_order xs) same
   where

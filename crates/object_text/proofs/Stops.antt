@@ -5,6 +5,7 @@ use Rattle.object_text.specs.declared.scan.Stop.{Stop}
 use Rattle.object_text.specs.declared.scan.Stop.TheVariants as stop
 use Rattle.object_text.specs.Scanning.{IsOther, DiffersFrom, StopsAt}
 
+-- If P implies Q at each number of bytes left, then where a stop fulfils P it fulfils Q.
 pub stops-weaker : (P Q : ℕ → Type 0) → ((left : ℕ) → P left → Q left) → (s : Stop) → StopsAt P s → StopsAt Q s
 stops-weaker P Q f (stop.At left) h = f left h
 stops-weaker P Q f stop.OutOfMemory h = tt

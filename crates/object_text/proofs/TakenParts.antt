@@ -56,6 +56,8 @@ through-each mode (more o os) l mark tokens labels least ordered lists h =
     (lesser-assoc least a (least_label rest) ∙ ap (lesser_label least) (split-least (size o) l))
     (and-assoc ordered (in_order o (take (size o) l)) (parts_in_order Sequence (Some a) os rest))
 
+-- Reading the parts of a tuple one after the other, each with its own labels, is reading the tuple
+-- with all the labels.
 pub through-tuple : (mode : Mode) (os : Objects) (l : List ℕ) (t : Taken) → HasAllLabels mode os l → through same t os l ≡ with_object t (Tuple os) l
 through-tuple mode os l t h = through-each mode os l None t.tokens t.labels t.least t.ordered t.lists h
 
@@ -100,9 +102,11 @@ through-list mode kind os l t h = ap (closed (count os)) (through-parts mode os 
 pub with-neutral : (t : Taken) → with_object t Unit_ [] ≡ with_token t token.Unit
 with-neutral t = make-same t.lists refl (append-nil t.labels) (lesser-zero t.least) (and-true t.ordered)
 
+-- Reading a dot without labels adds just the token of the dot.
 pub with-atom : (t : Taken) → with_object t Dot [] ≡ with_token t token.Dot
 with-atom t = make-same t.lists refl (append-nil t.labels) (lesser-zero t.least) (and-true t.ordered)
 
+-- Reading a dot with one label adds the token of the dot and then the label.
 pub with-labelled : (t : Taken) (label : ℕ) → with_object t Dot (label ∷ []) ≡ with_label (with_token t token.Dot) label
 with-labelled t label = make-same t.lists refl refl (ap (lesser_label t.least) (lesser-zero label)) (and-true t.ordered)
 

@@ -108,6 +108,7 @@ takes-all s c tokens labels Mode.Labelled h of =
     let sized : size_of tokens ≡ size of.object = ap size_of (sym of.spelled) ∙ size_of-tokens of.object in
     take_all (size of.object) labels (omega arith)
 
+-- In unlabelled mode, labels that are one for each atom as the mode demands are none.
 pub none-unlabelled : (m : Mode) (tokens : List Token) (labels : List ℕ) → HasOneForEach m tokens labels → m ≡ Mode.Unlabelled → labels ≡ []
 none-unlabelled Mode.Unlabelled tokens labels h e = h
 none-unlabelled Mode.Labelled tokens labels h e = absurd (cc)

@@ -7,10 +7,14 @@ pub unrolled-push : (entries : List Entry) (x : Entry) → unrolled (entries ++ 
 unrolled-push [] x = sym (append-nil (entry_items x))
 unrolled-push (y ∷ entries) x = ap (λ es. es ++ entry_items y) (unrolled-push entries x) ∙ append_assoc (entry_items x) (unrolled entries) (entry_items y)
 
+-- If no entry of a list is empty, none is after an entry that stands for something is put at the
+-- end.
 pub AreSome-push : (entries : List Entry) (x : Entry) → AreSome entries → IsSomething x → AreSome (entries ++ x ∷ [])
 AreSome-push [] x h k = (k, tt)
 AreSome-push (y ∷ entries) x h k = (h.0, AreSome-push entries x h.1 k)
 
+-- If no entry of a list is empty, then its last one stands for something, and none of the others is
+-- empty.
 pub AreSome-rest : (entries : List Entry) (x : Entry) → AreSome (entries ++ x ∷ []) → AreSome entries × IsSomething x
 AreSome-rest [] x h = (tt, h.0)
 AreSome-rest (y ∷ entries) x h = let k = AreSome-rest entries x h.1 in ((h.0, k.0), k.1)

@@ -27,6 +27,8 @@ nodes-spaced : (es : List ExprId) (later : List Todo) → nodes_of (spaced_objec
 nodes-spaced [] later = refl
 nodes-spaced (e ∷ es) later = ap (λ ns. e.0 ∷ ns) (nodes-spaced es later)
 
+-- The nodes waiting in objects joined by spaces, with other work after them, are the nodes of these
+-- objects and then those of the other work.
 pub nodes-joined : (es : List ExprId) (later : List Todo) → nodes_of (joined_objects es ++ later) ≡ map number es ++ nodes_of later
 nodes-joined [] later = refl
 nodes-joined (e ∷ es) later = ap (λ ns. e.0 ∷ ns) (nodes-spaced es later)
@@ -113,6 +115,7 @@ label-next [] (suc used) = refl
 label-next (l ∷ labels) zero = refl
 label-next (l ∷ labels) (suc used) = label-next labels used
 
+-- Each token stands for at most one atom.
 pub one-atom : (t : Token) → token_size t ≤ 1
 one-atom token.Unit = omega arith
 one-atom token.Dot = omega arith

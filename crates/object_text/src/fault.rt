@@ -6,8 +6,7 @@ use std::alloc::AllocError;
 pub enum TextFault {
     /// The text isn't that of an object of the class, whatever the order of the parts of sets and
     /// cycles and whatever the labels from 1 to 1_000_000. The byte at this offset is the first
-    /// that
-    /// can't stand there, or this is the length where bytes are missing.
+    /// that can't stand there, or this is the length where bytes are missing.
     NotObject { place: u64 },
     /// The text is that of an object, and its labels aren't 1 to the size, each once, or a set or a
     /// cycle isn't in canonical order.

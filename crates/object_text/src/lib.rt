@@ -4,8 +4,7 @@
 //! that text, from the object's tokens and labels. `read` gives the object of a canonical text, and
 //! for any other text its fault with the first byte that can't stand there (`specs/Reading.antt`).
 //! The laws in `laws` say that a text has one answer, that what was read is printed as the text,
-//! and
-//! that what was printed is read in canonical order (`specs/Arranged.antt`).
+//! and that what was printed is read in canonical order (`specs/Arranged.antt`).
 //!
 //! The state of the walk that prints stands in `specs/Printing.antt`, what is printed so far in
 //! `specs/Output.antt`, what the reader expects in `specs/Expected.antt`, and what it has read in

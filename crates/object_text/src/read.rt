@@ -18,8 +18,7 @@ use std::alloc::Global;
 use well_founded::examination::Founded;
 
 /// An object that was read: its tokens, and in labelled mode its labels in token order. The parts
-/// of
-/// sets and cycles stand as they were written.
+/// of sets and cycles stand as they were written.
 #[derive(Drop)]
 pub struct ReadObject {
     pub shape: Shape,

@@ -67,8 +67,7 @@ impl Reader {
     }
 
     /// Reads up to the next node of which an object comes, or up to the end of an object. None
-    /// where
-    /// nothing is expected and the text ends.
+    /// where nothing is expected and the text ends.
     fn read_some<'a>(
         &mut self,
         system: &System,

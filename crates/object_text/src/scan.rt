@@ -111,8 +111,7 @@ fn longer(n: u64, most: u64, text: &[u8]) -> Option<u64>
 }
 
 /// The number from `low` to `most` at the front of the text, without leading zeros, and what
-/// follows
-/// it. It takes as many digits as such a number has there.
+/// follows it. It takes as many digits as such a number has there.
 pub(crate) fn read_number(low: u64, most: u64, text: &[u8]) -> Result<(u64, &[u8]), Stop>
     requires small { most ≤ 1000000 }
     ensures ok { IfOk result (λ read. BeginsWithNumber low most text.now read.0 read.1.now) }

@@ -112,6 +112,8 @@ module _ (s : Spec) (x : Fraction) (F : ℕ) (sound : IsSound s) where
 at_least_one : (d : ℕ) → 1 ≤ d → max d 1 ≡ d
 at_least_one d h = omega arith
 
+-- For a sound specification, F and den positive, a post-fixed base and a start below the classes'
+-- totals, a node's bounds from level 1 on enclose its value.
 pub enclosed-at : (s : Spec) (num den F : ℕ) (start base : List ℕ) → IsSound s → 1 ≤ den → 0 < F → length start ≡ length s.bodies → AreBelow s (ratio num den) F start → IsPostFixed (setting s num den F) base → (level e : ℕ) → 1 ≤ level → e < length s.nodes → Encloses s (ratio num den) F e (level_bounds_from (setting s num den F) start base level e)
 enclosed-at s num den F start base sound positive bits lengths below fixed level e some within =
     subst (λ d. Encloses s (ratio num den) F e (level_bounds_from (setting s num d F) start base level e)) (at_least_one den positive)
@@ -124,6 +126,8 @@ missing-past n o none v there = cc
 length-values : (s : Spec) (num den F : ℕ) → IsSound s → (classes : List ℕ) → length (values_up (setting s num den F) classes) ≡ length s.nodes
 length-values s num den F sound classes = length-node_results (value_up (setting s num den F) classes) [] (ranged_nodes s) ∙ omega (arith, length-zip s.nodes s.ranges sound.ranges.lengths)
 
+-- For a sound specification and a positive denominator, no node's upper value is missing at a
+-- post-fixed vector.
 pub none_missing : (s : Spec) (num den F : ℕ) → IsSound s → 1 ≤ den → (classes : List ℕ) → IsPostFixed (setting s num den F) classes → (e : ℕ) → IsFirstMissing (values_up (setting s num den F) classes) e → ⊥
 none_missing s num den F sound positive classes fixed e missing =
     let there = each-value s (ratio num den) F sound classes (subst (λ d. IsPostFixed (setting s num d F) classes) (sym (at_least_one den positive)) fixed) e (subst (λ n. e < n) (length-values s num den F sound classes) missing.within) in

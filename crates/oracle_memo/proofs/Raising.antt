@@ -33,10 +33,12 @@ length-upper_sweeps t base (suc n) same =
     let before : length v ≡ length t.spec.bodies = length-upper_sweeps t base n same in
     length-at_each lesser v (bodies_up t (values_up t v)) (length-map t.spec.bodies (value_at (values_up t v)) ∙ sym before) ∙ before
 
+-- If the base is post-fixed, the upper vector of every level has an entry for each class.
 pub length-level_up : (t : Setting) (base : List ℕ) (level : ℕ) → IsPostFixed t base → length (level_up t base level) ≡ length t.spec.bodies
 unfolding level_up
 length-level_up t base level fixed = length-upper_sweeps t base (sweeps_at level) (length-base t base fixed)
 
+-- If the start has an entry for each class, so has the lower vector of every level from it.
 pub length-level_down : (t : Setting) (start : List ℕ) (level : ℕ) → length start ≡ length t.spec.bodies → length (level_down_from t start level) ≡ length t.spec.bodies
 unfolding level_down_from
 length-level_down t start level same = length-swept t start (sweeps_at level) same
@@ -54,6 +56,8 @@ pub level_up-fixed : (t : Setting) (base : List ℕ) (level : ℕ) → 0 < t.bit
 unfolding level_up
 level_up-fixed t base level bits fixed = sweeps_up-post_fixed t (sweeps_at level) base bits fixed
 
+-- Entries that are the result of as many lower sweeps from a start as a level demands are the
+-- level's lower vector from that start.
 pub level_down-is : (t : Setting) (start : List ℕ) (lower : Sweeps) (level : ℕ) → AreSweepsFrom t start lower → lower.done ≡ sweeps_at level → lower.entries ≡ level_down_from t start level
 unfolding level_down_from
 level_down-is t start lower level are done = are.entries ∙ ap (swept_from t start) done
@@ -63,6 +67,7 @@ sweeps-rise-suc : (level : ℕ) → sweeps_at level ≤ sweeps_at (suc level)
 sweeps-rise-suc zero = omega arith
 sweeps-rise-suc (suc level) = omega (arith, pow-suc 4 (suc level))
 
+-- A level has at most as many sweeps as the level after it.
 pub sweeps-rise : (level : ℕ) → sweeps_at level ≤ sweeps_at (level + 1)
 sweeps-rise level = omega (arith, sweeps-rise-suc level, ap sweeps_at (add-one level))
 
@@ -76,6 +81,8 @@ cost-rises i (suc j) below = ⊎_elim
     (λ least. let same : i ≡ suc j = omega arith in let e : cost_at i ≡ cost_at (suc j) = ap cost_at same in omega arith)
     (cases_lt i (suc j))
 
+-- For a level up to 6, the entry in the list of costs at the level's place is the cost of raising
+-- from level 0 to it.
 pub costs-at : (level : ℕ) → level ≤ 6 → slice_index costs level ≡ cost_at level
 unfolding costs
 costs-at zero few = refl
@@ -91,6 +98,7 @@ length-costs : length costs ≡ 7
 unfolding costs
 length-costs = refl
 
+-- The costs of levels 0 to 6 begin with 0, are seven in number, and never fall.
 pub are_costs : AreCosts costs
 are_costs = record {
   count = length-costs;

@@ -37,6 +37,8 @@ written-more old table n start e v lows highs before room is =
     (λ k below. let other : start + k ≢ start + e = omega arith in get_or-set_other table (start + e) (start + k) v whole other ∙ before k below)
     (get_or-set_same table (start + e) v whole room ∙ is)
 
+-- Where a table agrees with an old one before place start, it still does after a write at or past
+-- start.
 pub others-stay : (old table : List Bounds) (start e : ℕ) (v : Bounds) → ((i : ℕ) → i < start → bounds_at table i ≡ bounds_at old i) → (i : ℕ) → i < start → bounds_at (set table (start + e) v) i ≡ bounds_at old i
 others-stay old table start e v same i below = let other : i ≢ start + e = omega arith in get_or-set_other table (start + e) i v whole other ∙ same i below
 

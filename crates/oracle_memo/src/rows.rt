@@ -12,8 +12,7 @@ pub(crate) const WHOLE: Bounds = Bounds {
 };
 
 /// Writes the row that begins at `start`: each node's bounds, from its lower and its upper value
-/// and
-/// its bounds in the row before, if there is one. Takes no memory.
+/// and its bounds in the row before, if there is one. Takes no memory.
 pub(crate) fn write_row(table: &mut [Bounds], start: usize, low: &[u64], high: &[u64])
     requires lengths { length high.now ≡ length low.now }
     requires before { (start ≡ 0) ⊎ (length low.now ≤ start) }

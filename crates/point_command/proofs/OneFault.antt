@@ -2,11 +2,8 @@
 use Rattle.std.proofs.Common.{◌≡◌, ◌≢◌, ℕ, ◌<◌, ◌≤◌, List, refl, sym, ap, ◌∙◌, arith}
 use Rattle.std.specs.Prelude.{length, Some, slice_get}
 use Rattle.std.proofs.Math.Decide.{dec_lt}
-use Rattle.bz_model.specs.Spec.{Spec, Mode, Node, body_of}
-use Rattle.class_system.specs.Limits.{TellsLimit, IsWithinLimits, IsFirstExcess}
-use Rattle.class_system.specs.NodeOrder.{parts_of}
-use Rattle.class_system.specs.declared.limits.BuildFault.{BuildFault}
-use Rattle.class_system.specs.declared.limits.BuildFault.TheVariants as limit
+use Rattle.bz_model.specs.Spec.{Spec, Mode, body_of}
+use Rattle.class_system.proofs.OneLimit.{one_limit, no_limit}
 use Rattle.pointing.specs.Atoms.{HasAtom}
 use Rattle.pointing.specs.Calls.{IsRanged, LacksAtom, TellsFault}
 use Rattle.pointing.specs.PointedSpec.{IsPlain, pointed_spec}
@@ -22,52 +19,6 @@ one-first P i j p q before before_too = go (dec_lt i j) (dec_lt j i)
     go (yes less) other = absurd (before_too i less p)
     go (no l) (yes more) = absurd (before j more q)
     go (no l) (no m) = omega (arith, l, m)
-
--- the first node with too many parts is one node
-one-excess : (nodes : List Node) (a b : ℕ) → IsFirstExcess nodes a → IsFirstExcess nodes b → a ≡ b
-one-excess nodes a b h k =
-    let place = one-first (λ i. (n : Node) × (slice_get nodes i ≡ Some n) × (64 < length (parts_of n))) h.place k.place (h.node, h.is_there, let c = h.counted in let e = h.excess in omega arith) (k.node, k.is_there, let c = k.counted in let e = k.excess in omega arith)
-    (λ i less has. let few = (h.before i has.0 less has.1).few in let e = has.2 in absurd (omega (arith, few, e)))
-    (λ i less has. let few = (k.before i has.0 less has.1).few in let e = has.2 in absurd (omega (arith, few, e))) in
-    let nodes_same : Some h.node ≡ Some k.node = sym h.is_there ∙ ap (λ i. slice_get nodes i) place ∙ k.is_there in
-    let node : h.node ≡ k.node = cc in
-    h.counted ∙ ap (λ n. length (parts_of n)) node ∙ sym k.counted
-
--- parts that are few are not too many
-no-excess : (s : Spec) (a : ℕ) → IsFirstExcess s.nodes a → ((i : ℕ) (n : Node) → slice_get s.nodes i ≡ Some n → length (parts_of n) ≤ 64) → ⊥
-no-excess s a h few = let f = few h.place h.node h.is_there in let c = h.counted in let e = h.excess in omega (arith, f, c, e)
-
--- a specification breaks one limit first
-one-limit : (s : Spec) (a b : BuildFault) → a ≢ limit.OutOfMemory → b ≢ limit.OutOfMemory → TellsLimit s a → TellsLimit s b → a ≡ b
-one-limit s limit.OutOfMemory b m n t u = absurd (m refl)
-one-limit s (limit.TooManyClasses a) limit.OutOfMemory m n t u = absurd (n refl)
-one-limit s (limit.TooManyParts a) limit.OutOfMemory m n t u = absurd (n refl)
-one-limit s (limit.TooDeep a) limit.OutOfMemory m n t u = absurd (n refl)
-one-limit s (limit.TooManyNodes a) limit.OutOfMemory m n t u = absurd (n refl)
-one-limit s (limit.TooManyClasses a) (limit.TooManyClasses b) m n t u = ap (λ k. limit.TooManyClasses k) (t.counted ∙ sym u.counted)
-one-limit s (limit.TooManyClasses a) (limit.TooManyParts b) m n t u = let few = u.classes in absurd (omega (arith, t.counted, t.excess, few))
-one-limit s (limit.TooManyClasses a) (limit.TooDeep b) m n t u = let few = u.classes in absurd (omega (arith, t.counted, t.excess, few))
-one-limit s (limit.TooManyClasses a) (limit.TooManyNodes b) m n t u = let few = u.classes in absurd (omega (arith, t.counted, t.excess, few))
-one-limit s (limit.TooManyParts a) (limit.TooManyClasses b) m n t u = let few = t.classes in absurd (omega (arith, u.counted, u.excess, few))
-one-limit s (limit.TooManyParts a) (limit.TooManyParts b) m n t u = ap (λ k. limit.TooManyParts k) (one-excess s.nodes a b t.first u.first)
-one-limit s (limit.TooManyParts a) (limit.TooDeep b) m n t u = absurd (no-excess s a t.first (λ i x at. (u.parts.at i x at).few))
-one-limit s (limit.TooManyParts a) (limit.TooManyNodes b) m n t u = absurd (no-excess s a t.first (λ i x at. (u.parts.at i x at).few))
-one-limit s (limit.TooDeep a) (limit.TooManyClasses b) m n t u = let few = t.classes in absurd (omega (arith, u.counted, u.excess, few))
-one-limit s (limit.TooDeep a) (limit.TooManyParts b) m n t u = absurd (no-excess s b u.first (λ i x at. (t.parts.at i x at).few))
-one-limit s (limit.TooDeep a) (limit.TooDeep b) m n t u = ap (λ k. limit.TooDeep k) (t.measured ∙ sym u.measured)
-one-limit s (limit.TooDeep a) (limit.TooManyNodes b) m n t u = let few = u.depth in absurd (omega (arith, t.measured, t.excess, few))
-one-limit s (limit.TooManyNodes a) (limit.TooManyClasses b) m n t u = let few = t.classes in absurd (omega (arith, u.counted, u.excess, few))
-one-limit s (limit.TooManyNodes a) (limit.TooManyParts b) m n t u = absurd (no-excess s b u.first (λ i x at. (t.parts.at i x at).few))
-one-limit s (limit.TooManyNodes a) (limit.TooDeep b) m n t u = let few = t.depth in absurd (omega (arith, u.measured, u.excess, few))
-one-limit s (limit.TooManyNodes a) (limit.TooManyNodes b) m n t u = ap (λ k. limit.TooManyNodes k) (t.counted ∙ sym u.counted)
-
--- what is within the limits breaks none
-no-limit : (s : Spec) (a : BuildFault) → a ≢ limit.OutOfMemory → TellsLimit s a → IsWithinLimits s → ⊥
-no-limit s limit.OutOfMemory m t w = m refl
-no-limit s (limit.TooManyClasses a) m t w = let few = w.classes in omega (arith, t.counted, t.excess, few)
-no-limit s (limit.TooManyParts a) m t w = no-excess s a t.first (λ i x at. (w.parts.at i x at).few)
-no-limit s (limit.TooDeep a) m t w = let few = w.depth in omega (arith, t.measured, t.excess, few)
-no-limit s (limit.TooManyNodes a) m t w = let few = w.nodes in omega (arith, t.counted, t.excess, few)
 
 -- a specification has one mode
 two-modes : (s : Spec) → s.mode ≡ Mode.Labelled → s.mode ≡ Mode.Unlabelled → ⊥
@@ -103,7 +54,7 @@ one-fault s fault.NoAtom (fault.Limit f) m n t u = absurd (no-atomless s t u.bod
 one-fault s (fault.Limit f) fault.Labelled m n t u = absurd (two-modes s u t.is_plain.unlabelled)
 one-fault s (fault.Limit f) (fault.Ranged e) m n t u = absurd (no-ranged s e.0 u.here t.is_plain)
 one-fault s (fault.Limit f) fault.NoAtom m n t u = absurd (no-atomless s u t.body t.is_body t.an_atom)
-one-fault s (fault.Limit f) (fault.Limit g) m n t u = ap (λ k. fault.Limit k) (one-limit (pointed_spec s) f g t.no_memory_fault u.no_memory_fault t.broken u.broken)
+one-fault s (fault.Limit f) (fault.Limit g) m n t u = ap (λ k. fault.Limit k) (one_limit (pointed_spec s) f g t.no_memory_fault u.no_memory_fault t.broken u.broken)
 
 -- what can be pointed has no fault
 pub no-fault : (s : Spec) (a : PointFault) → a ≢ fault.OutOfMemory → TellsFault s a → CanBePointed s → ⊥
@@ -111,4 +62,4 @@ no-fault s fault.OutOfMemory m t can = m refl
 no-fault s fault.Labelled m t can = two-modes s t can.able.is_plain.unlabelled
 no-fault s (fault.Ranged e) m t can = no-ranged s e.0 t.here can.able.is_plain
 no-fault s fault.NoAtom m t can = no-atomless s t can.body can.is_body can.an_atom
-no-fault s (fault.Limit f) m t can = no-limit (pointed_spec s) f t.no_memory_fault t.broken can.within
+no-fault s (fault.Limit f) m t can = no_limit (pointed_spec s) f t.no_memory_fault t.broken can.within

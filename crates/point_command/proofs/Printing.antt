@@ -84,6 +84,8 @@ one-pointed s = record { one = λ status other text others ticks more m n p q. p
 pub one-carried : (f : Files) (file : List ℕ) → AreCalm f (file ∷ []) → IsOne (CarriesPoint f file)
 one-carried f file calm = one-specified f file PointedPrinted calm.0 one-pointed
 
+-- With a calm file and no failed write, the point command ends with the one outcome possible and
+-- its text written whole, or for want of memory.
 pub exact : (f : Files) (file : List ℕ) (b a : Option (List ℕ)) (fb fa ticks : ℕ) (result : Status) → EndsBy (CarriesPoint f file) (output b a fb fa ticks ticks) result → (status : Status) (text : List ℕ) (more : ℕ) → AreCalm f (file ∷ []) → CarriesPoint f file status text more → status ≢ Status.OutOfMemory → ¬ (Rose fb fa) → (result ≡ Status.OutOfMemory) ⊎ ((result ≡ status) × Appends b a text)
 exact f file b a fb fa ticks result h status text more calm p memory fine = endings.exact (CarriesPoint f file) (output b a fb fa ticks ticks) result status text more (one-carried f file calm) h p memory fine
 

@@ -29,6 +29,8 @@ only-printed s can status text ticks memory (point.refused fault m tells says) =
 only-printed s can status text ticks memory (point.no_memory says) = absurd (memory says.status_is)
 only-printed s can status text ticks memory (point.printed can_too says) = (says.status_is, says.text_is)
 
+-- Where the file has a specification that can be pointed, the command is done and prints the
+-- canonical form of the pointed one, unless memory runs out.
 pub is-printed : (f : Files) (file : List ℕ) (s : Spec) (status : Status) (text : List ℕ) (ticks : ℕ) → HasSpecification f file s → CanBePointed s → status ≢ Status.OutOfMemory → CarriesPoint f file status text ticks → (status ≡ Status.Done) × (text ≡ form_text (pointed_spec s))
 is-printed f file s status text ticks has can memory h = only-printed s can status text ticks memory (specified-only f file s PointedPrinted status text ticks has memory h)
 
@@ -37,6 +39,8 @@ only-refused s fault n tells status text ticks memory (point.refused other m tel
 only-refused s fault n tells status text ticks memory (point.no_memory says) = absurd (memory says.status_is)
 only-refused s fault n tells status text ticks memory (point.printed can says) = absurd (no-fault s fault n tells can)
 
+-- Where the file has a specification that can't be pointed for some cause, the command refuses it
+-- with the line of that cause, unless memory runs out.
 pub is-refused : (f : Files) (file : List ℕ) (s : Spec) (fault : PointFault) (status : Status) (text : List ℕ) (ticks : ℕ) → HasSpecification f file s → fault ≢ PointFault.OutOfMemory → TellsFault s fault → status ≢ Status.OutOfMemory → CarriesPoint f file status text ticks → (status ≡ Status.PointRefused) × (text ≡ point_line fault)
 is-refused f file s fault status text ticks has n tells memory h = only-refused s fault n tells status text ticks memory (specified-only f file s PointedPrinted status text ticks has memory h)
 

@@ -42,6 +42,7 @@ pub count-one : (b : Bool) → b ≡ true → how_many (b ∷ []) ≡ 1
 count-one true e = refl
 count-one false e = absurd (cc)
 
+-- A list of one mark that is false has no true mark.
 pub count-none : (b : Bool) → b ≡ false → how_many (b ∷ []) ≡ 0
 count-none true e = absurd (cc)
 count-none false e = refl

@@ -19,6 +19,8 @@ pub marks-of : (s : Spec) (marks : List Bool) (ps : List ℕ) → marks ≡ atom
 marks-of s marks [] e = refl
 marks-of s marks (p ∷ ps) e = ap (λ b. b ∷ map (answer_at marks) ps) (ap (λ ms. answer_at ms p) e ∙ mark-found (atomic_classes s) (all_forms s) p) ∙ ap (λ bs. is_atomic_node s p ∷ bs) (marks-of s marks ps e)
 
+-- The number of parts that the code's marks say have an atom is the number of choices at the node,
+-- where the marks are those of the nodes.
 pub choices-counted : (s : Spec) (marks : List Bool) (ps : List ℕ) (parts : List ExprId) (n : ℕ) → marks ≡ atomic_nodes s → map number parts ≡ ps → n ≡ how_many (map (answer_at marks) (map number parts)) → n ≡ choices (is_atomic_node s) ps
 choices-counted s marks ps parts n e same h = h ∙ ap how_many (ap (map (answer_at marks)) same ∙ marks-of s marks ps e)
 
@@ -37,9 +39,11 @@ choice-counted s marks ps parts n place count e same short long h =
       | inr le ↦ ap (λ m. take m (map number parts)) (long le) ∙ let l = long-one n parts in take_all (length parts) (map number parts) (omega arith) ∙ sym (take_all place (map number parts) (omega arith)) ∙ ap (take place) same
     ]
 
+-- Where there is just one choice, no pick is written.
 pub one-pick : (n i : ℕ) → n ≡ 1 → pick_of n i ≡ []
 one-pick n i e = ap (λ m. pick_of m i) e
 
+-- Where there isn't just one choice, the pick of choice i is written.
 pub some-pick : (n i : ℕ) → n ≢ 1 → pick_of n i ≡ token.Pick i ∷ []
 some-pick zero i e = refl
 some-pick (suc zero) i e = absurd (e refl)

@@ -99,6 +99,8 @@ pub record CopiesOn (s : Spec) (v : Visit) (k n : ℕ) (after : ToCome) (fs : Li
   pub waits : Waits s fs objects us
   pub copies : Copies k (Copies n after) fs objects (w ++ token_at v)
 
+-- Copying the first of n + 1 waiting objects goes on, past its visit, with its token written and
+-- the k objects below it to be copied before the other n.
 pub copies-on : (s : Spec) (e : ℕ) (es : List ℕ) (os : Objects) (ts : List Token) (v : Visit) (fs : List ℕ) (us : List Token) (k n : ℕ) (after : ToCome) (w : List Token) → k ≡ length (nodes_below s e v) → Shows s e es os ts v fs us → Copies (suc n) after (e ∷ es) os w → CopiesOn s v k n after fs us w
 copies-on s e es os ts v fs us k n after w many shows h =
     let b = below-shown s e es os ts v fs us shows in

@@ -42,6 +42,8 @@ take-front k [] ys e = ap (λ n. take n ys) e
 take-front zero (x ∷ xs) ys e = absurd (omega arith)
 take-front (suc k) (x ∷ xs) ys e = ap (λ zs. x ∷ zs) (take-front k xs ys (omega arith))
 
+-- Dropping as many elements as a first list has, from that list and another behind it, leaves the
+-- other.
 pub drop-front : {A : Type 0} (k : ℕ) (xs ys : List A) → k ≡ length xs → drop k (xs ++ ys) ≡ ys
 drop-front k [] ys e = ap (λ n. drop n ys) e
 drop-front zero (x ∷ xs) ys e = absurd (omega arith)
@@ -193,6 +195,7 @@ choice-few zero fs few = refl
 choice-few (suc zero) fs few = refl
 choice-few (suc (suc n)) fs few = absurd (omega arith)
 
+-- A choice of n forms, where n is at least 2, puts the last n forms together as one union.
 pub choice-many : (n : ℕ) (fs : List Form) → 2 ≤ n → choice_of n fs ≡ put_together (λ gs. Form.Union (parts_from gs) ∷ []) n fs
 choice-many zero fs many = absurd (omega arith)
 choice-many (suc zero) fs many = absurd (omega arith)
@@ -218,10 +221,13 @@ pub last-numbers : (all items parts : List ExprId) (old : List ℕ) (first n ind
 last-numbers all items parts old first n index same start is past so_far =
     ap (map number) (so_far ∙ take_all index items past ∙ is) ∙ map-drop number first all ∙ ap (drop first) same ∙ ap (λ k. drop k old) (start ∙ ap (λ k. k - n) (sym (length-map all number) ∙ ap length same))
 
+-- The first nodes of a list, without its last n, have the numbers that stand before the last n
+-- numbers.
 pub first-numbers : (all front : List ExprId) (old : List ℕ) (first n : ℕ) → map number all ≡ old → first ≡ length all - n → front ≡ take first all → map number front ≡ take (length old - n) old
 first-numbers all front old first n same start is =
     ap (map number) is ∙ map-take number first all ∙ ap (take first) same ∙ ap (λ k. take k old) (start ∙ ap (λ k. k - n) (sym (length-map all number) ∙ ap length same))
 
+-- Where a property holds of what a success gives and implies another, the other holds of it too.
 pub if-ok : {T E : Type 0} {P Q : T → Type 0} (r : Result T E) → IfOk r P → ((t : T) → P t → Q t) → IfOk r Q
 if-ok (Ok t) p f = f t p
 if-ok (Err e) p f = tt

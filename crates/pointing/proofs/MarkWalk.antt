@@ -40,6 +40,7 @@ marking-start s plain places walk now system of asked waits a b c = record {
       };
 }
 
+-- Where the visit of a node was written, a marking walk goes on as a marking walk.
 pub marking-on : (s : Spec) (plain : List Token) (places : List ℕ) (walk next : Walking) (e : ℕ) (v : Visit) (before now : Writing) → IsVisit walk next e v → HasWritten s e v before now → IsMarking s plain places walk before → IsMarking s plain places next now
 marking-on s plain places walk next e v before now k written h = record {
   system = k.system ∙ h.system;

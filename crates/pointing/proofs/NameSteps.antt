@@ -37,10 +37,14 @@ names-marked letter names bs i lt is =
     ∙ ap (λ b. map (named letter) (marked_from 0 (take i bs) ++ (if b then (0 + length (take i bs)) ∷ [] else []))) (sym is)
     ∙ ap (map (named letter)) (sym (marked-more 0 (take i bs) (get_or bs i false)) ∙ ap (marked_from 0) (sym (take_more bs i false lt))))
 
+-- Where mark i is false, the first i marks and the first i + 1 marks have the same numbers of true
+-- marks.
 pub names-unmarked : (letter : List ℕ) (bs : List Bool) (i : ℕ) → i < length bs → get_or bs i false ≡ false → marked_from 0 (take i bs) ≡ marked_from 0 (take (i + 1) bs)
 names-unmarked letter bs i lt is =
     sym (append-nil (marked_from 0 (take i bs))) ∙ ap (λ b. marked_from 0 (take i bs) ++ (if b then (0 + length (take i bs)) ∷ [] else [])) (sym is) ∙ sym (marked-more 0 (take i bs) (get_or bs i false)) ∙ ap (marked_from 0) (sym (take_more bs i false lt))
 
+-- To the names for the first i marks, one name each, the name with the number i is added to give
+-- those for the first i + 1 marks.
 pub names-all : (letter : List ℕ) (names : List (List ℕ)) (bs : List Bool) (i : ℕ) → i < length bs
     → (names ++ map (named letter) (all_from 0 (take i bs))) ++ named letter i ∷ [] ≡ names ++ map (named letter) (all_from 0 (take (i + 1) bs))
 names-all letter names bs i lt =
@@ -49,8 +53,12 @@ names-all letter names bs i lt =
     ∙ sym (map-append (named letter) (all_from 0 (take i bs)) ((0 + length (take i bs)) ∷ []))
     ∙ ap (map (named letter)) (sym (all-more 0 (take i bs) (get_or bs i false)) ∙ ap (all_from 0) (sym (take_more bs i false lt))))
 
+-- Names, with one more for each true mark, are at most as many as the names before and the marks
+-- together.
 pub few-marked : (letter : List ℕ) (names : List (List ℕ)) (bs : List Bool) → length (names ++ map (named letter) (marked_from 0 bs)) ≤ length names + length bs
 few-marked letter names bs = let a = length-append names (map (named letter) (marked_from 0 bs)) in let b = length-map (marked_from 0 bs) (named letter) in let k = marked-few 0 bs in omega arith
 
+-- Names, with one more for each mark, true or false, are as many as the names before and the marks
+-- together.
 pub few-all : (letter : List ℕ) (names : List (List ℕ)) (bs : List Bool) → length (names ++ map (named letter) (all_from 0 bs)) ≡ length names + length bs
 few-all letter names bs = let a = length-append names (map (named letter) (all_from 0 bs)) in let b = length-map (all_from 0 bs) (named letter) in let k = all-count 0 bs in omega arith

@@ -17,6 +17,7 @@ use Rattle.object_store.proofs.Waiting.{asked, nothing-waits}
 use Rattle.pointing.specs.Ways.{here_or, way, way_among, place, places, finished, opened, Search, way_from, IsNearer, HasPassed}
 use Rattle.pointing.specs.declared.ways.Level.{Level}
 
+-- Where n is below m, the choice between two lists by m - n is the first.
 pub here-is : (m n : ℕ) (a b : List ℕ) → n < m → here_or (m - n) a b ≡ a
 here-is m n a b lt = at (m - n) refl
   where
@@ -24,6 +25,7 @@ here-is m n a b lt = at (m - n) refl
     at zero e = absurd (omega arith)
     at (suc d) e = refl
 
+-- Where m is at most n, the choice between two lists by m - n is the second.
 pub later-is : (m n : ℕ) (a b : List ℕ) → m ≤ n → here_or (m - n) a b ≡ b
 later-is m n a b le = at (m - n) refl
   where
@@ -31,6 +33,7 @@ later-is m n a b le = at (m - n) refl
     at zero e = refl
     at (suc d) e = absurd (omega arith)
 
+-- Of two numbers m and n, either n is below m or m is at most n.
 pub below-or : (m n : ℕ) → (n < m) ⊎ (m ≤ n)
 below-or m n = at (m - n) refl
   where
@@ -42,6 +45,7 @@ pub joined-sizes : (os ps : Objects) → sizes (joined os ps) ≡ sizes os + siz
 joined-sizes none ps = omega arith
 joined-sizes (more o os) ps = let e = joined-sizes os ps in omega arith
 
+-- Where each object belongs to its node, one by one, the nodes are as many as the objects.
 pub as-many : (s : Spec) (es : List ℕ) (os : Objects) → BelongEach s es os → length es ≡ count os
 as-many s [] none h = refl
 as-many s (e ∷ es) (more o os) h = ap suc (as-many s es os h.1)
@@ -182,6 +186,8 @@ pub record IsSearching (s : Spec) (o : Object) (atom : ℕ) (walk : Walking) (no
   pub within : now.before < sizes objects
   pub same : way_from now.levels now.before objects ≡ way o atom
 
+-- A search without levels, with an object that has the atom waiting, is a search for that atom in
+-- the object.
 pub search-start : (s : Spec) (o : Object) (atom : ℕ) (walk : Walking) (now : Search) → now.levels ≡ [] → now.before ≡ atom → atom < size o → Waits s walk.waiting (more o none) walk.left → IsSearching s o atom walk now
 search-start s o atom walk now l b lt waits = record {
   objects = more o none;
@@ -190,22 +196,28 @@ search-start s o atom walk now l b lt waits = record {
   same = ap (λ z. way_from z now.before (more o none)) l ∙ ap (λ n. way_from [] n (more o none)) b ∙ here-is (size o) atom (way o atom) (way_from [] (atom - size o) none) lt;
 }
 
+-- Where a search passes a visit without finding the atom, it goes on as a search for the same atom.
 pub search-on : (s : Spec) (o : Object) (atom : ℕ) (walk next : Walking) (e : ℕ) (v : Visit) (before now : Search) → walk.system ≡ s → IsVisit walk next e v → HasPassed s e v before now false → IsSearching s o atom walk before → IsSearching s o atom next now
 search-on s o atom walk next e v before now system k passed h =
     let shown : Shows walk.system e k.others h.objects walk.left v next.waiting next.left = k.shows h.objects (subst (λ z. Waits z walk.waiting h.objects walk.left) (sym system) h.waits) in
     let g = passed.on k.others h.objects walk.left next.waiting next.left (subst (λ z. Shows z e k.others h.objects walk.left v next.waiting next.left) system shown) h.within in
     record { objects = g.objects; waits = g.waits; within = g.within; same = sym g.same ∙ h.same }
 
+-- Where a search passes a visit and finds the atom there, the places at its levels are the way to
+-- the atom.
 pub search-found : (s : Spec) (o : Object) (atom : ℕ) (walk next : Walking) (e : ℕ) (v : Visit) (before now : Search) → walk.system ≡ s → IsVisit walk next e v → HasPassed s e v before now true → IsSearching s o atom walk before → places now.levels ≡ way o atom
 search-found s o atom walk next e v before now system k passed h =
     let shown : Shows walk.system e k.others h.objects walk.left v next.waiting next.left = k.shows h.objects (subst (λ z. Waits z walk.waiting h.objects walk.left) (sym system) h.waits) in
     sym (passed.on k.others h.objects walk.left next.waiting next.left (subst (λ z. Shows z e k.others h.objects walk.left v next.waiting next.left) system shown) h.within) ∙ h.same
 
+-- A walk doesn't come to its end while a search in it is going on, as the atom that is searched for
+-- still waits.
 pub never-ends : (s : Spec) (o : Object) (atom : ℕ) (walk next : Walking) (now : Search) → IsEnd walk next → IsSearching s o atom walk now → ⊥
 never-ends s o atom walk next now k h =
     let nothing = nothing-waits s h.objects walk.left (subst (λ es. Waits s es h.objects walk.left) k.nothing h.waits) in
     let none_there : sizes h.objects ≡ 0 = ap sizes nothing.0 in
     let within = h.within in absurd (omega arith)
 
+-- A walk in which a search is going on doesn't come to tokens of no object.
 pub never-without : (s : Spec) (o : Object) (atom : ℕ) (walk next : Walking) (now : Search) → walk.system ≡ s → HasNoObject walk next → IsSearching s o atom walk now → ⊥
 never-without s o atom walk next now system k h = k.never (subst (λ z. AreOf z walk.waiting walk.left) (sym system) (asked s walk.waiting h.objects walk.left h.waits))

@@ -43,6 +43,8 @@ choice-together (suc (suc n)) fs [] e = absurd (omega arith)
 choice-together (suc (suc n)) fs (g ∷ []) e = absurd (omega arith)
 choice-together (suc (suc n)) fs (g ∷ h ∷ gs) e = together (λ ks. Form.Union (parts_from ks) ∷ []) (suc (suc n)) fs (g ∷ h ∷ gs) e
 
+-- The parts from one list of forms joined with those from another are the parts from both lists,
+-- one after the other.
 pub joined-parts : (xs ys : List Form) → joined (parts_from xs) (parts_from ys) ≡ parts_from (xs ++ ys)
 joined-parts [] ys = refl
 joined-parts (x ∷ xs) ys = ap (also x) (joined-parts xs ys)
@@ -59,6 +61,7 @@ map-both : {A B C : Type 0} (f : B → C) (g : A → B) (xs : List A) → map f 
 map-both f g [] = refl
 map-both f g (x ∷ xs) = ap (λ zs. f (g x) ∷ zs) (map-both f g xs)
 
+-- The copies of the parts made from a list of forms are the parts made from the list of copies.
 pub copied-list : (cls : List Bool) (gs : List Form) → copied_each cls (parts_from gs) ≡ parts_from (map (copied cls) gs)
 copied-list cls [] = refl
 copied-list cls (g ∷ gs) = ap (also (copied cls g)) (copied-list cls gs)
@@ -75,17 +78,22 @@ pub are-inside : (n : ℕ) (ps : List ExprId) → ((i part : ℕ) → slice_get 
 are-inside n [] h = tt
 are-inside n (p ∷ ps) h = (h 0 p.0 refl, are-inside n ps (λ i q at. h (suc i) q at))
 
+-- Tasks that copy nodes among the first n name only nodes among the first n.
 pub copies-inside : (n : ℕ) (ps : List ExprId) → AreInside n ps → AllByRecursion (IsInside n) (map task.Copy ps)
 copies-inside n [] h = tt
 copies-inside n (p ∷ ps) h = (h.0, copies-inside n ps h.1)
 
+-- Tasks that point nodes among the first n name only nodes among the first n.
 pub points-inside : (n : ℕ) (ps : List ExprId) → AreInside n ps → AllByRecursion (IsInside n) (map task.Point ps)
 points-inside n [] h = tt
 points-inside n (p ∷ ps) h = (h.0, points-inside n ps h.1)
 
+-- Where some tasks name only nodes among the first n and one more does, so do all of them together.
 pub then-one : (n : ℕ) (ts : List Task) (t : Task) → AllByRecursion (IsInside n) ts → IsInside n t → AllByRecursion (IsInside n) (ts ++ t ∷ [])
 then-one n ts t h k = all-both (IsInside n) ts (t ∷ []) h (k, tt)
 
+-- Where the parts before and the parts themselves are among the first n nodes, so are the nodes
+-- named by the tasks of all alternatives.
 pub alternatives-inside : (n m : ℕ) (nodes : List Bool) (before ps : List ExprId) → AreInside n before → AreInside n ps → AllByRecursion (IsInside n) (alternatives m nodes before ps)
 alternatives-inside n m nodes before [] h k = tt
 alternatives-inside n m nodes before (p ∷ ps) h k =
@@ -128,6 +136,8 @@ alternatives-step n nodes parts i d lt =
     ap (alternatives n nodes (take i parts)) (drop-cons parts i d lt ∙ ap (λ k. get_or parts i d ∷ drop k parts) (sym (add-one i)))
     ∙ ap (λ z. (if answer_at nodes (get_or parts i d).0 then alternative n (take i parts) (get_or parts i d) (drop (i + 1) parts) else []) ++ alternatives n nodes z (drop (i + 1) parts)) (sym (take_more parts i d lt))
 
+-- Where the alternative at part i is added if that part is marked, the tasks so far and the
+-- alternatives from part i + 1 on are all of them.
 pub alternatives-on : (n : ℕ) (nodes : List Bool) (parts : List ExprId) (i : ℕ) (d : ExprId) (old now all : List Task) (mark : Bool) → i < length parts → old ++ alternatives n nodes (take i parts) (drop i parts) ≡ all → mark ≡ answer_at nodes (get_or parts i d).0
     → now ≡ old ++ (if mark then alternative n (take i parts) (get_or parts i d) (drop (i + 1) parts) else []) → now ++ alternatives n nodes (take (i + 1) parts) (drop (i + 1) parts) ≡ all
 alternatives-on n nodes parts i d old now all mark lt e m put =
@@ -140,6 +150,7 @@ pub not-there : (x : Option Form) → false ≡ there x → x ≡ None
 not-there None e = refl
 not-there (Some g) e = absurd (cc)
 
+-- Where the mark of an optional form is true, it is some form g.
 pub is-there : (x : Option Form) → true ≡ there x → (g : Form) × (x ≡ Some g)
 is-there None e = absurd (cc)
 is-there (Some g) e = (g, refl)

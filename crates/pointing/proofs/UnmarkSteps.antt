@@ -59,6 +59,8 @@ pub record IsPlace (s : Spec) (ps : List ℕ) (choice place part : ℕ) : Type 0
   pub marked : is_atomic_node s part ≡ true
   pub before : choice_at (is_atomic_node s) ps place ≡ choice
 
+-- A choice that the code finds by its marks is a choice among the node's parts, where the marks are
+-- those of the nodes and the parts are its parts.
 pub choice-place : (s : Spec) (marks : List Bool) (ps : List ℕ) (parts : List ExprId) (choice place : ℕ) (part : ExprId) → marks ≡ atomic_nodes s → map number parts ≡ ps → IsChoice marks parts choice place part → IsPlace s ps choice place part.0
 choice-place s marks ps parts choice place part e same k = record {
   is_part = ap (λ z. slice_get z place) (sym same) ∙ slice_get-map number parts place ∙ ap (option_map number) k.is_part;
@@ -127,6 +129,8 @@ pub record Parted (s : Spec) (part : ℕ) (os before later : Objects) (a : ℕ) 
   pub tokens : tokens_all os ≡ tokens_all before ++ (tokens_of object ++ tokens_all later)
   pub counted : count os ≡ count before + 1 + count later
 
+-- A sequence that splits at its marked object has its tokens, its number of parts and its atom's
+-- number composed of those before, at and after it.
 pub parted : (s : Spec) {part a : ℕ} {os before later : Objects} {m : Object} → Splits s (is_atomic_node s) part os a before m later → Parted s part os before later a m
 parted s {part} {a} {os} {before} {later} {m} (Splits.here o eo k eb) = record {
   object = o;

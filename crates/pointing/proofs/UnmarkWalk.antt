@@ -25,6 +25,8 @@ pub record IsUnmarking (s p : Spec) (tokens : List Token) (walk : Walking) (now 
   pub asked : AreOf p walk.waiting walk.left
   pub on : (plain : List Token) (atom : ℕ) → AreMarked s plain atom tokens → ReadsTo s p plain atom now walk.waiting walk.left
 
+-- A walk that starts with the tokens of a pointed object, its marked body due and nothing written
+-- reads the object that it came from.
 pub unmarking-start : (s p : Spec) (tokens : List Token) (walk : Walking) (now : Unmarking) (body : ExprId) → p ≡ pointed_spec s → body_of s 0 ≡ Some body.0 → walk.system ≡ p → IsOf p 0 tokens → AreOf p walk.waiting walk.left ↔ IsOf p 0 tokens → ((of : IsOf p 0 tokens) → (walk.waiting ≡ of.body ∷ []) × Waits p walk.waiting (more of.object none) walk.left) → now.dues ≡ due.Marked body ∷ [] → now.written ≡ [] → IsUnmarking s p tokens walk now
 unmarking-start s p tokens walk now body is at system of asked waits a c = record {
   system = system;
@@ -41,6 +43,8 @@ unmarking-start s p tokens walk now body is at system of asked waits a c = recor
       };
 }
 
+-- Where the visit of a node was read, a walk over a marked object that reads what it came from goes
+-- on as such a walk.
 pub unmarking-on : (s p : Spec) (tokens : List Token) (walk next : Walking) (e : ℕ) (v : Visit) (before now : Unmarking) → IsVisit walk next e v → HasRead s p e v before now → IsUnmarking s p tokens walk before → IsUnmarking s p tokens next now
 unmarking-on s p tokens walk next e v before now k read h = record {
   system = k.system ∙ h.system;

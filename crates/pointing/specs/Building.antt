@@ -71,8 +71,7 @@ alternatives n marks before (part ∷ later) =
     ++ alternatives n marks (before ++ part ∷ []) later
 
 -- A task was done, or others put in its place: from any forms, the tasks that are left make the
--- same
--- forms.
+-- same forms.
 pub record IsTaskDone (s : Spec) (classes : List Bool) (done : Task) (left now : List Task)
     (before after : Layout) : Type 0 where
   pub inside : AllByRecursion (IsInside (length s.nodes)) left

@@ -1,8 +1,7 @@
 //! The nodes of the pointed specification, laid out task by task.
 //!
 //! The copy or the pointed form of a node becomes those of its parts, from left to right, and a
-//! task
-//! that puts them together. Nothing recurses over an expression.
+//! task that puts them together. Nothing recurses over an expression.
 ghost use Rattle.std.specs.Prelude.{◌≡◌, ◌+◌, ◌<◌, ◌++◌, ◌∷◌, [], ℕ, List, Some, map, take, drop};
 ghost use Rattle.std.specs.Prelude.{slice_get, length, IfOk, OnOk};
 ghost use Rattle.bz_model.specs.Spec as model;
@@ -135,8 +134,7 @@ fn copy_parts(
 }
 
 /// Lays out the pointed form of an atom or a reference to a class with an atom; that of another
-/// node
-/// becomes those of its parts.
+/// node becomes those of its parts.
 fn point(
     alloc: Global,
     system: &System,

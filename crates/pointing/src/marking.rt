@@ -2,8 +2,7 @@
 //!
 //! Off the way to the atom all tokens stay. On it a pick tells the choice among the parts that have
 //! an atom, a tuple is picked likewise, and a sequence comes apart into what stands before the
-//! marked
-//! part, that part, and what stands after it.
+//! marked part, that part, and what stands after it.
 ghost use Rattle.std.specs.Prelude.{◌≡◌, ℕ, ◌-◌, ◌<◌, ◌++◌, [], ◌∷◌, List, length, option_to_list};
 ghost use Rattle.std.specs.Prelude.{IfOk, OnOk, IfNone};
 ghost use Rattle.bz_model.specs.Spec.{Spec, node_at};

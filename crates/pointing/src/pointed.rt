@@ -52,8 +52,7 @@ pub struct Marked {
 /// marked.
 ///
 /// Refused are labels, then ranges that aren't plain, then a class 0 without an atom, then the
-/// limits
-/// of the pointed specification.
+/// limits of the pointed specification.
 pub fn point(alloc: Global, founded: &Founded) -> Result<Pointed, PointFault>
     ensures system { IfOk result (λ p. p.system ≡ pointed_spec founded.now) }
     ensures pointing { IfOk result (IsPointingOf founded.now) }

@@ -21,6 +21,7 @@ same-is n = go (eqb_tells n n)
     go (inl h) = h.0
     go (inr h) = absurd (h.1 refl)
 
+-- The equality test of two different numbers answers false.
 pub differs-is : (n m : ℕ) → n ≢ m → nat_eq n m ≡ false
 differs-is n m other = go (eqb_tells n m)
   where
@@ -35,6 +36,7 @@ times-itself number = ap (λ b. 0 + one-if b) (same-is number)
 pub times-once-more : (number : ℕ) (xs : List ℕ) → times number (xs ++ number ∷ []) ≡ times number xs + 1
 times-once-more number xs = times-both number xs (number ∷ []) ∙ ap (λ n. times number xs + n) (times-itself number)
 
+-- A number stands n times in a list of n copies of it.
 pub times-replicated : (number n : ℕ) → times number (replicate n number) ≡ n
 times-replicated number zero = refl
 times-replicated number (suc n) =

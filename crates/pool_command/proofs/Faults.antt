@@ -38,6 +38,8 @@ mark-at name tape m e source is = same-mark name tape e ∙ ap (λ o. cond (has_
 abbrev pub AreTold : (endings : ℕ → Ending) (first : ℕ) → List MemberState → Type 0
 AreTold endings first pool = (i : ℕ) (m : MemberState) → slice_get pool i ≡ Some m → (e : Told) × (m.drawing.ending ≡ Some e) × (endings (first + i) ≡ ending_of e)
 
+-- Where all drawings ended as told, over the tapes named, the failed reads of a tape counted from
+-- what is told are those counted in the pool.
 pub fails-alike : (name : List ℕ) (endings : ℕ → Ending) (first : ℕ) (names : List (List ℕ)) (pool : List MemberState) → sources_of pool ≡ map TapeSource.Named names → AreTold endings first pool → failures_from name endings first names ≡ failures name pool
 unfolding failures_from
 fails-alike name endings first [] [] same tell = refl

@@ -61,6 +61,7 @@ few-turns told.ReadFault = omega arith
 pub moments-longer : (source : TapeSource) (failed : Bool) (begun counts later : List ℕ → ℕ) → ((name : List ℕ) → counts name ≤ later name) → AreMoments source failed begun counts → AreMoments source failed begun later
 moments-longer source failed begun counts later grew p = record { before = p.before; now = p.now; since = p.since; until = λ name. let up = p.until name in let more = grew name in omega (arith, up, more); reads = p.reads }
 
+-- A drawing under way stays so at later counts of failed reads, where no count is less than before.
 pub member-longer : (w : Setting) (limits : Limits) (begun counts later : List ℕ → ℕ) (m : MemberState) (most : ℕ) → ((name : List ℕ) → counts name ≤ later name) → IsMemberUnderWay w limits begun counts m most → IsMemberUnderWay w limits begun later m most
 member-longer w limits begun counts later m most grew p = record { so_far = p.so_far; entries = p.entries; labels = p.labels; moments = moments-longer m.tape.source (has_failed m.drawing.ending) begun counts later grew p.moments }
 

@@ -147,6 +147,8 @@ ends-within asks other n before (x ∷ xs) below same =
     now : (a b : ℕ) → a ≡ b → (if nat_eq a (times x before + 1) then x ∷ [] else []) ≡ (if nat_eq b (times x before + 1) then x ∷ [] else [])
     now a b e = ap (λ k. if nat_eq k (times x before + 1) then x ∷ [] else []) e
 
+-- The order in which n drawings end by a schedule depends only on how often each of them is asked,
+-- where n is at least 1.
 pub order-alike : (asks other : ℕ → ℕ) (n : ℕ) (bytes : List ℕ) → 1 ≤ n → ((i : ℕ) → i < n → other i ≡ asks i) → order_of other n bytes ≡ order_of asks n bytes
 order-alike asks other n bytes some same =
     ap (ends_in other []) (asked-alike asks other (named n bytes) n same)
@@ -179,5 +181,7 @@ one-carried f file x schedule tapes limits F some calm =
     (λ base. one-read f schedule 1048576 (PoolDrawn (pool_of (setting s x.num x.den F) base (limits_of limits)) f tapes) calm.1.0
     (λ bytes. one-pool (pool_of (setting s x.num x.den F) base (limits_of limits)) f tapes some calm.1.1 bytes)))
 
+-- With calm files and no failed write, the pool command on at least one tape ends with its one
+-- outcome, written whole, or for want of memory.
 pub exact : (f : Files) (file : List ℕ) (x : Fraction) (schedule : List ℕ) (tapes : List (List ℕ)) (limits : Limits) (F : ℕ) → 1 ≤ length tapes → (b a : Option (List ℕ)) (fb fa tb ta : ℕ) (result : Status) → EndsBy (CarriesPool f file x schedule tapes limits F) (output b a fb fa tb ta) result → (status : Status) (text : List ℕ) (ticks : ℕ) → AreCalm f (file ∷ schedule ∷ tapes) → CarriesPool f file x schedule tapes limits F status text ticks → status ≢ Status.OutOfMemory → ¬ (Rose fb fa) → (result ≡ Status.OutOfMemory) ⊎ ((result ≡ status) × Appends b a text)
 exact f file x schedule tapes limits F some b a fb fa tb ta result h status text ticks calm p memory fine = endings.exact (CarriesPool f file x schedule tapes limits F) (output b a fb fa tb ta) result status text ticks (one-carried f file x schedule tapes limits F some calm) h p memory fine

@@ -114,9 +114,12 @@ asked-more asked n x = append_assoc asked (replicate n x) (x ∷ []) ∙ ap (λ 
 abbrev pub Finishing : (b : Beginning) (asked : List ℕ) (n : Moment) (order : List ℕ) (number : ℕ) → Type 0
 Finishing b asked n order number = (more : ℕ) × IsUnderWay b (asked ++ replicate more number) n order × (IsSome (ending_at n.pool number) → asked_by n.pool number - times number asked ≡ more)
 
+-- A drawing of a pool under way is one asked until it ends, with no further turn asked yet.
 pub finish-start : (b : Beginning) (asked : List ℕ) (n : Moment) (order : List ℕ) (number : ℕ) → IsUnderWay b asked n order → Finishing b asked n order number
 finish-start b asked n order number p = (0, subst (λ a. IsUnderWay b a n order) (sym (append-nil asked)) p, λ some. let few = ended-asked b asked n p.so_far number in omega (arith, few))
 
+-- A drawing that is being asked until it ends, and goes on, is so still after it is asked once
+-- more, with that turn counted.
 pub finish-more : (b : Beginning) (asked : List ℕ) (old new : Moment) (order later : List ℕ) (number : ℕ) → (f : Finishing b asked old order number) → IsAsked old.pool number new.pool → IsUnderWay b ((asked ++ replicate f.0 number) ++ number ∷ []) new later → number < length old.pool → ending_at old.pool number ≡ None → Finishing b asked new later number
 finish-more b asked old new order later number f h q within going = (
   suc f.0,
@@ -128,6 +131,8 @@ finish-more b asked old new order later number f h q within going = (
       omega (arith, last, both, many),
 )
 
+-- Once the drawing that is asked until it ends has ended, the pool is under way with that drawing
+-- asked, in all, as often as its ending took.
 pub finish-end : (b : Beginning) (asked : List ℕ) (n : Moment) (order : List ℕ) (number : ℕ) → Finishing b asked n order number → IsSome (ending_at n.pool number) → IsUnderWay b (asked ++ replicate (asked_by n.pool number - times number asked) number) n order
 finish-end b asked n order number f some = subst (λ k. IsUnderWay b (asked ++ replicate k number) n order) (sym (f.2 some)) f.1
 
@@ -161,6 +166,7 @@ asked-next : (asks : ℕ → ℕ) (asked : List ℕ) (n : ℕ) → all_asked ask
 unfolding all_asked
 asked-next asks asked n = refl
 
+-- With none of the drawings asked beyond a list, the drawings asked are those of the list.
 pub asked-none : (asks : ℕ → ℕ) (asked : List ℕ) → all_asked asks asked 0 ≡ asked
 unfolding all_asked
 asked-none asks asked = refl
@@ -174,6 +180,8 @@ all-more b asked pool new later number h q =
     ∙ sym (asked-next (asked_by new.pool) asked number)
     ∙ ap (all_asked (asked_by new.pool) asked) (let one : suc number ≡ number + 1 = omega arith in one)) q
 
+-- If all drawings before a number have ended and that one is asked until it ends, all drawings up
+-- to it have ended.
 pub ended-more : (pool later : List MemberState) (number : ℕ) → IsFinished pool number later → ((i : ℕ) → i < number → IsSome (ending_at pool i)) → (i : ℕ) → i < number + 1 → IsSome (ending_at later i)
 ended-more pool later number h before i few = go (eqb_tells i number)
   where
@@ -193,6 +201,7 @@ going-at pool number e told is = go (slice_get pool number) told e is
     go None l f k = refl
     go (Some m) l f k = sym l ∙ none-is e k
 
+-- A drawing of the pool of which an ending is told has ended.
 pub ended-at : (pool : List MemberState) (number : ℕ) (e : Option Told) → IfSome (slice_get pool number) (λ m. e ≡ m.drawing.ending) → number < length pool → is_none e ≡ false → IsSome (ending_at pool number)
 ended-at pool number e told within is = go (slice_get pool number) refl told e refl is
   where

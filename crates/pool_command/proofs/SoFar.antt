@@ -174,12 +174,15 @@ six-levels raised bits now six few is = omega (arith, six, few, is)
 pub contents-kept : {S : Type 0} (contents : S → List ℕ → Option (List ℕ)) (counts : S → List ℕ → ℕ) (before now : S) (o later : Option MemberState) (m n : MemberState) → o ≡ Some m → later ≡ Some n → LeavesTapeOf contents counts before now o later → contents now ≡ contents before
 contents-kept contents counts before now o later m n at later_at left = (subst (λ z. LeavesTapeOf contents counts before now (Some m) z) later_at (subst (λ z. LeavesTapeOf contents counts before now z later) at left)).content
 
+-- After a turn of a pool the drawing of the turn's number is the new one.
 pub later-at : (w : Setting) (before now : List ℕ → ℕ) (pool later : List MemberState) (number : ℕ) (pooled : Pooled) (h : IsPoolTurn w.spec w.x w.F w.table w.contents before now pool number pooled later) → slice_get later number ≡ Some h.new_member
 later-at w before now pool later number pooled h = ap (λ ms. slice_get ms number) h.others ∙ replaced-here pool number h.old_member h.new_member h.at
 
+-- An answer that a drawing goes on is not one that memory ran out.
 pub going-made : pooled.Going ≢ pooled.OutOfMemory
 going-made e = absurd (cc)
 
+-- An answer that a drawing is finished is not one that memory ran out.
 pub finished-made : pooled.Finished ≢ pooled.OutOfMemory
 finished-made e = absurd (cc)
 

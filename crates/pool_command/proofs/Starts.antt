@@ -71,11 +71,13 @@ pub sources-of-tapes : (names : List (List ℕ)) → map (λ (t : TapeState). t.
 sources-of-tapes [] = refl
 sources-of-tapes (n ∷ names) = ap (λ ss. TapeSource.Named n ∷ ss) (sources-of-tapes names)
 
+-- No bit of the tapes over given names has been used at the start.
 pub tapes-unused : (names : List (List ℕ)) → All (λ tape. tape.used ≡ 0) (map tape_over names)
 tapes-unused [] k d lt = absurd (omega (arith, lt))
 tapes-unused (n ∷ names) zero d lt = refl
 tapes-unused (n ∷ names) (suc k) d lt = tapes-unused names k d (omega (arith, lt))
 
+-- The tapes over given names, before any bit is used, all belong to the contents of the files.
 pub tapes-belong : (contents : List ℕ → Option (List ℕ)) (names : List (List ℕ)) → All (Belongs contents) (map tape_over names)
 tapes-belong contents [] k d lt = absurd (omega (arith, lt))
 tapes-belong contents (n ∷ names) zero d lt = belongs_new contents (TapeSource.Named n) 0

@@ -31,6 +31,8 @@ use Rattle.rank_commands.specs.Fit as fits
 use Rattle.rank_commands.proofs.OneStage.{labelled-only, ranged-only, plain-only, many-only, fits-only}
 use Rattle.rank_commands.proofs.OneOutcome.{one-count, one-unrank, one-rank}
 
+-- Where the specification can be counted up to a greatest size, the command is done and prints the
+-- counts of the first class, unless memory runs out.
 pub counted : (f : Files) (file : List ℕ) (s : Spec) (most : ℕ) (count : ℕ → ℕ) (status : Status) (text : List ℕ) (ticks : ℕ) → HasSpecification f file s → CanBeCounted s most → AreCountsTo s most count → status ≢ Status.OutOfMemory → CarriesCount f file most status text ticks → (status ≡ Status.Done) × (text ≡ counts_text count most)
 counted f file s most count status text ticks fit can are memory h =
     let shown : CarriesCount f file most Status.Done (counts_text count most) 0 = specified-on f file s (CountedTo most) Status.Done (counts_text count most) 0 fit (stages.plain can.unlabelled can.plain (stages.counted can.small (counts.printed count are (said Status.Done (counts_text count most))))) in

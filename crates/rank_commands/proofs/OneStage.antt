@@ -118,8 +118,11 @@ module _ (s : Spec) (next : Outcome) (status other : Status) (text others : List
 pub one-rankable : (s : Spec) (next : Outcome) → (s.mode ≡ Mode.Unlabelled → HasPlainRanges s → IsOne next) → IsOne (Rankable s next)
 one-rankable s next ones = record { one = λ status other text others ticks more m n p q. rankable-twice s next status other text others ticks more m n ones p q }
 
+-- Counting objects up to a greatest size has one outcome, but for want of memory, where what
+-- follows has one.
 pub one-counted : (s : Spec) (most : ℕ) (next : Outcome) → IsOne next → IsOne (Counted s most next)
 one-counted s most next ones = record { one = λ status other text others ticks more m n p q. counted-twice s next status other text others ticks more m n most ones p q }
 
+-- Judging an object's size has one outcome, but for want of memory, where what follows has one.
 pub one-sized : (s : Spec) (tokens : List Token) (next : Outcome) → IsOne next → IsOne (SizeJudged tokens next)
 one-sized s tokens next ones = record { one = λ status other text others ticks more m n p q. size-twice s next status other text others ticks more m n tokens ones p q }

@@ -84,6 +84,7 @@ module _ (s : Spec) (status : Status) (text : List ℕ) (ticks : ℕ) where
 pub read_object : (s : Spec) (text : List ℕ) (tokens : List Token) (labels : Option (List ℕ)) → IsRead s 0 text tokens labels → IsOf s 0 tokens
 read_object s text tokens labels is = record { body = is.body; is_body = is.is_body; object = is.object; belongs = is.canonical.read.belongs; spelled = is.spelled }
 
+-- The tokens read from an object's file are those of an object of the specification's first class.
 pub object_in : (content : List ℕ → Option (List ℕ)) (s : Spec) (file : List ℕ) (tokens : List Token) (labels : Option (List ℕ)) → IsObjectIn content s file tokens labels → IsOf s 0 tokens
 object_in content s file tokens labels h = read_object s _ tokens labels h.is_read
 

@@ -23,8 +23,7 @@ ghost use Rattle.rank_commands.specs.Fit.{CanBeCounted, IsTextIn, ComesOf};
 use object_text::laws::what_was_printed_is_read;
 
 /// Where its files are known and no read of them failed, a command has one status with one text,
-/// but for
-/// out of memory.
+/// but for out of memory.
 pub fn each_command_has_one_outcome()
     ensures count { (f : Files) (file : List ℕ) (n : ℕ) → IsCalm f file
         → IsOne (CarriesCount f file n) }
@@ -87,8 +86,7 @@ pub fn what_can_be_counted_is_counted()
 {}
 
 /// Where the objects of the size can be counted, `unrank` has no other answer than the text of the
-/// object
-/// of the rank, or that there is none.
+/// object of the rank, or that there is none.
 pub fn what_has_a_rank_is_printed()
     ensures printed { (f : Files) (file : List ℕ) (s : Spec) (n r body : ℕ) (o : Object)
         (belongs : Belongs s body o) (status : Status) (text : List ℕ) (ticks : ℕ)
@@ -105,8 +103,8 @@ pub fn what_has_a_rank_is_printed()
 {}
 
 /// Where the objects of its size can be counted, `rank` has no other answer to the text of an
-/// object of the
-/// first class than its rank and the count; and where it is too large, than that it is.
+/// object of the first class than its rank and the count; and where it is too large, than that it
+/// is.
 pub fn what_is_read_is_ranked()
     ensures ranked { (f : Files) (file object : List ℕ) (s : Spec) (body count r : ℕ) (o : Object)
         (belongs : Belongs s body o) (status : Status) (text : List ℕ) (ticks : ℕ)

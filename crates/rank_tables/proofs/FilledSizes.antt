@@ -83,6 +83,8 @@ all-counts s unlabelled plain laid_out rankable rows tails most sizes is h = rec
     exact-row a b (inl e) lt = sym e
     exact-row a b (inr k) lt = absurd (let l = k.1 in omega arith)
 
+-- Where the grids of a laid out, rankable specification are filled for all sizes up to most, each
+-- count up to there is below 2^128.
 pub all-small : (s : Spec) → IsLaidOut s → IsRankable s → (rows tails : Cells) (most sizes : ℕ) → sizes ≡ suc most → AreFilled s rows tails sizes sizes → HasSmallCounts s most
 all-small s laid_out rankable rows tails most sizes is h = settled-small s most (number_at rows) laid_out rankable (h.filled.settled most (omega arith)) (λ e n inside le. h.filled.small e n inside (omega arith))
 

@@ -19,6 +19,7 @@ use Rattle.rank_tables.proofs.Suffixes.{nothing-before, last-tuples, suffixes-dr
 use Rattle.rank_tables.proofs.SumTerms.{shifted}
 use Rattle.rank_tables.proofs.Visited.{sizes-told}
 
+-- The sizes of tasks that fit a list of parts and a size n add up to n.
 pub tasks-whole : (t : ℕ → ℕ → ℕ) (es : List ℕ) (n : ℕ) (tasks : List Told) → AreTasks t es n tasks → whole_size tasks ≡ n
 tasks-whole t [] n [] h = sym h
 tasks-whole t (e ∷ es) n (p ∷ ps) h = let a = h.0 in let b = tasks-whole t es (n - p.size) ps h.2 in omega arith
@@ -96,6 +97,8 @@ tuple-start t ps n r small = record {
   whole = λ s us h. subst (λ qs. AreTupleTasks s t qs n r us) (drop-none ps) h;
 }
 
+-- One object more, told by a split of what is left, keeps the state of a tuple being taken apart,
+-- and moves it on by one part.
 pub tuple-further : (t : ℕ → ℕ → ℕ) (ps : List ℕ) (n r i left rest : ℕ) (tasks : List Task) (task : Task) (split : Split) → TupleSoFar t ps n r i left rest tasks → drop i ps ≡ task.node.0 ∷ drop (suc i) ps → task.size ≡ split.first → task.number ≡ split.place → IsSplit (t task.node.0) (tuples t (drop (suc i) ps)) left rest split → TupleSoFar t ps n r (suc i) (left - task.size) split.rest (tasks ++ task ∷ [])
 tuple-further t ps n r i left rest tasks task split from is first at_place k = record {
   fits = let f = from.fits in omega arith;
@@ -154,6 +157,8 @@ length-one : (xs : List Task) (x : Task) → length (xs ++ x ∷ []) ≡ suc (le
 length-one [] x = refl
 length-one (y ∷ xs) x = ap suc (length-one xs x)
 
+-- One object more, told by a split of what is left, keeps the state of a list being taken apart,
+-- where its part has no object of size 0.
 pub list-further : (t : ℕ → ℕ → ℕ) (e n r left rest : ℕ) (tasks : List Task) (task : Task) (split : Split) → ListSoFar t e task.node.0 n r left rest tasks → t task.node.0 0 ≡ 0 → task.size ≡ split.first → task.number ≡ split.place → IsSplit (t task.node.0) (t e) left rest split → ListSoFar t e task.node.0 n r (left - task.size) split.rest (tasks ++ task ∷ [])
 list-further t e n r left rest tasks task split from none_there first at_place k = record {
   few = let f = from.few in let some = first-some t task.node.0 split.place split.first none_there k.small in let w = k.within in let l = length-one tasks task in omega arith;

@@ -28,9 +28,11 @@ use Rattle.rank_tables.proofs.NodeCounts.{SizedAt, SizedEach, SizedAll, as-picks
 use Rattle.rank_tables.proofs.Order.{not-before_itself}
 use Rattle.rank_tables.proofs.Table.{has-sequence, list_of}
 
+-- If P has a count that equals b, then exactly b elements have the property P.
 pub exact : {A : Type 0} (P : A → Type 0) {b : ℕ} → CountsAs (λ a b. a ≡ b) P b → HasCount P b
 exact P c = subst (HasCount P) c.related c.counted
 
+-- If exactly b elements have the property P, then P has a count that equals b.
 pub counted-as : {A : Type 0} (P : A → Type 0) {b : ℕ} → HasCount P b → CountsAs (λ a b. a ≡ b) P b
 counted-as P {b} c = record { number = b; counted = c; related = refl }
 

@@ -10,9 +10,11 @@ use Rattle.well_founded.proofs.Refused.{zero_part-unfounded}
 use Rattle.rank_tables.specs.TableRule.{IsRankableNode, IsRankable}
 use Rattle.rank_tables.specs.Refusals.{HasPlainRanges}
 
+-- The unlabelled mode isn't the labelled one.
 pub two-modes : Mode.Unlabelled ≢ Mode.Labelled
 two-modes e = absurd (cc)
 
+-- A sound, well-founded, unlabelled specification with plain ranges alone can be ranked.
 pub rankable : (s : Spec) → IsSound s → IsWellFounded s → s.mode ≡ Mode.Unlabelled → HasPlainRanges s → IsRankable s
 rankable s sound founded mode plain = record { nodes = nodes; parts = parts }
   where

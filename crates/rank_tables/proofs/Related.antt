@@ -27,9 +27,12 @@ pub record CountsAs (Rel : ℕ → ℕ → Type 0) {A : Type 0} (P : A → Type 
   pub counted : HasCount P number
   pub related : Rel number b
 
+-- A count related to b passes from a property to any other that it implies and that implies it.
 pub as-same : (Rel : ℕ → ℕ → Type 0) {A : Type 0} (P Q : A → Type 0) {b : ℕ} → ((a : A) → P a → Q a) → ((a : A) → Q a → P a) → CountsAs Rel P b → CountsAs Rel Q b
 as-same Rel P Q into back c = record { number = c.number; counted = count-same P Q into back c.counted; related = c.related }
 
+-- A map from P onto Q that is injective on P takes a count of P related to b to a count of Q
+-- related to b.
 pub as-along : (Rel : ℕ → ℕ → Type 0) {A B : Type 0} (f : A → B) (P : A → Type 0) (Q : B → Type 0) {b : ℕ} → ((a : A) → P a → Q (f a)) → ((a b : A) → P a → P b → f a ≡ f b → a ≡ b) → ((b : B) → Q b → (a : A) × P a × (b ≡ f a)) → CountsAs Rel P b → CountsAs Rel Q b
 as-along Rel f P Q into same onto c = record { number = c.number; counted = count-along f P Q into same onto c.counted; related = c.related }
 

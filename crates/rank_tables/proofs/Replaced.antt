@@ -182,6 +182,8 @@ under_way-on s bound t root task before after old new from k = record {
         same : ts ≡ d.first ++ d.rest → old ++ ((k.tokens ++ d.first) ++ d.rest) ≡ new ++ ts
         same e = ap (λ z. old ++ z) (append_assoc k.tokens d.first d.rest) ∙ sym (append_assoc old k.tokens (d.first ++ d.rest)) ∙ ap (λ z. (old ++ k.tokens) ++ z) (sym e) ∙ ap (λ z. z ++ ts) (sym k.written)
 
+-- When no task waits any more, the tokens written are those of an object that fulfils the first
+-- task.
 pub under_way-end : (s : Spec) (bound : ℕ) (t : ℕ → ℕ → ℕ) (root : Task) (tasks : List Task) (tokens : List Token) → tasks ≡ [] → IsUnderWay s bound t root tasks tokens → Fulfils s t root tokens
 under_way-end s bound t root tasks tokens is h = subst (Fulfils s t root) (append-nil tokens) (h.makes [] (subst (λ z. FulfilEach s t z []) (sym is) done))
 
@@ -194,6 +196,8 @@ union-found s counts tails task parts options found counted can at same h =
     (h (subst (λ z. task.number < sum_by (λ p. number_at counts p task.size) (map number z)) (sym same)
     (let row = counted.rows task.node.0 task.size (Node.Union (map number parts)) can.fits at in let lt = can.small in omega arith)))
 
+-- Where a number is found in one of a union's parts, the option found is below the number of
+-- options.
 pub found-inside : (f : ℕ → ℕ) (parts options : List ExprId) (r : ℕ) (found : Found) → options ≡ parts → IsFound f (map number parts) r found → found.option < length options
 found-inside f parts options r found same k =
     let lt = slice_get_within (map number parts) found.option k.part k.is_part in

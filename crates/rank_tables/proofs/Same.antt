@@ -29,6 +29,8 @@ pub record Agree (t u : ℕ → ℕ → ℕ) (g h : Cells) (n p : ℕ) : Type 0 
   pub rows : (m : ℕ) → m ≤ n → t p m ≡ u p m
   pub tail : cell h p n ≡ cell g p n
 
+-- Where the numbers up to n and the tail cells at n of all parts agree, tails that are right by one
+-- table are right by the other.
 pub suffixes-same : (t u : ℕ → ℕ → ℕ) (g h : Cells) (parts : List ℕ) (n : ℕ) → AllByRecursion (Agree t u g h n) parts → AreSuffixes t g parts n → AreSuffixes u h parts n
 suffixes-same t u g h [] n same k = tt
 suffixes-same t u g h (p ∷ ps) n same k = (
@@ -36,6 +38,7 @@ suffixes-same t u g h (p ∷ ps) n same k = (
   suffixes-same t u g h ps n same.1 k.1,
 )
 
+-- What holds of every number holds of all elements of a list.
 pub all-of : {P : ℕ → Type 0} → ((p : ℕ) → P p) → (xs : List ℕ) → AllByRecursion P xs
 all-of h [] = tt
 all-of h (x ∷ xs) = (h x, all-of h xs)

@@ -29,6 +29,8 @@ none-number zero c = refl
 none-number (suc k) zero = refl
 none-number (suc k) (suc c) = none-number k c
 
+-- At the start, when every class has the number 0 at size n, these numbers are reached, by empty
+-- lists of objects.
 pub none-reached : (s : Spec) (n k : ℕ) (classes : List (Option ℕ)) → classes ≡ replicate k (Some 0) → AreReachedAt s n (class_number classes)
 none-reached s n k classes is = subst (λ z. AreReachedAt s n (class_number z)) (sym is) (record {
   list = λ c. [];

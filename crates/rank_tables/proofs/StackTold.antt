@@ -152,6 +152,8 @@ tuple-on counts tails parts objects i e d rest whole some le long k tells others
     (ap (λ z. drop z (map number parts)) (sym (add-one (i - 1))) ∙ drop-at (i - 1 + 1) e parts (omega arith)) tells
     (subst (λ z. TupleTold (number_at counts) (drop z (map number parts)) (drop z objects) rest) (let q : i ≡ suc (i - 1) = omega arith in q) others)))
 
+-- One object more in front of the last ones of a list: the joined size and place tell the list from
+-- object i - 1 on.
 pub list-on : (counts : Cells) (e part : ℕ) (objects : List Placed) (i : ℕ) (d rest whole : Placed) → 0 < i → i ≤ length objects → IsJoined counts part counts e (get_or objects (i - 1) d) rest whole → ListTold (number_at counts) e part (drop i objects) rest → ListTold (number_at counts) e part (drop (i - 1) objects) whole
 list-on counts e part objects i d rest whole some le k others =
     subst (λ xs. ListTold (number_at counts) e part xs whole) (sym (drop-here objects (i - 1) d (omega arith)))
@@ -165,12 +167,14 @@ first-parts n zero (x ∷ xs) h = tt
 first-parts n (suc k) [] h = tt
 first-parts n (suc k) (x ∷ xs) h = (h.0, first-parts n k xs h.1)
 
+-- Taking the first k parts and then their numbers is the same as taking the first k of the numbers.
 pub map-take : (k : ℕ) (xs : List ExprId) → map number (take k xs) ≡ take k (map number xs)
 map-take zero [] = refl
 map-take zero (x ∷ xs) = refl
 map-take (suc k) [] = refl
 map-take (suc k) (x ∷ xs) = ap (λ z. x.0 ∷ z) (map-take k xs)
 
+-- Dropping no element leaves a list of steps as it is.
 pub drop-no_step : (xs : List Step) → drop 0 xs ≡ xs
 drop-no_step [] = refl
 drop-no_step (x ∷ xs) = refl

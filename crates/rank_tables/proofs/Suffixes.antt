@@ -30,6 +30,7 @@ nothing-before f n (suc k) le =
     let q : f k * 0 ≡ 0 = omega arith in
     omega arith
 
+-- Tuples of a single part p of size n are as many as the objects of p of that size.
 pub last-tuples : (t : ℕ → ℕ → ℕ) (p n : ℕ) → tuples t (p ∷ []) n ≡ t p n
 last-tuples t p n =
     let e = nothing-before (t p) n n (omega arith) in
@@ -43,6 +44,8 @@ pub suffixes-kept : (t : ℕ → ℕ → ℕ) (old now : Cells) (parts : List �
 suffixes-kept t old now [] n same h = tt
 suffixes-kept t old now (p ∷ parts) n same h = (subst (λ v. Tells v (tuples t (p ∷ parts) n)) (sym same.0) h.0, suffixes-kept t old now parts n same.1 h.1)
 
+-- Where the tail numbers of a list of parts are right at size m, so are those of the parts that are
+-- left after dropping k.
 pub suffixes-drop : (t : ℕ → ℕ → ℕ) (g : Cells) (k m : ℕ) (parts : List ℕ) → AreSuffixes t g parts m → AreSuffixes t g (drop k parts) m
 suffixes-drop t g zero m [] h = tt
 suffixes-drop t g zero m (p ∷ parts) h = h
@@ -88,6 +91,7 @@ set-more t old mid new parts i n p v from is apart fits nodes sizes here others 
     a_part : IsOneOf parts p
     a_part = drop-member i parts p (subst (λ z. IsOneOf z p) (sym is) (inl refl))
 
+-- Taking the number of each part leaves the length of a list of parts as it is.
 pub mapped-length : (parts : List ExprId) → length (map number parts) ≡ length parts
 mapped-length [] = refl
 mapped-length (p ∷ parts) = ap suc (mapped-length parts)
@@ -99,6 +103,7 @@ drop-at zero d (p ∷ []) lt = refl
 drop-at zero d (p ∷ q ∷ parts) lt = refl
 drop-at (suc k) d (p ∷ parts) lt = drop-at k d parts (let e : length (p ∷ parts) ≡ suc (length parts) = refl in omega arith)
 
+-- Dropping k parts from a list of at most k leaves nothing.
 pub drop-end : (k : ℕ) (parts : List ExprId) → length parts ≤ k → drop k (map number parts) ≡ []
 drop-end zero [] le = refl
 drop-end (suc k) [] le = refl
@@ -109,5 +114,7 @@ drop-end (suc k) (p ∷ parts) le = drop-end k parts (let e : length (p ∷ part
 pub tells-more : (rows old mid : Cells) (parts rest : List ℕ) (k n p q : ℕ) (v : Option ℕ) → SetFrom (number_at rows) old mid parts k n → n < old.sizes → ((m : ℕ) → m < n → AreSuffixes (number_at rows) old parts m) → drop k parts ≡ q ∷ rest → ((f g : ℕ → ℕ) → TellRow rows p n f → TellRow mid q n g → Tells v (sum_below (suc n) (λ j. f j * g (n - j)))) → Tells v (tuples (number_at rows) (p ∷ drop k parts) n)
 tells-more rows old mid parts rest k n p q v from fits lesser is sum = subst (λ z. Tells v (tuples (number_at rows) (p ∷ z) n)) (sym is) (sum (number_at rows p) (tuples (number_at rows) (q ∷ rest)) (λ j le. tells-itself (cell rows p j)) (next-row (number_at rows) old mid parts rest k n q from fits lesser is))
 
+-- Where no part stands behind part p, the number of p at size n tells the number of tuples of p
+-- alone.
 pub tells-last : (rows : Cells) (behind : List ℕ) (n p : ℕ) (v : Option ℕ) → behind ≡ [] → v ≡ cell rows p n → Tells v (tuples (number_at rows) (p ∷ behind) n)
 tells-last rows behind n p v is e = subst (λ z. Tells v (tuples (number_at rows) (p ∷ z) n)) (sym is) (subst (Tells v) (sym (last-tuples (number_at rows) p n)) (subst (λ z. Tells z (number_at rows p n)) (sym e) (tells-itself (cell rows p n))))

@@ -37,6 +37,7 @@ take-sum f (y ∷ xs) (suc i) x is =
     let h = take-sum f xs i x is in
     omega arith
 
+-- Taking k elements of a list of at most k gives the whole list.
 pub take-whole : (xs : List ℕ) (k : ℕ) → length xs ≤ k → take k xs ≡ xs
 take-whole [] zero le = refl
 take-whole [] (suc k) le = refl

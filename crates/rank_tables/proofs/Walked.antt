@@ -24,6 +24,7 @@ pub record IsWalked (s : Spec) (body : ℕ) (o : Object) (walk : Walking) (steps
   pub waits : Waits s walk.waiting objects walk.left
   pub whole : (vs : List Visit) → AreVisits s walk.waiting objects vs → AreVisits s (body ∷ []) (more o none) (map visit_of steps ++ vs)
 
+-- A walk that starts with an object's body waiting and no steps taken is a walk over that object.
 pub walked-start : (s : Spec) (body : ℕ) (o : Object) (walk : Walking) → walk.system ≡ s → walk.waiting ≡ body ∷ [] → Waits s walk.waiting (more o none) walk.left → IsWalked s body o walk []
 walked-start s body o walk system waiting waits = record { system = system; objects = more o none; waits = waits; whole = λ vs h. subst (λ es. AreVisits s es (more o none) vs) waiting h }
 

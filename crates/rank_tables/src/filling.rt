@@ -1,9 +1,8 @@
 //! The filling of a table: passes from zero at each size.
 //!
 //! At one size the classes begin with no object. A pass computes the numbers of all nodes from
-//! those
-//! of the classes, and the numbers of the classes' bodies are the next ones of the classes. A pass
-//! that changes nothing ends the size. This is Kleene iteration for counts.
+//! those of the classes, and the numbers of the classes' bodies are the next ones of the classes. A
+//! pass that changes nothing ends the size. This is Kleene iteration for counts.
 ghost use Rattle.std.specs.Prelude.{◌≡◌, ◌≢◌, ℕ, ◌+◌, ◌^◌, ◌<◌, ◌≤◌, ◌⊎◌, length, replicate};
 ghost use Rattle.std.specs.Prelude.{slice_get, Some, IfSome, IfNone, IfOk, IfErr, OnOk};
 ghost use Rattle.std.specs.Bool.{OnFalse};

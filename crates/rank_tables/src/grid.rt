@@ -186,8 +186,7 @@ impl Grid {
     }
 
     /// Sets, for each part of a product, the number at size n of the lists of one object of this
-    /// part
-    /// and of each part behind it, from the last part on. Takes no memory.
+    /// part and of each part behind it, from the last part on. Takes no memory.
     pub fn set_suffixes(&mut self, rows: &Grid, parts: &[ExprId], n: usize)
         requires nodes { self.old.nodes ≡ rows.now.nodes }
         requires size { n < rows.now.sizes }

@@ -63,8 +63,7 @@ pub fn split_number(
 }
 
 /// The number of a first object of a size, and that of the rest, where each first object has so
-/// many
-/// rests. A number of rests that passes is above every number.
+/// many rests. A number of rests that passes is above every number.
 fn divide(first: usize, number: u128, rests: Option<u128>) -> Split
     ensures first { result.first ≡ first }
     ensures divided { (a b : ℕ) → Tells rests b → number < a * b → (result.place < a)

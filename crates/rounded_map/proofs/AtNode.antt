@@ -49,6 +49,7 @@ node_results-at result before (pair ∷ pairs) (suc i) k n r place at =
     let longer : length (before ++ v ∷ []) ≡ length before + 1 = length-append before (v ∷ []) in
     node_results-at result (before ++ v ∷ []) pairs i k n r (omega arith) at
 
+-- The result at a node is made from the results for the nodes before it, the node and its range.
 pub result-at : {V : Type 0} (result : List V → Node → Range → V) (s : Spec) (e : ℕ) (n : Node) (r : Range) → node_at s e ≡ Some n → range_at s e ≡ Some r → slice_get (node_results result [] (ranged_nodes s)) e ≡ Some (result (take e (node_results result [] (ranged_nodes s))) n r)
 result-at result s e n r at_n at_r = node_results-at result [] (ranged_nodes s) e e n r (omega arith) (zip-at s.nodes s.ranges e n r at_n at_r)
 

@@ -60,6 +60,8 @@ pub record IsBodyWithin (vs : List (Option ℕ)) (classes : List ℕ) (c body : 
   pub is_there : value_at vs body ≡ Some value
   pub within : value ≤ slice_index classes c
 
+-- Where the bodies' values are no greater than the entries, each class's body has a value, at most
+-- the class's entry.
 pub body-within : (vs : List (Option ℕ)) (bodies classes : List ℕ) → AreNoGreater (map (value_at vs) bodies) (map Some classes) → (c body : ℕ) → slice_get bodies c ≡ Some body → IsBodyWithin vs classes c body
 body-within vs [] classes each c body at = absurd (omega (arith, slice_get_within [] c body at))
 body-within vs (b ∷ bodies) [] each c body at = absurd each
@@ -132,6 +134,7 @@ zero-at (suc m) (suc c) = zero-at m c
 abbrev pub lower_sweeps : (s : Spec) (x : Fraction) (F n : ℕ) → List ℕ
 lower_sweeps s x F n = repeated (sweep_down (setting s x.num x.den F)) n (replicate (length s.bodies) 0)
 
+-- Any number of lower sweeps from zeros leaves one entry for each class.
 pub length-lower_sweeps : (t : Setting) (n : ℕ) → length (repeated (sweep_down t) n (replicate (length t.spec.bodies) 0)) ≡ length t.spec.bodies
 length-lower_sweeps t zero = length-replicate (length t.spec.bodies) 0
 length-lower_sweeps t (suc n) =
@@ -171,25 +174,35 @@ post_fixed-found t classes values bodies values_are bodies_are h = record {
 at_least_one : (d : ℕ) → 1 ≤ d → max d 1 ≡ d
 at_least_one d h = omega arith
 
+-- In a sound specification, the entries after any number of lower sweeps from zeros are lower
+-- bounds of their classes.
 pub sweeps-reached-at : (s : Spec) (num den F n : ℕ) → IsSound s → 1 ≤ den → AreBelow s (ratio num den) F (repeated (sweep_down (setting s num den F)) n (replicate (length s.bodies) 0))
 sweeps-reached-at s num den F n sound positive =
     subst (λ d. AreBelow s (ratio num den) F (repeated (sweep_down (setting s num d F)) n (replicate (length s.bodies) 0))) (at_least_one den positive) (sweeps-reached s (ratio num den) F sound n)
 
+-- In a sound specification, the lower values from entries that are lower bounds of their classes
+-- bound each node from below.
 pub values-below-at : (s : Spec) (num den F : ℕ) (classes values : List ℕ) → IsSound s → 1 ≤ den → values ≡ values_down (setting s num den F) classes → AreBelow s (ratio num den) F classes → ValuesBelow s (ratio num den) F values
 values-below-at s num den F classes values sound positive are entries =
     subst (λ vs. ValuesBelow s (ratio num den) F vs) (sym are)
     (subst (λ d. ValuesBelow s (ratio num den) F (values_down (setting s num d F) classes)) (at_least_one den positive) (values-below s (ratio num den) F sound classes entries))
 
+-- In a sound specification, the upper values from entries that are upper bounds of their classes
+-- bound each node from above.
 pub values-above-at : (s : Spec) (num den F : ℕ) (classes : List ℕ) (values : List (Option ℕ)) → IsSound s → 1 ≤ den → values ≡ values_up (setting s num den F) classes → AreAbove s (ratio num den) F classes → ValuesAbove s (ratio num den) F values
 values-above-at s num den F classes values sound positive are entries =
     subst (λ (vs : List (Option ℕ)). ValuesAbove s (ratio num den) F vs) (sym are)
     (subst (λ d. ValuesAbove s (ratio num den) F (values_up (setting s num d F) classes)) (at_least_one den positive) (values-above s (ratio num den) F sound classes entries))
 
+-- In a sound specification, a lower sweep of one entry per class, each a lower bound of its class,
+-- gives lower bounds again.
 pub sweep-below-at : (s : Spec) (num den F : ℕ) (classes swept : List ℕ) → IsSound s → 1 ≤ den → length classes ≡ length s.bodies → swept ≡ sweep_down (setting s num den F) classes → AreBelow s (ratio num den) F classes → AreBelow s (ratio num den) F swept
 sweep-below-at s num den F classes swept sound positive lengths is entries =
     subst (λ vs. AreBelow s (ratio num den) F vs) (sym is)
     (subst (λ d. AreBelow s (ratio num den) F (sweep_down (setting s num d F) classes)) (at_least_one den positive) (sweep-below s (ratio num den) F sound classes lengths entries))
 
+-- In a sound specification, an upper sweep of one entry per class, each an upper bound of its
+-- class, gives upper bounds again.
 pub sweep-above-at : (s : Spec) (num den F : ℕ) (classes swept : List ℕ) → IsSound s → 1 ≤ den → length classes ≡ length s.bodies → swept ≡ sweep_up (setting s num den F) classes → AreAbove s (ratio num den) F classes → AreAbove s (ratio num den) F swept
 sweep-above-at s num den F classes swept sound positive lengths is entries =
     subst (λ vs. AreAbove s (ratio num den) F vs) (sym is)

@@ -48,6 +48,8 @@ pub written-all : {V : Type 0} (result : List V → Node → Range → V) (s : S
 written-all result s e values found all same =
     sym (take_all e values all) ∙ results-all result s e (take e values) found (omega arith)
 
+-- In a sound specification, each listed node has its range, refers to a class that is there, and
+-- has its parts before it.
 pub listed : (s : Spec) → IsSound s → (items : List Expr) (ranges : List system.Range) (e : ℕ) (item : Expr) (d : system.Range) → map spec_node items ≡ s.nodes → map spec_range ranges ≡ s.ranges → item ≡ get_or items e item → e < length s.nodes → IsListed s e (spec_node item) (spec_range (get_or ranges e d))
 listed s sound items ranges e item d nodes_are ranges_are is within =
     let n = spec_node item in

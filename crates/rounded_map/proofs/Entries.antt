@@ -12,6 +12,8 @@ use Rattle.rounded_map.specs.RoundedMap.{at_each, value_at}
 pub body-at : {V : Type 0} (f : ℕ → V) (bodies : List ExprId) (c : ℕ) (d : ExprId) → c < length bodies → slice_get (map f (map number bodies)) c ≡ Some (f (get_or bodies c d).0)
 body-at f bodies c d within = slice_get-map f (map number bodies) c ∙ ap (option_map f) (mapped-at number bodies c d within)
 
+-- Where a value is given for each node, the value at c among those of the bodies is the value of
+-- class c's body.
 pub body_value : (f : ℕ → Option ℕ) (bodies : List ExprId) (c : ℕ) (d : ExprId) → c < length bodies → value_at (map f (map number bodies)) c ≡ f (get_or bodies c d).0
 body_value f bodies c d within = get_or_from_slice_get (map f (map number bodies)) c (f (get_or bodies c d).0) None (body-at f bodies c d within)
 

@@ -47,6 +47,7 @@ sound_range s sound e (Node.Class c) at = tt
 sound_range s sound e (Node.Union parts) at = tt
 sound_range s sound e (Node.Product parts) at = tt
 
+-- A sound specification is laid out as the laws on totals need it.
 pub laid_out : (s : Spec) → IsSound s → IsLaidOut s
 laid_out s sound = record {
   below = parts_below s sound;

@@ -14,6 +14,8 @@ use Rattle.series_bounds.proofs.Monotone.{range_up-monotone, seq_from_up-monoton
 use Rattle.series_bounds.proofs.LogarithmMonotone.{cyc_from_up-monotone}
 use Rattle.rounded_map.specs.RoundedMap.{Setting, value_at, at_each, repeated, value_up, values_up, bodies_up, lesser, sweep_up, IsPostFixed}
 
+-- Where each number of a list is at most that at its place in another, so it is at any place i, 0
+-- being past the ends.
 pub at_most-at : (xs ys : List ℕ) (i : ℕ) → AreAtMost xs ys → slice_index xs i ≤ slice_index ys i
 at_most-at [] [] i p = le_refl (slice_index [] i)
 at_most-at [] (y ∷ ys) i p = absurd p
@@ -21,6 +23,8 @@ at_most-at (x ∷ xs) [] i p = absurd p
 at_most-at (x ∷ xs) (y ∷ ys) zero p = p.0
 at_most-at (x ∷ xs) (y ∷ ys) (suc i) p = at_most-at xs ys i p.1
 
+-- Where each value of a list is no greater than that at its place in another, so it is at any place
+-- i, none being past the ends.
 pub no_greater-at : (us ws : List (Option ℕ)) (i : ℕ) → AreNoGreater us ws → IsNoGreater (value_at us i) (value_at ws i)
 no_greater-at [] [] i p = tt
 no_greater-at [] (w ∷ ws) i p = absurd p
@@ -123,6 +127,7 @@ lesser-above (n ∷ v) (Some u ∷ us) p = let u_le : u ≤ n = p.0 in (omega ar
 pub sweep_up-at_most : (t : Setting) (v : List ℕ) → IsPostFixed t v → AreAtMost (sweep_up t v) v
 sweep_up-at_most t v p = lesser-at_most v (bodies_up t (values_up t v)) p.each
 
+-- With at least one fraction bit, the upper sweep of a post-fixed vector is post-fixed.
 pub sweep_up-post_fixed : (t : Setting) (v : List ℕ) → 0 < t.bits → IsPostFixed t v → IsPostFixed t (sweep_up t v)
 sweep_up-post_fixed t v bits p = record {
   each = no_greater-trans_each (bodies_up t (values_up t (sweep_up t v))) (bodies_up t (values_up t v)) (map Some (sweep_up t v))

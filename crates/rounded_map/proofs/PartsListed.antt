@@ -6,9 +6,11 @@ use Rattle.class_system.specs.Views.{number}
 use Rattle.class_system.specs.declared.ids.ExprId.{ExprId}
 use Rattle.class_system.proofs.Results.{mapped-at}
 
+-- Where each of some parts is below n and there is a part, the first part is below n.
 pub first-in_range : (parts : List ExprId) (n : ℕ) → 0 < length parts → Each (λ p. p < n) (map number parts) → (get_or parts 0 (record { 0 = 0 })).0 < n
 first-in_range parts n some each = each.at 0 _ (mapped-at number parts 0 (record { 0 = 0 }) some)
 
+-- Where each of some parts is below n, the part at a place i within their number is below n.
 pub part-in_range : (parts : List ExprId) (n i : ℕ) (d : ExprId) → i < length parts → Each (λ p. p < n) (map number parts) → (get_or parts i d).0 < n
 part-in_range parts n i d within each = each.at i _ (mapped-at number parts i d within)
 

@@ -4,6 +4,8 @@ use Rattle.std.specs.Prelude.{option_and_then}
 use Rattle.bz_model.specs.Spec.{Range}
 use Rattle.series_bounds.specs.Series.{Kind, part_down, from_down, from_up, counted_down, counted_up, ranged_down, ranged_up}
 
+-- Where a range has no high, the lower value from its low on without end is the lower value of the
+-- range.
 pub without_high-down : (kind : Kind) (f : ℕ) (r : Range) (a v : ℕ) → r.high ≡ None → v ≡ from_down kind f a r.low → v ≡ counted_down kind f r a
 without_high-down kind f r a v none is = is ∙ ap (ranged_down kind f a r.low) (sym none)
 

@@ -23,9 +23,12 @@ pub added-first : (xs : List (Option ℕ)) (x : Option ℕ) → slice_get xs 0 �
 added-first [] x at = absurd (omega (arith, slice_get_within [] 0 x at))
 added-first (y ∷ xs) x at = ap (λ z. added_up z xs) (sym (same_Some y x at))
 
+-- The value at a place i added to the upper sum so far, with those from the next place on to be
+-- added, makes the same whole.
 pub added-more : (xs : List (Option ℕ)) (i : ℕ) (s x whole : Option ℕ) → slice_get xs i ≡ Some x → added_up s (drop i xs) ≡ whole → added_up (of_both add_up s x) (drop (i + 1) xs) ≡ whole
 added-more xs i s x whole at so_far = ap (λ (k : ℕ). added_up (of_both add_up s x) (drop k xs)) (add-one i) ∙ sym (ap (added_up s) (drop-at xs i x at)) ∙ so_far
 
+-- Past the end of the values, the upper sum so far is the whole sum.
 pub added-ends : (xs : List (Option ℕ)) (i : ℕ) (s whole : Option ℕ) → length xs ≤ i → added_up s (drop i xs) ≡ whole → s ≡ whole
 added-ends xs i s whole all so_far = sym (ap (added_up s) (drop_all i xs all)) ∙ so_far
 
@@ -34,6 +37,8 @@ pub multiplied-first : (f : ℕ) (xs : List (Option ℕ)) (x : Option ℕ) → s
 multiplied-first f [] x at = absurd (omega (arith, slice_get_within [] 0 x at))
 multiplied-first f (y ∷ xs) x at = ap (λ z. multiplied_up f z xs) (sym (same_Some y x at))
 
+-- The upper product so far times the value at a place i, with those from the next place on to
+-- follow, makes the same whole.
 pub multiplied-more : (f : ℕ) (xs : List (Option ℕ)) (i : ℕ) (s x whole : Option ℕ) → slice_get xs i ≡ Some x → multiplied_up f s (drop i xs) ≡ whole → multiplied_up f (of_both (mul_up f) s x) (drop (i + 1) xs) ≡ whole
 multiplied-more f xs i s x whole at so_far = ap (λ (k : ℕ). multiplied_up f (of_both (mul_up f) s x) (drop k xs)) (add-one i) ∙ sym (ap (multiplied_up f s) (drop-at xs i x at)) ∙ so_far
 
@@ -81,6 +86,8 @@ replaced-after f front (v ∷ vs) (z ∷ ds) zero d within at = ap (λ w. Some (
 replaced-after f front (v ∷ vs) (z ∷ ds) (suc i) d within at =
     replaced-after f (front ++ v ∷ []) vs ds i d (omega arith) at ∙ ap (λ zs. Some (product_up f zs)) (append_assoc front (v ∷ []) (set vs i d))
 
+-- The product at a place i is the upper product of the parts' values, with that of part i replaced
+-- by its derivative before.
 pub replaced-at : (f : ℕ) (values : List ℕ) (before : List (Option ℕ)) (parts : List ExprId) (i : ℕ) (x : Option ℕ) → i < length parts → x ≡ product_up f (set (map (value_at (map Some values)) (map number parts)) i (value_at (map (value_at before) (map number parts)) i)) → slice_get (replaced_products f [] (map (value_at (map Some values)) (map number parts)) (map (value_at before) (map number parts))) i ≡ Some x
 replaced-at f values before parts i x within is =
     let e : ExprId = record { 0 = 0 } in
@@ -96,6 +103,7 @@ length-replaced f front [] ds same = refl
 length-replaced f front (v ∷ vs) [] same = absurd (omega arith)
 length-replaced f front (v ∷ vs) (d ∷ ds) same = let rest : length (replaced_products f (front ++ v ∷ []) vs ds) ≡ length vs = length-replaced f (front ++ v ∷ []) vs ds (omega arith) in omega arith
 
+-- There are as many products with one factor replaced as there are parts.
 pub length-products : (f : ℕ) (values : List ℕ) (before : List (Option ℕ)) (parts : List ExprId) → length (replaced_products f [] (map (value_at (map Some values)) (map number parts)) (map (value_at before) (map number parts))) ≡ length parts
 length-products f values before parts =
     length-replaced f [] (map (value_at (map Some values)) (map number parts)) (map (value_at before) (map number parts)) (length-map (map number parts) (value_at before) ∙ sym (length-map (map number parts) (value_at (map Some values))))
@@ -117,6 +125,7 @@ all-there [] each = refl
 all-there (None ∷ us) each = absurd (each 0 (omega arith) refl)
 all-there (Some v ∷ us) each = ap (option_map (λ ws. v ∷ ws)) (all-there us (λ c below. each (suc c) (omega arith)))
 
+-- Where the value at a place within a list is missing, not all values of the list are there.
 pub one-missing : (us : List (Option ℕ)) (c : ℕ) → c < length us → value_at us c ≡ None → all_values us ≡ None
 one-missing [] c within none = absurd (omega arith)
 one-missing (None ∷ us) c within none = refl
@@ -127,6 +136,8 @@ one-missing (Some v ∷ us) (suc c) within none = ap (option_map (λ ws. v ∷ w
 abbrev pub replaced : ℕ → Option ℕ → ℕ
 replaced old new = amount new
 
+-- Where the new values are as many as the numbers, replacing each number leaves the amounts of the
+-- new values.
 pub all-replaced : (xs : List ℕ) (us : List (Option ℕ)) → length xs ≡ length us → at_each replaced xs us ≡ map amount us
 all-replaced [] [] same = refl
 all-replaced [] (u ∷ us) same = absurd (omega arith)
@@ -138,6 +149,7 @@ pub not_there : (o : Option ℕ) → is_some o ≡ false → o ≡ None
 not_there None test = refl
 not_there (Some v) test = absurd (cc)
 
+-- No optional number is there and missing at once.
 pub both_ways : (o : Option ℕ) → is_some o ≡ true → o ≡ None → ⊥
 both_ways None test none = cc
 both_ways (Some v) test none = cc

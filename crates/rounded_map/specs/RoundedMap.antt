@@ -1,6 +1,6 @@
 -- The rounded map: the values of nodes from a vector of class values, its sweeps, and what
--- post-fixed means. A
--- vector has one number for each class. An upper value is None where there is no value.
+-- post-fixed means. A vector has one number for each class. An upper value is None where there is
+-- no value.
 use Rattle.std.specs.Prelude.{◌≡◌, ◌≢◌, ◌<◌, ℕ, zero, suc, ◌^◌, min, max, Bool, false, nat_le, List}
 use Rattle.std.specs.Prelude.{[], ◌∷◌, map, length, slice_index, slice_index_or, Option, Some, None}
 use Rattle.std.specs.Prelude.{option_map, option_and_then}

@@ -251,8 +251,7 @@ fn cycle_hi<const F: u32>(part: Option<u64>, range: Range) -> Option<u64>
 }
 
 /// One upper sweep: each class gets the lesser of its entry and its body's upper value, and keeps
-/// its
-/// entry where there is none.
+/// its entry where there is none.
 ///
 /// `classes` has one entry per class and `nodes` one per node, both in units of `2^-F`. `nodes` is
 /// overwritten. Where the old entries bound the classes, the new ones do. One tick. Takes no

@@ -39,6 +39,8 @@ not-ended : (o : Option Told) → option_map ending_of o ≡ None → o ≡ None
 not-ended None e = refl
 not-ended (Some ending) e = absurd (cc)
 
+-- A drawing in its starting state over an unread tape can make a turn, where its specification is
+-- sound and both drawing and tape are as they belong.
 pub starts : (s : Spec) (x : Fraction) → IsSound s → (contents : List ℕ → Option (List ℕ)) (limits : Limits) (d : DrawingState) (tape : TapeState) → tape.used ≡ 0 → state_of d 0 ≡ start → d.limits ≡ limits → DrawingBelongs s x d → Belongs contents tape → CanTurn s x contents limits d tape
 starts s x sound contents limits d tape used at same belongs ahead = record {
   sound = sound;

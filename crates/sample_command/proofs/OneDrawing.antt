@@ -75,6 +75,7 @@ no-snoc (a ∷ as_) x e = absurd (cc)
 one-entry : (s : Spec) (a b : Entry) (l m : List ℕ) → a ≡ b → AreLinesOf s a l → AreLinesOf s b m → l ≡ m
 one-entry s a b l m same h k = let here : AreLinesOf s b l = subst (λ e. AreLinesOf s e l) same h in here.same k.is_of ∙ sym (k.same k.is_of)
 
+-- The same entries are listed by the same lines.
 pub one-list : (s : Spec) (es fs : List Entry) (l m : List ℕ) → es ≡ fs → Lists s es l → Lists s fs m → l ≡ m
 one-list s es fs l m same (drawn.none a b) (drawn.none c d) = b ∙ sym d
 one-list s es fs l m same (drawn.none a b) (drawn.one_more before last front lines h of is text) = absurd (no-snoc before last (sym is ∙ sym same ∙ a))
@@ -98,5 +99,7 @@ module _ (cost : ℕ → ℕ) (header : List ℕ) (s : Spec) (x : Fraction) (F :
         says.text_is ∙ ap (λ z. header ++ (z ++ closing_lines table c d)) entries ∙ ap (λ (z : Course). header ++ (lines_too ++ closing_lines table z d)) same.0 ∙ ap (λ z. header ++ (lines_too ++ closing_lines table e z)) same.1 ∙ sym says_too.text_is,
       )
 
+-- A drawing over a tape whose bits are known, and of which no read failed in the call, has one
+-- outcome, but for want of memory.
 pub one-drawn : (cost : ℕ → ℕ) (header : List ℕ) (s : Spec) (x : Fraction) (F : ℕ) (table : (level node : ℕ) → Bounds) (limits : Limits) (t : TapeMet) (bits : ℕ → Option Bool) → bits_of t.source t.contents ≡ Some bits → ¬ (HasFailed t) → IsOne (Drawn cost header s x F table limits t)
 one-drawn cost header s x F table limits t bits are_known calm = record { one = λ status other text others ticks more m n p q. drawn-twice cost header s x F table limits t bits are_known calm status other text others ticks more m n p q }

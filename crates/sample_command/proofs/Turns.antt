@@ -24,6 +24,8 @@ use Rattle.sample_command.proofs.OneTurn.{Appended, TellsTurn, so-far-on, entrie
 level-max : (a b : ℕ) → max (level_for a) (level_for b) ≡ level_for (max a b)
 level-max a b = omega arith
 
+-- If levels are raised as `most` bits ask for, raising them as `bits` bits ask for too leaves them
+-- at the level for the greater of the two numbers.
 pub raised-for : (raised now most bits : ℕ) → raised ≡ level_for most → now ≡ max raised (level_for bits) → now ≡ level_for (max most bits)
 raised-for raised now most bits old new = new ∙ ap (λ r. max r (level_for bits)) old ∙ level-max most bits
 

@@ -37,8 +37,7 @@ use std::sync::ledger::Ledger;
 use well_founded::examination::Founded;
 
 /// Draws objects by the bounds of an oracle, after the lines of a header, and writes the lines of
-/// each
-/// when there are enough.
+/// each when there are enough.
 ///
 /// No level is raised and no bit of the tape is used before. A level is raised where a number needs
 /// it.

@@ -64,6 +64,8 @@ part-some kind f a low i most v h e =
     capped_some (list_all fits (terms Side.Up kind f a (suc i))) (sum (drop low (terms Side.Up kind f a (suc i)))) most v (sym (summed-is kind f a most low i) ∙ e)
     ∙ sym (not_below_capped i low (sum_capped low (terms Side.Up kind f a (suc i)) most) h)
 
+-- Where the upper sum from low to i has no value up to the cap, and low is at most i, the upper
+-- value with that cap is the cap.
 pub part-none : (kind : Kind) (f a low i most : ℕ) → low ≤ i → summed_up kind f a most low i ≡ None → most ≡ part_up kind f a low i most
 part-none kind f a low i most h e =
     capped_none (list_all fits (terms Side.Up kind f a (suc i))) (sum (drop low (terms Side.Up kind f a (suc i)))) most (sym (summed-is kind f a most low i) ∙ e)
@@ -103,6 +105,7 @@ sum-some kind f a low i rest v e = rest_some (list_all fits (terms Side.Up kind 
 pub falls-down : (c a d : ℕ) → 0 < d → a ≤ d → c * a / (1 * d) ≤ c
 falls-down c a d p h = div-le_of_le-mul (1 * d) (let m : c * a ≤ c * d = mul-le-mul_left c h in omega (arith, m))
 
+-- Where a is at most d and d is positive, c * a / d rounded up is at most c.
 pub falls-up : (c a d : ℕ) → 0 < d → a ≤ d → quotient_up (c * a) (1 * d) ≤ c
 falls-up c a d p h = quotient_up-least (c * a) (1 * d) c (omega arith) (let m : c * a ≤ c * d = mul-le-mul_left c h in omega (arith, m))
 
@@ -133,6 +136,8 @@ seq_down-full : (f a : ℕ) → 2 ^ f ≤ a → seq_down f a ≡ greatest
 seq_down-full f zero h = let p : 0 < 2 ^ f = pow_pos f in absurd (omega arith)
 seq_down-full f (suc a) h = ap (λ b. cond b (saturated (2 ^ (2 * f) / (2 ^ f - suc a) - 1)) greatest) (le-ltb (suc a) (2 ^ f) h)
 
+-- Where the argument is at least 1 and low is at least 1, the lower sequence from low on is the
+-- greatest number.
 pub seq_from_down-full : (f a low : ℕ) → 1 ≤ low → 2 ^ f ≤ a → greatest ≡ value_down Kind.Seq f a low
 unfolding value_down
 seq_from_down-full f a low h k =
@@ -141,6 +146,8 @@ seq_from_down-full f a low h k =
     all : (c : ℕ) → 2 ^ f ≤ c → saturated (c * greatest / 2 ^ f) ≡ greatest
     all c l = let q : greatest ≤ c * greatest / 2 ^ f = le-div greatest (c * greatest) (2 ^ f) (pow_pos f) (let m : 2 ^ f * greatest ≤ c * greatest = mul-le-mul_right greatest l in omega (arith, m)) in omega arith
 
+-- Where the argument is at least 1 and low is at least 1, the upper sequence from low on has no
+-- value.
 pub seq_from_up-none : (f a low : ℕ) → 1 ≤ low → 2 ^ f ≤ a → None ≡ value_up Kind.Seq f a low
 unfolding value_up
 seq_from_up-none f a low h k = sym (seq_from_up-is f a low h ∙ ap (λ o. option_and_then (mul_up f (carried Side.Up Kind.Seq f a low)) o) (ap (λ b. cond b (if_fits (quotient_up (2 ^ (2 * f)) (2 ^ f - a))) None) (le-ltb a (2 ^ f) k)))
@@ -166,10 +173,14 @@ set-none_at f a low i e = sum-none Kind.Set f a low i (2 * carried Side.Up Kind.
 set-some_at : (f a low i c next v : ℕ) → c ≡ carried Side.Up Kind.Set f a i → next ≡ carried_on Side.Up Kind.Set f a i c → summed_up Kind.Set f a greatest low i ≡ Some v → if_fits (v + 2 * next) ≡ sum_up low (terms Side.Up Kind.Set f a (suc i)) (2 * carried Side.Up Kind.Set f a (suc i))
 set-some_at f a low i c next v is on e = ap (λ q. if_fits (v + 2 * q)) (on ∙ ap (λ q. carried_on Side.Up Kind.Set f a i q) is) ∙ sum-some Kind.Set f a low i (2 * carried Side.Up Kind.Set f a (suc i)) v e
 
+-- For an argument of at most 16, where the upper sum of the terms from low to 127 has no value, the
+-- upper exponential from low on has none.
 pub set-none : (f a low : ℕ) → a ≤ 16 * 2 ^ f → summed_up Kind.Set f a greatest low 127 ≡ None → None ≡ value_up Kind.Set f a low
 unfolding value_up
 set-none f a low h e = set-none_at f a low 127 e ∙ sym (set_within f a (sum_up low (terms Side.Up Kind.Set f a 128) (2 * carried Side.Up Kind.Set f a 128)) h)
 
+-- For an argument of at most 16, the upper exponential from low on is its upper sum v to term 127
+-- plus twice the number carried to term 128, if that fits.
 pub set-some : (f a low c next v : ℕ) → a ≤ 16 * 2 ^ f → c ≡ carried_up Kind.Set f a 127 → next ≡ carried_on Side.Up Kind.Set f a 127 c → summed_up Kind.Set f a greatest low 127 ≡ Some v → if_fits (v + 2 * next) ≡ value_up Kind.Set f a low
 unfolding value_up
 set-some f a low c next v h is on e = set-some_at f a low 127 c next v (is ∙ carried_up-is Kind.Set f a 127) on e ∙ sym (set_within f a (sum_up low (terms Side.Up Kind.Set f a 128) (2 * carried Side.Up Kind.Set f a 128)) h)
@@ -225,10 +236,14 @@ cycle-past f a low h = sym (ap (λ b. cond b (cyc_up_to f a low (cyc_end Side.Up
 cycle_within : (f a low last : ℕ) → a < 2 ^ f → last ≡ cyc_end Side.Up f a low → from_up Kind.Cyc f a low ≡ cyc_up_to f a low last
 cycle_within f a low last h e = ap (λ b. cond b (cyc_up_to f a low (cyc_end Side.Up f a low)) None) (lt-ltb a (2 ^ f) h) ∙ ap (λ j. cyc_up_to f a low j) (sym e)
 
+-- For an argument below 1, where the upper sum of a logarithm's terms from low to the last one has
+-- no value, the upper logarithm from low on has none.
 pub cycle-none : (f a low last : ℕ) → a < 2 ^ f → last ≡ last_up f a low → summed_up Kind.Cyc f a greatest low last ≡ None → None ≡ value_up Kind.Cyc f a low
 unfolding value_up
 cycle-none f a low last h is e = sum-none Kind.Cyc f a low last (log_rest f a last) e ∙ sym (cycle_within f a low last h (is ∙ last_up-is f a low))
 
+-- For an argument below 1, the upper logarithm from low on is the upper sum v up to the last term
+-- plus the bound on the rest, where that has 64 bits.
 pub cycle-some : (f a low last c next rest v : ℕ) → a < 2 ^ f → last ≡ last_up f a low → c ≡ carried_up Kind.Cyc f a last → next ≡ carried_on Side.Up Kind.Cyc f a last c → rest ≡ quotient_up (next * 2 ^ f) ((last + 1) * (2 ^ f - a)) → summed_up Kind.Cyc f a greatest low last ≡ Some v → if_fits (v + rest) ≡ value_up Kind.Cyc f a low
 unfolding value_up
 cycle-some f a low last c next rest v h is here on rest_is e =
@@ -303,6 +318,8 @@ cycle_to f a low most h end few small = go (log_end Side.Down f a) refl end smal
         (λ full. let last : most ≡ max e (low - 1) = omega arith in ap (λ k. part_down Kind.Cyc f a low k) last ∙ ap (λ k. part_down Kind.Cyc f a low (max k (low - 1))) is)
         (cases_lt e most)
 
+-- For an argument below 1 and a low of at most 64, the lower logarithm from low on is the lower sum
+-- of its terms from low to 4096.
 pub cycle_down-is : (f a low most : ℕ) → most ≡ 4096 → a < 2 ^ f → low ≤ 64 → summed_down Kind.Cyc f a low most ≡ value_down Kind.Cyc f a low
 unfolding value_down
 cycle_down-is f a low most is h few =
@@ -310,6 +327,7 @@ cycle_down-is f a low most is h few =
     ∙ cycle_to f a low most h (let w = end-within Side.Down f a 4095 1 a in omega arith) (omega arith) (λ early. end_power f a 4095 1 a (first_power f a) (omega arith))
     ∙ sym (ap (λ b. cond b (part_down Kind.Cyc f a low (cyc_end Side.Down f a low)) greatest) (lt-ltb a (2 ^ f) h))
 
+-- From an argument of 1 on, the lower logarithm is the greatest number.
 pub cycle_down-past : (f a low : ℕ) → 2 ^ f ≤ a → greatest ≡ value_down Kind.Cyc f a low
 unfolding value_down
 cycle_down-past f a low h = sym (ap (λ b. cond b (part_down Kind.Cyc f a low (cyc_end Side.Down f a low)) greatest) (le-ltb a (2 ^ f) h))
@@ -319,10 +337,12 @@ pub set_down-is : (f a low most : ℕ) → most ≡ 127 → summed_down Kind.Set
 unfolding value_down
 set_down-is f a low most is = summed_down-is Kind.Set f a low most ∙ ap (λ i. part_down Kind.Set f a low i) is
 
+-- The lower value from low on, as the code names it, is the one that the series' definition gives.
 pub value_down-is : (kind : Kind) (f a low : ℕ) → value_down kind f a low ≡ from_down kind f a low
 unfolding value_down
 value_down-is kind f a low = refl
 
+-- The upper value from low on, as the code names it, is the one that the series' definition gives.
 pub value_up-is : (kind : Kind) (f a low : ℕ) → value_up kind f a low ≡ from_up kind f a low
 unfolding value_up
 value_up-is kind f a low = refl
@@ -332,14 +352,19 @@ pub seq_down-zero : (f a low : ℕ) → low ≡ 0 → seq_down f a ≡ value_dow
 unfolding value_down
 seq_down-zero f a low e = ap (λ k. from_down Kind.Seq f a k) (sym e)
 
+-- From a low of 0 on, the upper sequence is the upper value of 1 / (1 - a).
 pub seq_up-zero : (f a low : ℕ) → low ≡ 0 → seq_up f a ≡ value_up Kind.Seq f a low
 unfolding value_up
 seq_up-zero f a low e = ap (λ k. from_up Kind.Seq f a k) (sym e)
 
+-- From a low of 1 or more on, the lower sequence is the lower product of the power low of a,
+-- rounded down, and the lower value of 1 / (1 - a).
 pub seq_down-later : (f a low p s : ℕ) → 1 ≤ low → p ≡ carried Side.Down Kind.Seq f a low → s ≡ seq_down f a → mul_down f p s ≡ value_down Kind.Seq f a low
 unfolding value_down
 seq_down-later f a low p s h p_is s_is = ap (λ q. mul_down f q s) p_is ∙ ap (λ q. mul_down f (carried Side.Down Kind.Seq f a low) q) s_is ∙ sym (seq_from_down-is f a low h)
 
+-- From a low of 1 or more on, the upper sequence is the upper product of the power low of a,
+-- rounded up, and the upper value of 1 / (1 - a), where that is there.
 pub seq_up-later : (f a low p : ℕ) → 1 ≤ low → p ≡ carried Side.Up Kind.Seq f a low → option_and_then (mul_up f p) (seq_up f a) ≡ value_up Kind.Seq f a low
 unfolding value_up
 seq_up-later f a low p h p_is = ap (λ q. option_and_then (mul_up f q) (seq_up f a)) p_is ∙ sym (seq_from_up-is f a low h)
@@ -371,6 +396,8 @@ rest-product f a last c next few h is on =
     let product : next * 2 ^ f ≤ 2 ^ 56 * 2 ^ 56 = mul-le next (2 ^ f) (2 ^ 56) (2 ^ 56) (omega arith) unit in
     omega (arith, product)
 
+-- With at most 56 fraction bits and a last term of at most 4096, the divisor (last + 1) * (2^f - a)
+-- of the rest is at most 2^112.
 pub rest-divisor : (f a last : ℕ) → f ≤ 56 → last ≤ 4096 → (last + 1) * (2 ^ f - a) ≤ 2 ^ 112
 rest-divisor f a last few within =
     let unit : 2 ^ f ≤ 2 ^ 56 = one_bits f few in

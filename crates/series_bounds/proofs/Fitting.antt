@@ -10,6 +10,7 @@ use Rattle.series_bounds.specs.Lists.{added_down, multiplied_down}
 pub sum_down-fits : (low : ℕ) (ts : List ℕ) → sum_down low ts ≤ greatest
 sum_down-fits low ts = elim (list_all fits (take low ts)) as (λ t. cond t (saturated (sum (drop low ts))) 0 ≤ greatest) [ true ↦ min-le_right (sum (drop low ts)) greatest | false ↦ omega arith ]
 
+-- The lower value from low to i parts has at most 64 bits.
 pub part_down-fits : (kind : Kind) (f a low i : ℕ) → part_down kind f a low i ≤ greatest
 part_down-fits kind f a low i = sum_down-fits low (terms Side.Down kind f a (suc i))
 

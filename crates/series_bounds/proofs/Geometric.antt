@@ -68,6 +68,8 @@ geometric_down f a = 2 ^ (2 * f) / (2 ^ f - a) - 1
 abbrev pub enough_powers : (f a : ℕ) → ℕ
 enough_powers f a = a * (2 ^ f * 2 ^ f)
 
+-- For a / 2^F strictly between 0 and 1, the unsaturated lower value of 1 / (1 - a) is at most the
+-- sum of the first a * 2^F * 2^F powers.
 pub seq-reached : (F a : ℕ) → 0 < a → a < 2 ^ F → AtMost (units F (geometric_down F a)) (sum_from (exact Kind.Seq (units F a)) 0 (enough_powers F a))
 seq-reached F a pa h =
     let n = enough_powers F a in

@@ -14,9 +14,11 @@ power-ge-one a h (suc k) = AtMost-trans one (times-mono h (power-ge-one a h k))
     one : AtMost (whole 1) (times (whole 1) (whole 1))
     one = omega arith
 
+-- Where a is at least 2^F, the value a / 2^F is at least 1.
 pub at-least-one : (F a : ℕ) → 2 ^ F ≤ a → AtMost (whole 1) (units F a)
 at-least-one F a h = omega arith
 
+-- The value v / 2^F is at most the whole number v.
 pub units-whole : (F v : ℕ) → AtMost (units F v) (whole v)
 units-whole F v = record { cross = go (2 ^ F) (pow_pos F) }
   where
@@ -86,6 +88,8 @@ halves-grow a g two (suc n) j p =
     let h : 0 < j + j = omega arith in
     (j + r.0, AtMost-trans (split_parts n 2 two) (AtMost-trans (plus-mono (half j h (sum_from (exact Kind.Cyc a) j j) (stretch a g (j + j) h j j p (omega arith)) p two) r.1) (sum_from-append (exact Kind.Cyc a) j j (j + j) r.0 (j + r.0) (omega arith) (omega arith))))
 
+-- At an argument of at least 1, some finite sum of the logarithm's terms from low on, with low at
+-- least 1, is at least n, for each n.
 pub cyc-grows : (a : Fraction) → AtMost (whole 1) a → (n low : ℕ) → 1 ≤ low → (m : ℕ) × AtMost (whole n) (sum_from (exact Kind.Cyc a) low m)
 cyc-grows a g n low p = let r = halves-grow a g (omega arith) (2 * n) low p in (r.0, AtMost-trans (both (omega arith)) r.1)
   where

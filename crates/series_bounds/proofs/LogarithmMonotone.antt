@@ -226,5 +226,7 @@ cyc_from_up-monotone f a b low bits h = ⊎_elim
     (λ past. subst (λ t. IsNoGreater (from_up Kind.Cyc f a low) (cond t (cyc_up_to f b low (cyc_end Side.Up f b low)) None)) (sym (lt-leb (suc b) (2 ^ f) (omega arith))) tt)
     (cases_lt b (2 ^ f))
 
+-- With at least one fraction bit, where a is at most b, the upper logarithm of 1 / (1 - a) is no
+-- greater than that of 1 / (1 - b).
 pub log_up-monotone : (f a b : ℕ) → 0 < f → a ≤ b → IsNoGreater (log_up f a) (log_up f b)
 log_up-monotone f a b bits h = cyc_from_up-monotone f a b 1 bits h

@@ -11,14 +11,18 @@ use Rattle.series_bounds.specs.Series.{Kind, divisor, carried_on, carried, term,
 use Rattle.fixed_enclosure.proofs.Quotients.{quotient_up-monotone}
 use Rattle.fixed_enclosure.proofs.Monotone.{if_fits-monotone, mul_up-monotone, seq_up-monotone, and_then-below}
 
+-- What the number carried to a term after term 0 is divided by is positive.
 pub divisor_pos : (f : ℕ) (kind : Kind) (j : ℕ) → 0 < divisor kind (suc j) * 2 ^ f
 divisor_pos f Kind.Seq j = mul-pos (omega arith) (pow_pos f)
 divisor_pos f Kind.Set j = mul-pos (omega arith) (pow_pos f)
 divisor_pos f Kind.Cyc j = mul-pos (omega arith) (pow_pos f)
 
+-- Where a is at most b and c is at most d, what one step carries on from c at a, rounded up, is at
+-- most what it carries on from d at b.
 pub carried_on-monotone : (kind : Kind) (f a b j c d : ℕ) → a ≤ b → c ≤ d → carried_on Side.Up kind f a j c ≤ carried_on Side.Up kind f b j d
 carried_on-monotone kind f a b j c d p q = quotient_up-monotone (c * a) (d * b) (divisor kind (suc j) * 2 ^ f) (divisor kind (suc j) * 2 ^ f) (divisor_pos f kind j) (le_refl (divisor kind (suc j) * 2 ^ f)) (mul-le c a d b q p)
 
+-- Where a is at most b, the number carried to term j at a, rounded up, is at most the one at b.
 pub carried-monotone : (kind : Kind) (f a b j : ℕ) → a ≤ b → carried Side.Up kind f a j ≤ carried Side.Up kind f b j
 carried-monotone kind f a b zero p = le_refl (2 ^ f)
 carried-monotone kind f a b (suc j) p = carried_on-monotone kind f a b j (carried Side.Up kind f a j) (carried Side.Up kind f b j) p (carried-monotone kind f a b j p)
@@ -33,6 +37,7 @@ pub terms_from-monotone : (kind : Kind) (f a b n j c d : ℕ) → a ≤ b → c 
 terms_from-monotone kind f a b zero j c d p q = tt
 terms_from-monotone kind f a b (suc n) j c d p q = (term-monotone kind j c d q, terms_from-monotone kind f a b n (suc j) (carried_on Side.Up kind f a j c) (carried_on Side.Up kind f b j d) p (carried_on-monotone kind f a b j c d p q))
 
+-- Where a is at most b, each of the first n upper terms at a is at most the same term at b.
 pub terms-monotone : (kind : Kind) (f a b n : ℕ) → a ≤ b → AreAtMost (terms Side.Up kind f a n) (terms Side.Up kind f b n)
 terms-monotone kind f a b n p = terms_from-monotone kind f a b n 0 (2 ^ f) (2 ^ f) p (le_refl (2 ^ f))
 
@@ -69,6 +74,8 @@ bool_cases : (b : Bool) → (b ≡ true) ⊎ (b ≡ false)
 bool_cases true = inl refl
 bool_cases false = inr refl
 
+-- Where xs is at most ys place by place, and r is at most s, the upper sum of xs from low on with
+-- rest r is no greater than that of ys with s.
 pub sum_up-monotone : (low : ℕ) (xs ys : List ℕ) (r s : ℕ) → AreAtMost xs ys → r ≤ s → IsNoGreater (sum_up low xs r) (sum_up low ys s)
 sum_up-monotone low xs ys r s p q = ⊎_elim
     (λ fit. subst (λ b. IsNoGreater (sum_up low xs r) (cond b (if_fits (sum (drop low ys) + s)) None)) (sym fit)
@@ -77,6 +84,7 @@ sum_up-monotone low xs ys r s p q = ⊎_elim
     (λ past. subst (λ b. IsNoGreater (sum_up low xs r) (cond b (if_fits (sum (drop low ys) + s)) None)) (sym past) tt)
     (bool_cases (list_all fits ys))
 
+-- Where a is at most b, the upper value from low to i parts at a is no greater than that at b.
 pub range_up-monotone : (kind : Kind) (f a b low i : ℕ) → a ≤ b → IsNoGreater (range_up kind f a low i) (range_up kind f b low i)
 range_up-monotone kind f a b low i p = elim (ltb i low) as (λ t. IsNoGreater (cond t (Some 0) (sum_up low (terms Side.Up kind f a (suc i)) 0)) (cond t (Some 0) (sum_up low (terms Side.Up kind f b (suc i)) 0))) [
   | true ↦ le_refl 0
@@ -120,5 +128,6 @@ set_from_up-monotone f a b low p = ⊎_elim
     (mul-le 2 (carried Side.Up Kind.Set f a 128) 2 (carried Side.Up Kind.Set f b 128) (le_refl 2) rests))))
     (cases_lt (16 * 2 ^ f) b)
 
+-- Where a is at most b, the upper exponential at a is no greater than that at b.
 pub exp_up-monotone : (f a b : ℕ) → a ≤ b → IsNoGreater (exp_up f a) (exp_up f b)
 exp_up-monotone f a b p = set_from_up-monotone f a b 0 p

@@ -14,12 +14,14 @@ pub record OneMore (shorter longer : List ℕ) : Type 0 where
   pub last : ℕ
   pub split : longer ≡ shorter ++ last ∷ []
 
+-- The n + 1 terms from term j on are the n terms from term j on with one more at the end.
 pub terms_from-more : (side : Side) (kind : Kind) (f a n j c : ℕ) → OneMore (terms_from side kind f a n j c) (terms_from side kind f a (suc n) j c)
 terms_from-more side kind f a zero j c = record { last = term side kind j c; split = refl }
 terms_from-more side kind f a (suc n) j c =
     let rest : OneMore (terms_from side kind f a n (suc j) (carried_on side kind f a j c)) (terms_from side kind f a (suc n) (suc j) (carried_on side kind f a j c)) = terms_from-more side kind f a n (suc j) (carried_on side kind f a j c) in
     record { last = rest.last; split = ap (λ ts. term side kind j c ∷ ts) rest.split }
 
+-- Nothing is left of a list of at most n elements when n are dropped.
 pub drop-short : (n : ℕ) (xs : List ℕ) → length xs ≤ n → drop n xs ≡ []
 drop-short zero [] h = refl
 drop-short zero (x ∷ xs) h = let none : ⊥ = omega arith in absurd none

@@ -6,9 +6,11 @@ use Rattle.std.proofs.lemmas.List.Sums.{sum_by-cons}
 use Rattle.fixed_enclosure.specs.Rounded.{greatest, saturated, fits}
 use Rattle.series_bounds.specs.Running.{kept, run_down, up_to, run_up}
 
+-- A term before low adds nothing to the sum.
 pub kept-before : (low j t : ℕ) → j < low → kept low j t ≡ 0
 kept-before low j t h = ap (λ b. cond b 0 t) (lt-ltb j low h)
 
+-- A term from low on adds itself to the sum.
 pub kept-after : (low j t : ℕ) → low ≤ j → kept low j t ≡ t
 kept-after low j t h = ap (λ b. cond b 0 t) (le-ltb j low h)
 
@@ -20,6 +22,7 @@ down-step low j s t ts h = ap (λ b. cond b (run_down low (suc j) (saturated (s 
 pub down-past-before : (low j s t : ℕ) (ts : List ℕ) → greatest < t → j < low → run_down low j s (t ∷ ts) ≡ 0
 down-past-before low j s t ts h k = ap (λ b. cond b (run_down low (suc j) (saturated (s + kept low j t)) ts) (cond (nat_lt j low) 0 greatest)) (lt-leb t greatest h) ∙ ap (λ b. cond b 0 greatest) (lt-ltb j low k)
 
+-- A term from low on that doesn't fit makes a running lower sum the greatest number.
 pub down-past-after : (low j s t : ℕ) (ts : List ℕ) → greatest < t → low ≤ j → run_down low j s (t ∷ ts) ≡ greatest
 down-past-after low j s t ts h k = ap (λ b. cond b (run_down low (suc j) (saturated (s + kept low j t)) ts) (cond (nat_lt j low) 0 greatest)) (lt-leb t greatest h) ∙ ap (λ b. cond b 0 greatest) (le-ltb j low k)
 
@@ -78,6 +81,7 @@ up-step most low j s t ts h = ap (λ b. cond b (run_up most low (suc j) (s + kep
 pub up-past : (most low j s t : ℕ) (ts : List ℕ) → greatest < t → run_up most low j s (t ∷ ts) ≡ None
 up-past most low j s t ts h = ap (λ b. cond b (run_up most low (suc j) (s + kept low j t) ts) None) (lt-leb t greatest h)
 
+-- A number that is at most the bound has a value up to the bound, which is the number itself.
 pub up_to-within : (most n : ℕ) → n ≤ most → up_to most n ≡ Some n
 up_to-within most n h = ap (λ b. cond b (Some n) None) (le-leb n most h)
 

@@ -58,6 +58,8 @@ lower-past-before kind f a low i j s c w t h run t_is past before =
     let big : greatest < term Side.Down kind j c = omega arith in
     run ∙ lower-head kind f a low i j s c h ∙ down-past-before low j s (term Side.Down kind j c) (terms_from Side.Down kind f a (i - j) (suc j) (carried_on Side.Down kind f a j c)) big before
 
+-- Where a term of number low or later doesn't fit, the lower sum to the last term is the greatest
+-- number.
 pub lower-past-after : (kind : Kind) (f a low i j s c w t : ℕ) → j ≤ i → w ≡ run_down low j s (terms_from Side.Down kind f a (suc i - j) j c) → t ≡ term Side.Down kind j c → greatest < t → low ≤ j → w ≡ greatest
 lower-past-after kind f a low i j s c w t h run t_is past after =
     let big : greatest < term Side.Down kind j c = omega arith in
@@ -79,6 +81,7 @@ zero_term Kind.Set j = refl
 zero_term Kind.Cyc zero = refl
 zero_term Kind.Cyc (suc j) = rw zero-div refl
 
+-- Where 0 is carried to term j, the n lower terms from term j on are all 0.
 pub zero_terms : (kind : Kind) (f a n j : ℕ) → terms_from Side.Down kind f a n j 0 ≡ replicate n 0
 zero_terms kind f a zero j = refl
 zero_terms kind f a (suc n) j =
@@ -93,6 +96,8 @@ lower-last kind f a low i j s c w t k s' h run t_is fit k_is s_is end =
     let none_left : i - j ≡ 0 = omega arith in
     s_is ∙ sym (step ∙ ap (λ n. run_down low (suc j) (saturated (s + k)) (terms_from Side.Down kind f a n (suc j) (carried_on Side.Down kind f a j c))) none_left)
 
+-- Where 0 is carried to a term, the lower sum with this term is already the lower sum to the last
+-- term.
 pub lower-zero : (kind : Kind) (f a low i j s c w t k s' : ℕ) → j ≤ i → w ≡ run_down low j s (terms_from Side.Down kind f a (suc i - j) j c) → t ≡ term Side.Down kind j c → t ≤ greatest → k ≡ kept low j t → s' ≡ saturated (s + k) → c ≡ 0 → s' ≡ w
 lower-zero kind f a low i j s c w t k s' h run t_is fit k_is s_is nothing =
     let step = lower-step kind f a low i j s c w t k h run t_is fit k_is in
@@ -103,6 +108,8 @@ lower-zero kind f a low i j s c w t k s' h run t_is fit k_is s_is nothing =
     within : (n : ℕ) → saturated n ≤ greatest
     within n = omega arith
 
+-- Where a fitting term j brings the lower sum to the greatest number, the sum to the last term is
+-- that too, if it was 0 before the term in case j is at most low.
 pub lower-full : (kind : Kind) (f a low i j s c w t k s' : ℕ) → j ≤ i → w ≡ run_down low j s (terms_from Side.Down kind f a (suc i - j) j c) → t ≡ term Side.Down kind j c → t ≤ greatest → k ≡ kept low j t → s' ≡ saturated (s + k) → (j ≤ low → s ≡ 0) → s' ≡ greatest → s' ≡ w
 lower-full kind f a low i j s c w t k s' h run t_is fit k_is s_is start full = ⊎_elim
     (λ before. absurd (not_full before))
@@ -128,6 +135,8 @@ carried_bits-down Kind.Set j c t h first t_is fit = omega arith
 carried_bits-down Kind.Cyc zero c t h first t_is fit = first refl
 carried_bits-down Kind.Cyc (suc j) c t h first t_is fit = let u : c < 2 ^ 64 * suc j = under c (suc j) (omega arith) (omega arith) in omega (arith, u)
 
+-- Up to term 1000000, where the upper term is at most the greatest number, the number carried to it
+-- is below 2^85, if at term 0 it is.
 pub carried_bits-up : (kind : Kind) (j c t : ℕ) → j ≤ 1000000 → (j ≡ 0 → c < 2 ^ 85) → t ≡ term Side.Up kind j c → t ≤ greatest → c < 2 ^ 85
 carried_bits-up Kind.Seq j c t h first t_is fit = omega arith
 carried_bits-up Kind.Set j c t h first t_is fit = omega arith
@@ -216,6 +225,8 @@ flat-terms kind f a (suc n) j c flat =
     ∙ ap (λ q. c ∷ terms_from Side.Up kind f a n (suc (suc j)) q) (flat-carried kind f a (suc j) c (flat-later kind f a j c flat))
     ∙ ap (λ ts. c ∷ ts) (flat-terms kind f a n (suc j) c (flat-later kind f a j c flat))
 
+-- Where each later upper term is c, the upper sum to term i is the sum so far plus c for each later
+-- term from low on, where that is within the bound.
 pub upper-flat : (kind : Kind) (f a most low i j s c : ℕ) (w : Option ℕ) (t k s' : ℕ) → j ≤ i → w ≡ run_up most low j s (terms_from Side.Up kind f a (suc i - j) j c) → t ≡ term Side.Up kind j c → t ≤ greatest → k ≡ kept low j t → s' ≡ s + k → IsFlat kind f a j c → w ≡ up_to most (s' + c * ((i - j) - (low - (j + 1))))
 upper-flat kind f a most low i j s c w t k s' h run t_is fit k_is s_is flat =
     let one : suc j ≡ j + 1 = omega arith in
@@ -234,10 +245,13 @@ carried-flat kind f a (suc d) j (suc l) c e is flat =
     let before = carried-flat kind f a d j l c (omega arith) is flat in
     (sym (ap (λ q. carried_on Side.Up kind f a l q) (sym before.0) ∙ flat-carried kind f a l c before.1), flat-later kind f a l c before.1)
 
+-- Where all later upper terms are the number c carried to term j, the number c is carried to each
+-- later term j + d too.
 pub carried_up-later : (kind : Kind) (f a d j l c : ℕ) → l ≡ j + d → c ≡ carried_up kind f a j → IsFlat kind f a j c → c ≡ carried_up kind f a l
 unfolding carried_up
 carried_up-later kind f a d j l c e is flat = (carried-flat kind f a d j l c e is flat).0
 
+-- The number carried to term 0, rounded up, is 2^f.
 pub carried_up-starts : (kind : Kind) (f a c : ℕ) → c ≡ 2 ^ f → c ≡ carried_up kind f a 0
 unfolding carried_up
 carried_up-starts kind f a c e = e

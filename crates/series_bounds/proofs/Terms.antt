@@ -30,6 +30,8 @@ carried_share Kind.Seq j = whole 1
 carried_share Kind.Set j = set_share j
 carried_share Kind.Cyc j = whole 1
 
+-- The exact power j of a / 2^F, divided by j! for a set, is at most the number carried to term j,
+-- rounded up, as a value.
 pub carried-up : (kind : Kind) (F a j : ℕ) → AtMost (times (carried_share kind j) (power (units F a) j)) (units F (carried Side.Up kind F a j))
 carried-up Kind.Seq F a zero = omega arith
 carried-up Kind.Set F a zero = omega arith
@@ -44,6 +46,8 @@ carried-up Kind.Cyc F a (suc j) =
     let c = carried Side.Up Kind.Cyc F a j in
     record { cross = step_up a (2 ^ F) c (carried Side.Up Kind.Cyc F a (suc j)) (power (units F a) j).num (power (units F a) j).den 1 1 (carried-up Kind.Cyc F a j).cross (quotient_up-above (c * a) (1 * 2 ^ F) (mul-pos (omega arith) (pow_pos F))) }
 
+-- The number carried to term j, rounded down, is as a value at most the exact power j of a / 2^F,
+-- divided by j! for a set.
 pub carried-down : (kind : Kind) (F a j : ℕ) → AtMost (units F (carried Side.Down kind F a j)) (times (carried_share kind j) (power (units F a) j))
 carried-down Kind.Seq F a zero = omega arith
 carried-down Kind.Set F a zero = omega arith
@@ -64,6 +68,8 @@ share_up s t t' p q D h k = omega (arith, h, mul-le-mul_right q k)
 share_down : (s t t' p q D : ℕ) → t * (1 * q) ≤ (1 * p) * D → t' * s ≤ t → t' * (s * q) ≤ (1 * p) * D
 share_down s t t' p q D h k = omega (arith, h, mul-le-mul_right q k)
 
+-- From the series' first term on, the exact term j at a / 2^F is at most the term that is rounded
+-- up.
 pub term-up : (kind : Kind) (F a j : ℕ) → first_term kind ≤ j → AtMost (exact kind (units F a) j) (units F (term Side.Up kind j (carried Side.Up kind F a j)))
 term-up Kind.Seq F a j h = carried-up Kind.Seq F a j
 term-up Kind.Set F a j h = carried-up Kind.Set F a j

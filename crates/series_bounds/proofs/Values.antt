@@ -123,6 +123,8 @@ product-up F x y = record { cross = go (2 ^ F) (quotient_up (x * y) (2 ^ F)) (qu
     go : (D z : ℕ) → x * y ≤ z * D → (x * y) * D ≤ z * (D * D)
     go D z h = omega (arith, mul-le-mul_right D h)
 
+-- The number x * y / 2^F, rounded down, is as a value at most the product of the values x / 2^F and
+-- y / 2^F.
 pub product-down : (F x y : ℕ) → AtMost (units F (x * y / 2 ^ F)) (times (units F x) (units F y))
 product-down F x y = record { cross = go (2 ^ F) (x * y / 2 ^ F) (div-mul-le_self (x * y) (2 ^ F)) }
   where

@@ -1,6 +1,5 @@
 -- The exact series of the counted constructions, their finite sums, and on which side of those a
--- rounded value
--- lies. A number v stands for v / 2^f.
+-- rounded value lies. A number v stands for v / 2^f.
 use Rattle.std.specs.Prelude.{ℕ, zero, suc, ◌-◌}
 use Rattle.bz_model.specs.Fraction.{Fraction, AtMost, plus, times, whole, power, units}
 use Rattle.bz_model.specs.Measures.{set_share, cycle_share}

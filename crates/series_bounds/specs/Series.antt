@@ -1,6 +1,5 @@
 -- The series of the counted constructions in units of 2^-f, rounded to a side: their terms, the
--- sums of terms, and
--- the values of a range of numbers of parts.
+-- sums of terms, and the values of a range of numbers of parts.
 use Rattle.std.specs.Prelude.{ℕ, zero, suc, ◌+◌, ◌-◌, ◌*◌, ◌^◌, min, max, nat_le, nat_lt, List, []}
 use Rattle.std.specs.Prelude.{◌∷◌, sum, take, drop, Option, Some, None, option_and_then}
 use Rattle.std.specs.Prelude.{if◌then◌else◌}

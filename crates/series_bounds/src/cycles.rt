@@ -15,8 +15,7 @@ use fixed_enclosure::{Hi, Lo};
 /// down.
 ///
 /// In units of `2^-F`, up to the first power of at most one unit, or to term 4096. `u64::MAX` from
-/// a = 1
-/// on. Takes no memory.
+/// a = 1 on. Takes no memory.
 pub fn log_lo<const F: u32>(a: Lo<F>) -> Lo<F>
     requires fraction_bits { IsFractionBits F }
     ensures exact { result.0 ≡ log_down F a.entry.0 }
@@ -29,8 +28,7 @@ pub fn log_lo<const F: u32>(a: Lo<F>) -> Lo<F>
 /// up.
 ///
 /// In units of `2^-F`, up to the first power of at most one unit, or to term 4096, and a bound of
-/// all
-/// that follow. `None` exactly where a is 1 or more, or the bound passes `u64::MAX`. Takes no
+/// all that follow. `None` exactly where a is 1 or more, or the bound passes `u64::MAX`. Takes no
 /// memory.
 pub fn log_hi<const F: u32>(a: Hi<F>) -> Option<Hi<F>>
     requires fraction_bits { IsFractionBits F }
@@ -77,9 +75,8 @@ pub fn cyc_part_hi<const F: u32>(a: Hi<F>, low: u64, i: u64, cap: Hi<F>) -> Hi<F
 /// `low`.
 ///
 /// In units of `2^-F`, each term rounded up. `None` exactly where `i` is at least `low` and a term
-/// up
-/// to `i`, one before `low` too, or the sum passes `u64::MAX`. Sums at most `i + 1` terms. Takes no
-/// memory.
+/// up to `i`, one before `low` too, or the sum passes `u64::MAX`. Sums at most `i + 1` terms. Takes
+/// no memory.
 pub fn cyc_range_hi<const F: u32>(a: Hi<F>, low: u64, i: u64) -> Option<Hi<F>>
     requires fraction_bits { IsFractionBits F }
     requires places { (1 ≤ low) × (low ≤ 64) }
@@ -93,8 +90,7 @@ pub fn cyc_range_hi<const F: u32>(a: Hi<F>, low: u64, i: u64) -> Option<Hi<F>>
 /// A lower bound of the terms `a^j / j` for all j from `low` on, which finitely many of them reach.
 ///
 /// In units of `2^-F`, each power and term rounded down, up to the first power of at most one unit,
-/// or
-/// to term 4096. `u64::MAX` from a = 1 on. Takes no memory.
+/// or to term 4096. `u64::MAX` from a = 1 on. Takes no memory.
 pub fn cyc_from_lo<const F: u32>(a: Lo<F>, low: u64) -> Lo<F>
     requires fraction_bits { IsFractionBits F }
     requires places { (1 ≤ low) × (low ≤ 64) }

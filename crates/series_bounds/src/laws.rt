@@ -1,6 +1,5 @@
 //! Upper values are monotone: with no argument greater there is a value where there was one, and
-//! not
-//! a greater one.
+//! not a greater one.
 //!
 //! Each law is a function without effect, whose clause holds of all arguments that meet its
 //! `requires`. The logarithm's number of terms depends on its argument: where a lesser argument

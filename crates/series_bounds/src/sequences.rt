@@ -48,9 +48,8 @@ pub fn seq_part_hi<const F: u32>(a: Hi<F>, low: u64, i: u64, cap: Hi<F>) -> Hi<F
 /// `low`.
 ///
 /// In units of `2^-F`, each term rounded up. `None` exactly where `i` is at least `low` and a term
-/// up
-/// to `i`, one before `low` too, or the sum passes `u64::MAX`. Sums at most `i + 1` terms. Takes no
-/// memory.
+/// up to `i`, one before `low` too, or the sum passes `u64::MAX`. Sums at most `i + 1` terms. Takes
+/// no memory.
 pub fn seq_range_hi<const F: u32>(a: Hi<F>, low: u64, i: u64) -> Option<Hi<F>>
     requires fraction_bits { IsFractionBits F }
     requires places { low ≤ 64 }
@@ -64,8 +63,7 @@ pub fn seq_range_hi<const F: u32>(a: Hi<F>, low: u64, i: u64) -> Option<Hi<F>>
 /// A lower bound of the powers `a^j` for all j from `low` on, which finitely many of them reach.
 ///
 /// In units of `2^-F`: `Lo::seq` of a, times the power `low` of a, rounded down. `u64::MAX` from a
-/// = 1
-/// on. `low` products. Takes no memory.
+/// = 1 on. `low` products. Takes no memory.
 pub fn seq_from_lo<const F: u32>(a: Lo<F>, low: u64) -> Lo<F>
     requires fraction_bits { IsFractionBits F }
     requires places { low ≤ 64 }
@@ -78,8 +76,7 @@ pub fn seq_from_lo<const F: u32>(a: Lo<F>, low: u64) -> Lo<F>
 /// An upper bound of every finite sum of the powers `a^j` for j from `low` on.
 ///
 /// In units of `2^-F`: `Hi::seq` of a, times the power `low` of a, rounded up. `None` exactly where
-/// a
-/// is 1 or more, or the bound passes `u64::MAX`. `low` products. Takes no memory.
+/// a is 1 or more, or the bound passes `u64::MAX`. `low` products. Takes no memory.
 pub fn seq_from_hi<const F: u32>(a: Hi<F>, low: u64) -> Option<Hi<F>>
     requires fraction_bits { IsFractionBits F }
     requires places { low ≤ 64 }

@@ -25,9 +25,8 @@ pub fn exp_lo<const F: u32>(a: Lo<F>) -> Lo<F>
 /// An upper bound of `e^a`: the first 128 terms `a^j / j!`, each rounded up, and twice the next.
 ///
 /// In units of `2^-F`. `None` exactly where a is above 16, or a term or the sum passes `u64::MAX`.
-/// From
-/// the 129th term on each is at most half of the one before it, so twice the first of them bounds
-/// their sum. Takes no memory.
+/// From the 129th term on each is at most half of the one before it, so twice the first of them
+/// bounds their sum. Takes no memory.
 pub fn exp_hi<const F: u32>(a: Hi<F>) -> Option<Hi<F>>
     requires fraction_bits { IsFractionBits F }
     ensures exact { option_map (λ h. h.0) result ≡ exp_up F a.entry.0 }
@@ -73,9 +72,8 @@ pub fn set_part_hi<const F: u32>(a: Hi<F>, low: u64, i: u64, cap: Hi<F>) -> Hi<F
 /// `low`.
 ///
 /// In units of `2^-F`, each term rounded up. `None` exactly where `i` is at least `low` and a term
-/// up
-/// to `i`, one before `low` too, or the sum passes `u64::MAX`. Sums at most `i + 1` terms. Takes no
-/// memory.
+/// up to `i`, one before `low` too, or the sum passes `u64::MAX`. Sums at most `i + 1` terms. Takes
+/// no memory.
 pub fn set_range_hi<const F: u32>(a: Hi<F>, low: u64, i: u64) -> Option<Hi<F>>
     requires fraction_bits { IsFractionBits F }
     requires places { low ≤ 64 }
@@ -104,10 +102,8 @@ pub fn set_from_lo<const F: u32>(a: Lo<F>, low: u64) -> Lo<F>
 /// An upper bound of every finite sum of the terms `a^j / j!` for j from `low` on.
 ///
 /// In units of `2^-F`: the terms from `low` to 127, rounded up, and twice the next: from there on
-/// each
-/// term is at most half of the one before it. `None` exactly where a is above 16, or a term up to
-/// 127
-/// or the sum passes `u64::MAX`. Takes no memory.
+/// each term is at most half of the one before it. `None` exactly where a is above 16, or a term up
+/// to 127 or the sum passes `u64::MAX`. Takes no memory.
 pub fn set_from_hi<const F: u32>(a: Hi<F>, low: u64) -> Option<Hi<F>>
     requires fraction_bits { IsFractionBits F }
     requires places { low ≤ 64 }

@@ -83,12 +83,16 @@ alike-where Premise suffices w limits sources c chooses begun counts turns pool 
         (undisturbed w limits begun_then counts_then (times number others) n two never_then tape is-other)
         premise)
 
+-- If traces over told bits are courses, two drawings over such a tape named equally often, without
+-- a failed read, are alike.
 pub alike-named : ToldTracesAreCourses → AreAlikeWhere (λ i j m n. i ≡ j)
 alike-named courses = alike-where (λ i j m n. i ≡ j) (λ w limits tape k by i j m n most other_most c d h g same.
     let one = courses w.spec w.x w.F w.table limits tape i most c h.trace h.never k by in
     let two = courses w.spec w.x w.F w.table limits tape j other_most d g.trace g.never k by in
     one.same ∙ ap (after (record { chooser = k; limits = limits; tape = tape }) (λ n. None)) same ∙ sym two.same)
 
+-- If ended traces over told bits are one, two drawings over such a tape that ended, without a
+-- failed read, are alike.
 pub alike-ended : EndedTracesAreOne → AreAlikeWhere (λ i j m n. IsSome m.drawing.ending × IsSome n.drawing.ending)
 alike-ended ended = alike-where (λ i j m n. IsSome m.drawing.ending × IsSome n.drawing.ending) (λ w limits tape k by i j m n most other_most c d h g both.
     (ended w.spec w.x w.F w.table limits tape k by i most c h.trace (has-ended w limits tape i m most c h both.0) j other_most d g.trace (has-ended w limits tape j n other_most d g both.1)).0)

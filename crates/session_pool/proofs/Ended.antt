@@ -79,6 +79,8 @@ ended-member s x F table contents counts m ending is = record {
   answers = sym (ap answer_of is);
 }
 
+-- A drawing of a pool that has ended makes a turn that answers that it finished, and stays as it
+-- was, as do the counts.
 pub ended-member-turn : (s : Spec) (x : Fraction) (F : ℕ) (table : (level node : ℕ) → Bounds) (contents : List ℕ → Option (List ℕ)) (counts : List ℕ → ℕ) (m : MemberState) → IsSome m.drawing.ending → IsMemberTurn s x F table contents counts counts m pooled.Finished m
 ended-member-turn s x F table contents counts m some = go m.drawing.ending refl some
   where

@@ -27,6 +27,8 @@ pub record IsLent (items pool : List MemberState) (number : ℕ) (m : MemberStat
   pub same : items ≡ pool
   pub at : slice_get pool number ≡ Some m
 
+-- A member read at a number within a pool, from items that are this pool, is the one lent at this
+-- number.
 pub is-lent : (items pool : List MemberState) (number : ℕ) (m : MemberState) → items ≡ pool → number < length pool → m ≡ slice_index_or items number m → IsLent items pool number m
 is-lent items pool number m same within read = record {
   same = same;

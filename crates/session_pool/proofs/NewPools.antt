@@ -21,6 +21,8 @@ use Rattle.session_pool.proofs.Failures.{mark, going-mark}
 pub tapes-and-one : (tapes : List TapeState) (pool : List MemberState) (tape : TapeState) (m : MemberState) → tapes_of pool ≡ tapes → m.tape ≡ tape → tapes_of (pool ++ m ∷ []) ≡ tapes ++ tape ∷ []
 tapes-and-one tapes pool tape m same at = map-append (λ (k : MemberState). k.tape) pool (m ∷ []) ∙ (ap (λ ts. ts ++ m.tape ∷ []) same ∙ ap (λ t. tapes ++ t ∷ []) at)
 
+-- Where each member of a pool is new with the limits, so is each after another new member is put at
+-- the end.
 pub new-and-one : (limits : Limits) (pool : List MemberState) (tape : TapeState) (m : MemberState) → All (λ k. IsNewMember limits k.tape k) pool → IsNewMember limits tape m → All (λ k. IsNewMember limits k.tape k) (pool ++ m ∷ [])
 new-and-one limits pool tape m each one = All-push (λ k. IsNewMember limits k.tape k) pool m each (subst (λ t. IsNewMember limits t m) (sym one.same_tape) one)
 

@@ -92,8 +92,7 @@ RoseBy number before now = min (before + number) (2 ^ 64 - 1) ≤ now
 -- A pool after these turns, each named by its drawing's number: each drawing stands where it would
 -- stand alone after as many turns as the list names it. The counts of failed reads never fell since
 -- the beginning; for each name that count rose at least as often as drawings over its tape ended
--- with
--- a failed read, and no count rose more often than drawings ended so.
+-- with a failed read, and no count rose more often than drawings ended so.
 pub record IsPoolAfter (w : Setting) (limits : Limits) (sources : List TapeSource)
     (begun counts : List ℕ → ℕ) (turns : List ℕ) (pool : List MemberState) : Type 0 where
   pub same_sources : sources_of pool ≡ sources
@@ -112,8 +111,7 @@ pub record AreAlike (m other : MemberState) : Type 0 where
 
 -- Two pools over the same tapes made turns, in any orders. Where the bits of one of the tapes are
 -- told, and its drawing ended with a failed read in neither pool, the two drawings over it are
--- alike
--- if the premise holds of how often the orders name them and of the two.
+-- alike if the premise holds of how often the orders name them and of the two.
 abbrev pub AreAlikeWhere : (Premise : (times other_times : ℕ) → MemberState → MemberState → Type 0)
     → Type 0
 AreAlikeWhere Premise =

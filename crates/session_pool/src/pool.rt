@@ -76,15 +76,11 @@ impl Pool {
     /// Makes one turn of the drawing of a number, from 0.
     ///
     /// It answers `Going` exactly where that drawing goes on afterwards, and `Finished` exactly
-    /// where
-    /// it has ended. A drawing that had ended isn't touched. The object that a turn keeps is
-    /// appended
-    /// to the drawing's entries. Every other drawing stays as it was, with its tape and its
-    /// entries.
-    /// An ending becomes `ReadFault` exactly where the count of faults of that tape's name rose, by
-    /// one. All memory is taken before the first bit; `OutOfMemory` leaves pool, oracle and shelf
-    /// as
-    /// they were.
+    /// where it has ended. A drawing that had ended isn't touched. The object that a turn keeps is
+    /// appended to the drawing's entries. Every other drawing stays as it was, with its tape and
+    /// its entries. An ending becomes `ReadFault` exactly where the count of faults of that tape's
+    /// name rose, by one. All memory is taken before the first bit; `OutOfMemory` leaves pool,
+    /// oracle and shelf as they were.
     pub fn turn<const F: u32, O: Oracle<F>, S: Shelf, L: Ledger>(
         &mut self,
         number: usize,

@@ -15,8 +15,7 @@ pub enum Pooled {
 }
 
 /// A drawing of a pool: the objects that it kept, in order, what it counted, how many bits of its
-/// tape
-/// it used, and why it ended, if it ended.
+/// tape it used, and why it ended, if it ended.
 #[derive(Clone, Copy)]
 pub struct Pooling<'a> {
     pub entries: &'a [Entry],

@@ -239,6 +239,8 @@ count-cell (counted.Straddles cell) used h = tt
 count-cell counted.Ended used h = tt
 count-cell counted.ReadFault used h = tt
 
+-- If the draw that an answer tells has a proper cell, so has the answer that every number up to the
+-- room is passed over.
 pub over-cell : (d : CountDrawn) (used : ℕ) → HasCell (told_count d used) → OnOver d (λ cell. IsCell cell.k cell.b)
 over-cell (counted.Count value cell) used h = tt
 over-cell (counted.Over cell) used h = h

@@ -13,6 +13,8 @@ pub record Apart (us : List Fraction) (cs ds : List Cell) : Type 0 where
   pub in_front : AreInCells front cs
   pub in_back : AreInCells back ds
 
+-- Numbers in two lists of cells put together are numbers in the first list, followed by numbers in
+-- the second.
 pub apart : (us : List Fraction) (cs ds : List Cell) → AreInCells us (cs ++ ds) → Apart us cs ds
 apart us [] ds h = record { front = []; back = us; whole = refl; in_front = tt; in_back = h }
 apart (u ∷ us) (c ∷ cs) ds h =
@@ -31,6 +33,7 @@ pub record One (us : List Fraction) (c : Cell) : Type 0 where
   pub is : us ≡ number ∷ []
   pub inside : IsInCell c.k c.b number
 
+-- A list of numbers in a single cell is one number, which lies in the cell.
 pub one_in : (us : List Fraction) (c : Cell) → AreInCells us (c ∷ []) → One us c
 one_in (u ∷ []) c h = record { number = u; is = refl; inside = h.0 }
 one_in [] c h = elim h [ ]
@@ -40,6 +43,7 @@ one_in (u ∷ v ∷ us) c h = elim h.1 [ ]
 pub least : Cell → Fraction
 least c = record { num = c.k; den = 2 ^ c.b; positive = pow_pos c.b }
 
+-- The least number of a cell lies in it.
 pub least-in : (c : Cell) → IsInCell c.k c.b (least c)
 unfolding least
 least-in c = record { from = omega arith; to = let p = pow_pos c.b in omega arith }
@@ -49,6 +53,7 @@ pub least_of : List Cell → List Fraction
 least_of [] = []
 least_of (c ∷ cs) = least c ∷ least_of cs
 
+-- The least numbers of cells lie in these cells, each in its own.
 pub least_of-in : (cs : List Cell) → AreInCells (least_of cs) cs
 unfolding least_of
 least_of-in [] = tt

@@ -30,6 +30,7 @@ pub record Front (es : List ℕ) (e : ℕ) : Type 0 where
   pub rest : List ℕ
   pub whole : es ≡ e ∷ rest
 
+-- A list of pending nodes with e at its first place is e, followed by the other nodes.
 pub front : (es : List ℕ) (e : ℕ) → slice_get es 0 ≡ Some e → Front es e
 front [] e h = absurd (cc)
 front (f ∷ es) e h = record { rest = es; whole = let same : f ≡ e = cc in ap (λ g. g ∷ es) same }

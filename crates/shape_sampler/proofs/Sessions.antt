@@ -22,6 +22,8 @@ begun-belongs s x st b = record {
   cells = tt;
 }
 
+-- A session that belongs still does with an attempt begun: the root alone pending, nothing made,
+-- and the whole room left.
 pub begun-belongs-at : (s : Spec) (x : Fraction) (st : SessionState) (es : List ℕ) (ts : List Token) (cs : List Cell) → es ≡ st.root ∷ [] → ts ≡ [] → cs ≡ [] → SessionBelongs s x st → SessionBelongs s x (record st { pending = es; tokens = ts; cells = cs; room = st.whole; stopped = None })
 begun-belongs-at s x st es ts cs pending tokens cells b =
     subst (λ fs. SessionBelongs s x (record st { pending = fs; tokens = ts; cells = cs; room = st.whole; stopped = None })) (sym pending)

@@ -22,6 +22,8 @@ one-made s x whole r q us vs left rest o p h k e =
     let there : Belongs s h.0 p = subst (λ n. Belongs s n p) same (fine s x k.2).0 in
     (one-object s h.0 o p here there [] [] (ap (λ ts. ts ++ []) e)).0
 
+-- Where an attempt goes on as it should and no node is pending, its tokens and cells are an ideal
+-- shape.
 pub ideal-shape : (s : Spec) (x : Fraction) (whole : ℕ) (tokens : List Token) (cells : List Cell) (room : ℕ) → GoesOn s x whole tokens cells room [] → IsIdealShape s x whole tokens cells
 ideal-shape s x whole tokens cells room g = record { object = first.object; spelled = first.spelled ∙ append-nil tokens; room_left = room; made = made }
   where

@@ -62,6 +62,7 @@ same-state a b root whole pending tokens cells room stopped =
     ∙ ap (λ r. record a { root = b.root; whole = b.whole; pending = b.pending; tokens = b.tokens; cells = b.cells; room = r }) room
     ∙ ap (λ s. record a { root = b.root; whole = b.whole; pending = b.pending; tokens = b.tokens; cells = b.cells; room = b.room; stopped = s }) stopped
 
+-- Two attempts with the same pending nodes, tokens, cells, room and used bits are the same.
 pub same-attempt : (a b : Attempt) → a.pending ≡ b.pending → a.tokens ≡ b.tokens → a.cells ≡ b.cells → a.room ≡ b.room → a.used ≡ b.used → a ≡ b
 same-attempt a b pending tokens cells room used =
     ap (λ es. record a { pending = es }) pending

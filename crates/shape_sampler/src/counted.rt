@@ -46,10 +46,8 @@ pub(crate) fn room_for(founded: &Founded, part: ExprId, left: u64) -> u64
 }
 
 /// Puts what was drawn at a sequence, set or cycle: the number of parts as a token, its cell, and
-/// the
-/// part so many times; where every number up to the room is passed over, the cell alone, and
-/// nothing
-/// stays pending.
+/// the part so many times; where every number up to the room is passed over, the cell alone, and
+/// nothing stays pending.
 pub(crate) fn put_counted(
     pending: &mut Pending,
     shape: &mut Shape,

@@ -80,8 +80,7 @@ impl Model for Session {
 
 impl Session {
     /// A session before its first attempt. Takes the memory of the values that its draws keep, and
-    /// no
-    /// other yet.
+    /// no other yet.
     pub fn new(alloc: Global, founded: &Founded, room: u64) -> Result<Session, AllocError>
         requires room { room ≤ 1000000 }
         ensures root { IfOk result (λ s. body_of founded.now 0 ≡ Some s.root) }
@@ -145,8 +144,7 @@ impl Session {
     }
 
     /// Moves the tokens and the cells out, where nothing is pending, and leaves both empty. Takes
-    /// no
-    /// memory.
+    /// no memory.
     pub fn take_made(&mut self) -> (Shape, Cells)
         requires made { self.old.pending ≡ [] }
         ensures shape { result.0.items ≡ self.old.tokens }

@@ -38,6 +38,8 @@ pub data IsLeft (d : DrawingState) : Type 0 where
   labels : GoesOn d → d.waiting ≢ None → IsLeft d
   visits : Visits d → IsLeft d
 
+-- A turn without bits and without an answer leaves the drawing as it was, with a shape to be
+-- labelled or a node to be visited.
 pub left-then : (before now : DrawingState) (o : Option Turned) → IsIdleTurn before o now → ((t : Turned) → o ≢ Some t) → IsLeft before × (now ≡ before)
 left-then before now o (turning.again e is told same) never = absurd (never (answer.Finished e) told)
 left-then before now o (turning.done going full told same) never = absurd (never _ told)

@@ -47,11 +47,14 @@ ideal-fits s x whole tokens cells i =
 pub record GivesLabels (s : Spec) (n : ℕ) (labels : List ℕ) (cells : List Cell) : Type 0 where
   pub gives : (us rest : List Fraction) → AreInCells us cells → KeepsLabels s.mode n (us ++ rest) labels rest
 
+-- In unlabelled mode, n atoms get no labels, and no number is drawn for them.
 pub gives-none : (s : Spec) → s.mode ≡ Mode.Unlabelled → (n : ℕ) → GivesLabels s n [] []
 gives-none s plain n = record {
   gives = λ us rest inside. subst (λ m. KeepsLabels m n (us ++ rest) [] rest) (sym plain) (refl, ap (λ vs. vs ++ rest) (none_in us inside));
 }
 
+-- In labelled mode, ideal labels of n atoms for cells are those that all numbers in the cells give
+-- the atoms.
 pub gives-ideal : (s : Spec) → s.mode ≡ Mode.Labelled → (n : ℕ) (labels : List ℕ) (cells : List Cell) → AreIdealLabels n labels cells → GivesLabels s n labels cells
 gives-ideal s labelled n labels cells ideal = record {
   gives = λ us rest inside. subst (λ m. KeepsLabels m n (us ++ rest) labels rest) (sym labelled) (ideal.labels_of us rest inside);

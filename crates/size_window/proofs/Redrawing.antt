@@ -25,6 +25,7 @@ has-shifted bits other place at (b ∷ more) same have = (
   has-shifted bits other (suc place) (suc at) more (λ n. (let z : suc place + n ≡ place + suc n = omega arith in ap bits z) ∙ same (suc n) ∙ (let y : at + suc n ≡ suc at + n = omega arith in ap other y)) have.1,
 )
 
+-- A list of bits, taken as a tape, has these bits from its first place on.
 pub has-own : (bits : List Bool) → HasBits (slice_get bits) 0 bits
 has-own [] = tt
 has-own (b ∷ bits) = (refl, has-shifted (slice_get (b ∷ bits)) (slice_get bits) 1 0 bits (λ n. (let z : 1 + n ≡ suc n = omega arith in ap (slice_get (b ∷ bits)) z) ∙ (let y : n ≡ 0 + n = omega arith in ap (slice_get bits) y)) (has-own bits))

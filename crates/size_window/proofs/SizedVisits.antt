@@ -48,6 +48,7 @@ module _ (c : Chooser) (bit : ℕ → Bit) (a : Attempt) (e : ℕ) (rest : List 
   node-sizes (Some (Node.Set part)) = counted-sizes part (draw (c.decide e (room_for c part a.room)) bit a.used)
   node-sizes (Some (Node.Cyc part)) = counted-sizes part (draw (c.decide e (room_for c part a.room)) bit a.used)
 
+-- A visit that goes on leaves the sum of the atoms made and the room left as it was.
 pub visit-sizes : (c : Chooser) (bit : ℕ → Bit) (a : Attempt) (pending : List ℕ) → SizesVisit a (visit_among c bit a pending)
 visit-sizes c bit a [] = record { same = refl }
 visit-sizes c bit a (e ∷ rest) = node-sizes c bit a e rest (node_at c.spec e)

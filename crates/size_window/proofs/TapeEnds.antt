@@ -62,6 +62,8 @@ all-used bytes (b ∷ bits) used count have past =
     let one : length (b ∷ bits) ≡ suc (length bits) = refl in
     elim past [ inl h ↦ omega (arith, h, here, count, one) | inr h ↦ omega (arith, h, here, count, one) ]
 
+-- A trace over a file's bits that ends with the tape's end has used all of them, 8 for each byte,
+-- and 2^63 at most.
 pub files_end_rightly : FilesEndRightly
 files_end_rightly s x F table limits bytes turns most c p is =
     let ends : file_bit bytes c.state.attempt.used ≡ None = subst (λ o. EndsAt o c.state.attempt.used (file_bit bytes)) is p.ended in
@@ -83,6 +85,8 @@ few-enough limits used turns are few bits =
     let product : turns * bits_a_turn limits ≤ 50000000 * 60000000 = mul-le-mul many most in
     omega (arith, bits, product)
 
+-- For a sound specification, a trace within the limits over the bits of a seed never ends with the
+-- tape's end.
 pub seeds_never_end : SeedsNeverEnd
 seeds_never_end s x F table limits seed turns most c sound are p is =
     let ends : seed_bit seed c.state.attempt.used ≡ None = subst (λ o. EndsAt o c.state.attempt.used (seed_bit seed)) is p.ended in

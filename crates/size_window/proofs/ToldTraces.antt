@@ -12,6 +12,8 @@ unfailed : {Failed : Type 0} (o : Option ℕ) → ((given : ℕ) → o ≡ Some 
 unfailed None caused never = refl
 unfailed (Some given) caused never = absurd (never (caused given refl))
 
+-- A trace over a tape whose bits are told, with no failed read at its end, is the course over these
+-- bits where none fails.
 pub told_traces_are_courses : ToldTracesAreCourses
 told_traces_are_courses s x F table limits tape turns most c p never k by =
     let smp : Sampling = record { chooser = k; limits = limits; tape = tape } in
@@ -65,6 +67,8 @@ module _ (s : Sampling) (faults : ℕ → Option ℕ) where
     | no h ↦ let k = still-ended n (m - n) two in let z : m ≡ n + (m - n) = omega (arith, h) in (ap (after s faults) z ∙ k.0, ap (most_given s faults) z ∙ k.1)
   ]
 
+-- Two traces over one tape of told bits that have both ended, neither with a failed read, are one
+-- course.
 pub ended_traces_are_one : EndedTracesAreOne
 ended_traces_are_one s x F table limits tape k by turns most c p ended others greatest d q ended_too =
     let smp : Sampling = record { chooser = k; limits = limits; tape = tape } in

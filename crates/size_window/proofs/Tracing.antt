@@ -47,6 +47,8 @@ pub agree : (s : Sampling) (f g : ℕ → Option ℕ) (n : ℕ) → ((k : ℕ) �
 agree s f g zero same = refl
 agree s f g (suc n) same = ap (λ o. one_turn_on s o (after s f n)) (same n (omega arith)) ∙ ap (one_turn_on s (g n)) (agree s f g n (λ k h. same k (omega arith)))
 
+-- Faults that agree in the first n turns of a course give one greatest number of bits to a number
+-- of a choice node.
 pub agree-given : (s : Sampling) (f g : ℕ → Option ℕ) (n : ℕ) → ((k : ℕ) → k < n → f k ≡ g k) → most_given s f n ≡ most_given s g n
 unfolding most_given
 agree-given s f g zero same = refl
@@ -144,6 +146,7 @@ atoms-both (e ∷ es) fs =
     let two = sum_by-cons (λ n. n) e.size (map (λ (d : Entry). d.size) es) in
     omega (arith, ih, one, two)
 
+-- Every drawing before its first turn has a trace: that of no bit, with no entry and no cell.
 pub traces_start : TracesStart
 unfolding most_given
 traces_start s x F table limits told d state within atoms = record {
@@ -319,5 +322,6 @@ module _ (s : Spec) (x : Fraction) (F : ℕ) (table : (level node : ℕ) → Bou
       atoms = atoms-now;
     }
 
+-- For a sound specification, each counted turn of a drawing that has a trace continues this trace.
 pub turns_continue : TurnsContinue
 turns_continue s sound x F table limits told turns before used most c h a now later turn counted = trace-continues s x F table limits told sound turns before used most c h a now later turn counted

@@ -55,6 +55,7 @@ pub if-told : {A : Type 0} {P Q : A → Type 0} (o : Option A) → ((a : A) → 
 if-told None f h = tt
 if-told (Some a) f h = f a h
 
+-- What holds of every value holds of an optional value, where it is there.
 pub if-any : {A : Type 0} {Q : A → Type 0} (o : Option A) → ((a : A) → Q a) → IfSome o Q
 if-any None f = tt
 if-any (Some a) f = f a
@@ -71,6 +72,7 @@ again-ends ending.ReadFault o used tape is = tt
 pub attempt-some : (d : DrawingState) (used : ℕ) → d.waiting ≡ None → d.session.pending ≢ [] → attempt_unless d.waiting d.session used ≡ attempt_of d.session used
 attempt-some d used none some = ap (λ w. attempt_unless w d.session used) none ∙ running-some d.session d.session.pending used some
 
+-- Where no shape waits and the session has no node pending, no attempt is under way.
 pub attempt-none : (d : DrawingState) (used : ℕ) → d.waiting ≡ None → d.session.pending ≡ [] → attempt_unless d.waiting d.session used ≡ no_attempt used
 attempt-none d used none idle = ap (λ w. attempt_unless w d.session used) none ∙ running-none d.session d.session.pending used idle
 

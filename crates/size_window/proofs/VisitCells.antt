@@ -25,6 +25,8 @@ ExtendsCells a (Visited.Straddled node cell) = Unit {0}
 ExtendsCells a (Visited.Ended place) = Unit {0}
 ExtendsCells a (Visited.Failed place) = Unit {0}
 
+-- Where cells begin with earlier cells, they are those, followed by the cells that were added to
+-- them.
 pub extended : (before more now : List Cell) → now ≡ before ++ more → now ≡ before ++ added before now
 extended before more now e = e ∙ ap (λ m. before ++ m) (sym (ap (added before) e ∙ added-after before more))
 

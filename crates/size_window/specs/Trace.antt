@@ -129,8 +129,7 @@ abbrev pub TurnsContinue : Type 0
 TurnsContinue = (s : Spec) → IsSound s → TurnsContinueOf s
 
 -- A trace over a tape whose bits are told, where no read failed at its end, is the course over
--- these
--- bits in which none fails.
+-- these bits in which none fails.
 abbrev pub ToldTracesAreCourses : Type 0
 ToldTracesAreCourses = (s : Spec) (x : Fraction) (F : ℕ) (table : (level node : ℕ) → Bounds)
     (limits : Limits) (tape : ℕ → Option Bool) (turns most : ℕ) (c : Course)

@@ -117,19 +117,15 @@ impl Drawing {
     /// A drawing that ended answers its ending again, and nothing changes. Else it ends with `Done`
     /// exactly where as many objects as wanted are kept, and else with `TurnLimit` exactly where as
     /// many turns as the limit were counted; both cost no turn. Else a turn is counted: a made
-    /// shape
-    /// that waits gets its labels and is kept; else an attempt begins, or one node of the attempt
-    /// under way is visited. A made shape of at least the least size is kept in unlabelled mode and
-    /// waits for its labels in labelled mode; a smaller one, and an attempt over the greatest size,
-    /// is thrown away. The bits of thrown attempts stay used. A cell that straddles, the tape's end
-    /// and a failed read end the drawing. The answer is fixed by the bits that were given and the
-    /// oracle's table, whether the shelf tells its content or not. A failed read is answered
-    /// exactly
-    /// where the count of faults of the tape's name rose, by one. The memory of a turn is taken
-    /// before
-    /// its first bit; `OutOfMemory` leaves drawing, tape, oracle and shelf as they were, and counts
-    /// no
-    /// turn.
+    /// shape that waits gets its labels and is kept; else an attempt begins, or one node of the
+    /// attempt under way is visited. A made shape of at least the least size is kept in unlabelled
+    /// mode and waits for its labels in labelled mode; a smaller one, and an attempt over the
+    /// greatest size, is thrown away. The bits of thrown attempts stay used. A cell that straddles,
+    /// the tape's end and a failed read end the drawing. The answer is fixed by the bits that were
+    /// given and the oracle's table, whether the shelf tells its content or not. A failed read is
+    /// answered exactly where the count of faults of the tape's name rose, by one. The memory of a
+    /// turn is taken before its first bit; `OutOfMemory` leaves drawing, tape, oracle and shelf as
+    /// they were, and counts no turn.
     pub fn turn<const F: u32, O: Oracle<F>, S: Shelf, L: Ledger>(
         &mut self,
         founded: &Founded,
@@ -349,8 +345,7 @@ impl Drawing {
     }
 
     /// Throws a made shape away where it is below the least size. Else it is kept in unlabelled
-    /// mode,
-    /// and waits for its labels in labelled mode.
+    /// mode, and waits for its labels in labelled mode.
     fn make(&mut self, mode: Mode, used: u64) -> Turned
         requires { MaySettle Outcome.Made self.old }
         ensures { Settles (spec_mode mode) Outcome.Made used self.old result self.new }

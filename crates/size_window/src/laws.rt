@@ -32,10 +32,9 @@ use well_founded::laws::objects_of_size_0_are_decided;
 /// fails.
 ///
 /// The cells of its finished attempts are a front of all its cells, and for all numbers in them,
-/// and
-/// any further numbers, the ideal run keeps the objects of the entries with their labels, in order,
-/// throws away as many attempts, and leaves the further numbers. Each entry is made of its own
-/// cells.
+/// and any further numbers, the ideal run keeps the objects of the entries with their labels, in
+/// order, throws away as many attempts, and leaves the further numbers. Each entry is made of its
+/// own cells.
 pub fn a_drawing_follows_the_ideal_run()
     ensures { (s : Sampling) (x : Fraction) → DecidesIdeally s.chooser x → IsSound s.chooser.spec
         → (faults : ℕ → Option ℕ) (n : ℕ) → Follows s.chooser.spec x s.limits (after s faults n) }
@@ -72,8 +71,7 @@ pub fn a_trace_starts_with_its_drawing()
 {}
 
 /// A turn from a sound specification continues its drawing's trace: with the turn's bits after
-/// those given before, its entry after the
-/// entries and its cells after the cells.
+/// those given before, its entry after the entries and its cells after the cells.
 pub fn a_turn_continues_a_trace()
     ensures { TurnsContinue }
 {}
@@ -94,10 +92,8 @@ pub fn each_entry_is_redrawn_from_its_cells()
 {}
 
 /// The entries of a course are in order: they are numbered from 1, the bits of each begin at or
-/// after
-/// the end of those of the one before it, each has as many atoms as it tells, within the window,
-/// and
-/// there are as many as the course kept.
+/// after the end of those of the one before it, each has as many atoms as it tells, within the
+/// window, and there are as many as the course kept.
 pub fn the_entries_of_a_course_are_in_order()
     ensures { (s : Sampling) (faults : ℕ → Option ℕ) (n : ℕ)
         → IsInOrder s.limits (after s faults n) }
@@ -111,16 +107,14 @@ pub fn a_course_uses_few_bits()
 {}
 
 /// Over a file a trace ends with the tape's end only where all bits are used, and over a seed it
-/// never
-/// does.
+/// never does.
 pub fn the_tape_ends_where_its_bits_are_used()
     ensures files { FilesEndRightly }
     ensures seeds { SeedsNeverEnd }
 {}
 
 /// The entries of a trace from a sound specification, whether its tape is known or not, are made
-/// again
-/// from their own cells, for each chooser by the table, and are in order.
+/// again from their own cells, for each chooser by the table, and are in order.
 pub fn the_entries_of_a_trace_are_made_again()
     ensures { (s : Spec) (x : Fraction) (F : ℕ) (table : (level node : ℕ)
         → Bounds) (limits : Limits)

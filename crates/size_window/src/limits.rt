@@ -1,8 +1,7 @@
 //! The window of a drawing, its limits, and what it counts.
 
 /// The least and the greatest size that is kept, how many objects are wanted, and how many turns
-/// may
-/// be made.
+/// may be made.
 #[derive(Clone, Copy, Debug, PartialEq, Eq)]
 pub struct Limits {
     pub min: u64,
@@ -12,8 +11,7 @@ pub struct Limits {
 }
 
 /// How many objects were kept and attempts thrown away, how many turns were made, and the sum of
-/// the
-/// kept sizes.
+/// the kept sizes.
 #[derive(Clone, Copy, Debug, PartialEq, Eq)]
 pub struct Counts {
     pub kept: u64,

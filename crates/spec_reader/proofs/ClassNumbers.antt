@@ -13,12 +13,15 @@ false_of : (t : Bool) (a b : List ℕ) → (true ≡ t → a ≡ b) → a ≢ b 
 false_of true a b f e = absurd (e (f refl))
 false_of false a b f e = refl
 
+-- The test whether two words are the same says yes for equal words.
 pub same_is : (a b : List ℕ) → a ≡ b → is_same a b ≡ true
 same_is a b e = true_of (is_same a b) a b (other_text a b) e
 
+-- The test whether two words are the same says no for different words.
 pub other_is : (a b : List ℕ) → a ≢ b → is_same a b ≡ false
 other_is a b e = false_of (is_same a b) a b (same_text a b) e
 
+-- A word that is missing among the names has their count as its number.
 pub missing_number : (names : List (List ℕ)) (w : List ℕ) → IsMissing w names → class_number names w ≡ length names
 missing_number [] w m = refl
 missing_number (n ∷ ns) w m =
@@ -26,6 +29,7 @@ missing_number (n ∷ ns) w m =
     let later : IsMissing w ns = record { nowhere = λ i. m.nowhere (suc i) } in
     rw (other_is n w here) (ap suc (missing_number ns w later))
 
+-- Where the names are distinct, the number of the name at place i is i.
 pub found_number : (names : List (List ℕ)) (w : List ℕ) (i : ℕ) → AreDistinct names → slice_get names i ≡ Some w → class_number names w ≡ i
 found_number [] w i d e = absurd (cc)
 found_number (n ∷ ns) w zero d e =

@@ -55,6 +55,8 @@ faults_naming : (m : Mode) (defined before : List (List ℕ)) (starts : Bool) (p
 faults_naming m defined before starts [] = tt
 faults_naming m defined before starts (p ∷ ps) = first_naming _ _ (at_naming m defined before starts p.token p.line p.column) (faults_naming m defined (with_names before (defined_by starts p.token)) (ends_line p.token) ps)
 
+-- The first fault of tokens is always an undefined name, a name defined twice, or a set or cycle
+-- without labels.
 pub fault_naming : (m : Mode) (defined before : List (List ℕ)) (starts : Bool) (ps : List Placed) (f : SpecFault) → first_fault m defined before starts ps ≡ Some f → IsNaming f
 fault_naming m defined before starts ps f e = subst (λ o. IsNamingIf o) e (faults_naming m defined before starts ps)
 
@@ -69,6 +71,7 @@ pub fault_same : (m : Mode) (defined others before : List (List ℕ)) → ((w : 
 fault_same m defined others before same starts [] = refl
 fault_same m defined others before same starts (p ∷ ps) = rw (at_same m defined others before same starts p.token p.line p.column, fault_same m defined others (with_names before (defined_by starts p.token)) same (ends_line p.token) ps) refl
 
+-- Where there is no first one of two possible faults, there is neither of them.
 pub none_both : (a b : Option SpecFault) → first_of a b ≡ None → (a ≡ None) × (b ≡ None)
 none_both (Some f) b e = absurd (cc)
 none_both None b e = (refl, e)

@@ -157,6 +157,7 @@ ended_from zero s (b ∷ bs) =
     let e = ended_from (further (front b bs)) (moved s (front b bs)) bs in
     record { front = made s (front b bs) ++ e.front; last = e.last; is = ap (λ ts. made s (front b bs) ++ ts) e.is ∙ sym (append_assoc (made s (front b bs)) e.front (e.last ∷ [])); ends = e.ends }
 
+-- The tokens of any bytes end with the token of the end of the text.
 pub are_ended : (bytes : List ℕ) → IsEnded (tokens_of bytes)
 are_ended bytes = ended_from 0 beginning bytes
 

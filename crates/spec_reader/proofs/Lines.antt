@@ -28,6 +28,7 @@ abbrev pub IsClean : Mode → (names before : List (List ℕ)) → Bool → List
 IsClean m names before starts [] = Unit {0}
 IsClean m names before starts (t ∷ ts) = ((line column : ℕ) → fault_at m names before starts t line column ≡ None) × IsClean m names (with_names before (defined_by starts t)) (ends_line t) ts
 
+-- Tokens each of which has no fault, at whatever line and column it stands, have no first fault.
 pub clean_none : (m : Mode) (names before : List (List ℕ)) (starts : Bool) (ps : List Placed) → IsClean m names before starts (plain_tokens ps) → first_fault m names before starts ps ≡ None
 clean_none m names before starts [] c = refl
 clean_none m names before starts (p ∷ ps) c =
@@ -56,17 +57,20 @@ definitions_of [] ts = []
 definitions_of (w ∷ ws) [] = []
 definitions_of (w ∷ ws) (t ∷ ts) = record { name = w; body = t } ∷ definitions_of ws ts
 
+-- The definitions of names by as many terms have these names, in order.
 pub defined_names : (ws : List (List ℕ)) (ts : List Term) → length ts ≡ length ws → map (λ (d : Definition). d.name) (definitions_of ws ts) ≡ ws
 defined_names [] ts same = refl
 defined_names (w ∷ ws) [] same = absurd (omega arith)
 defined_names (w ∷ ws) (t ∷ ts) same = let rest : length ts ≡ length ws = omega arith in ap (λ us. w ∷ us) (defined_names ws ts rest)
 
+-- The definitions of names by as many terms have these terms as their bodies, in order.
 pub defined_bodies : (ws : List (List ℕ)) (ts : List Term) → length ts ≡ length ws → map (λ (d : Definition). d.body) (definitions_of ws ts) ≡ ts
 defined_bodies [] [] same = refl
 defined_bodies [] (t ∷ ts) same = absurd (omega arith)
 defined_bodies (w ∷ ws) [] same = absurd (omega arith)
 defined_bodies (w ∷ ws) (t ∷ ts) same = let rest : length ts ≡ length ws = omega arith in ap (λ us. t ∷ us) (defined_bodies ws ts rest)
 
+-- Where the texts of parts read as terms, there are as many terms as parts.
 pub length-read : {m : Mode} {names : List (List ℕ)} {shown : List Shown} {ps : List ℕ} {ts : List Term} → ReadEach m names shown ps ts → length ts ≡ length ps
 length-read no_parts = refl
 length-read (more_parts h later) = ap suc (length-read later)
@@ -100,6 +104,8 @@ line_text : (line others : List ℕ) → list_all is_text line ≡ true → list
 line_text line others e f =
     list_all-append is_text (line ++ 10 ∷ []) others ∙ and_from (list_all is_text (line ++ 10 ∷ [])) (list_all is_text others) (list_all-append is_text line (10 ∷ []) ∙ and_from (list_all is_text line) (list_all is_text (10 ∷ [])) e refl) f
 
+-- Where bodies read as terms, the lines of as many valid names with these bodies read as faultless
+-- definitions, if these and the names before are distinct.
 pub lines_read : (m : Mode) (names : List (List ℕ)) (shown : List Shown) (before ws : List (List ℕ)) {bodies : List ℕ} {ts : List Term} → ReadEach m names shown bodies ts → length bodies ≡ length ws → ((i : ℕ) (w : List ℕ) → slice_get ws i ≡ Some w → IsName w) → AreDistinct (before ++ ws) → LinesRead m names shown before ws bodies ts
 lines_read m names shown before [] no_parts same named d = record { tokens = Token.TextEnd ∷ []; lexed = plain-end; all_text = refl; parses = text_end; clean = (λ line column. refl, tt) }
 lines_read m names shown before [] (more_parts h later) same named d = absurd (omega arith)

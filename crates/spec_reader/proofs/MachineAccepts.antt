@@ -246,5 +246,7 @@ sound (Done b) [] m ds e = (refl, cc)
 sound s [] m ds e = absurd (cc)
 sound s (k ∷ ts) m ds e = back s k ts m ds (sound (step s k) ts m ds e)
 
+-- Where the machine reads tokens to the end with a mode and definitions, the tokens are a text of
+-- the grammar with these.
 pub accepts : (ts : List Token) (m : Mode) (ds : List Definition) → run Start ts ≡ Done (record { mode = m; definitions = ds }) → IsText ts m ds
 accepts ts m ds e = sound Start ts m ds e

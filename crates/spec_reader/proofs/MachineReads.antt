@@ -73,6 +73,8 @@ definitions_run (defined {rest = rest} {w = w} {ps = ps} {ds = ds} s more) b d =
     r.comes ∙ ap (λ qs. run (Lines (also from (record { name = w; body = sum_of qs } ∷ []))) rest) r.value_is
     ∙ definitions_run more from e ∙ ap (λ es. Done (record { mode = b.mode; definitions = es })) (append_assoc b.definitions (d ∷ []) (e ∷ ds))
 
+-- The machine reads the tokens of a text of the grammar to the end, with the text's mode and
+-- definitions.
 pub reads : {ts : List Token} {m : Mode} {ds : List Definition} → IsText ts m ds → run Start ts ≡ Done (record { mode = m; definitions = ds })
 reads (text {m = m} (defined {ts = ts} {rest = rest} {w = w} {ps = ps} {ds = ds} s more)) =
     let none : Before = record { mode = m; definitions = [] } in

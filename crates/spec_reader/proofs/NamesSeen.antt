@@ -10,6 +10,7 @@ use Rattle.spec_reader.specs.Reading.{plain_tokens}
 use Rattle.spec_reader.specs.Faults.{is_among, with_names, defined_by, line_names, ends_line, fault_at, first_fault, twice, undefined}
 use Rattle.spec_reader.proofs.ClassNumbers.{same_is, other_is}
 
+-- A word that stands at some place of the names is among them by the test.
 pub among_found : (names : List (List ℕ)) (w : List ℕ) (i : ℕ) → slice_get names i ≡ Some w → is_among names w ≡ true
 among_found [] w i e = absurd (cc)
 among_found (n ∷ ns) w zero e =
@@ -21,6 +22,7 @@ among_found (n ∷ ns) w (suc i) e = either (is_same n w) (is_among ns w) (among
     either true b e = refl
     either false b e = e
 
+-- A word that is missing among the names isn't among them by the test.
 pub among_missing : (names : List (List ℕ)) (w : List ℕ) → IsMissing w names → is_among names w ≡ false
 among_missing [] w m = refl
 among_missing (n ∷ ns) w m =
@@ -28,9 +30,11 @@ among_missing (n ∷ ns) w m =
     let later : IsMissing w ns = record { nowhere = λ i. m.nowhere (suc i) } in
     rw (other_is n w here) (among_missing ns w later)
 
+-- Adding a word that stands among the names already leaves the names as they are.
 pub one_found : (names : List (List ℕ)) (w : List ℕ) (i : ℕ) → slice_get names i ≡ Some w → with_names names (w ∷ []) ≡ names
 one_found names w i e = rw (among_found names w i e) refl
 
+-- Adding a word that is missing among the names puts it at their end.
 pub one_missing : (names : List (List ℕ)) (w : List ℕ) → IsMissing w names → with_names names (w ∷ []) ≡ names ++ w ∷ []
 one_missing names w m = rw (among_missing names w m) refl
 

@@ -34,6 +34,7 @@ definitions_here : {ts : List Token} {ds : List Definition} → DefinitionsOne t
 definitions_here end_one = text_end
 definitions_here (defined_one s later) = defined (sum_here s) (definitions_here later)
 
+-- Each text of language 1 is a text of the grammar, with the same mode and definitions.
 pub text_here : {ts : List Token} {m : Mode} {ds : List Definition} → IsTextOne ts m ds → IsText ts m ds
 text_here (text_one later) = text (definitions_here later)
 
@@ -115,5 +116,6 @@ mutual
   terms_plain names rows none h p = p
   terms_plain names rows (more t ts) h p = terms_plain names (with_term names rows t) ts h.1 (term_plain names rows t h.0 p)
 
+-- In the tables of a text of language 1 each node has its plain range.
 pub ranges_plain : {ts : List Token} {m : Mode} {ds : List Definition} → IsTextOne ts m ds → HasPlainRanges (tables m ds)
 ranges_plain {ds = ds} t = (terms_plain (names_of ds) [] (bodies_of ds) (text_plain t) (record { each = refl })).each

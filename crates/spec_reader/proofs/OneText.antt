@@ -19,6 +19,7 @@ use Rattle.spec_reader.specs.Faults.{first_fault}
 use Rattle.spec_reader.specs.Reading.{plain_tokens, StandFor, Grammar, IsMisplaced, HasFault, BreaksLimit, Refuses}
 use Rattle.spec_reader.proofs.MachineReads.{reads}
 
+-- Tokens are a text with one mode and one list of definitions only.
 pub same_read : (us : List Token) (m n : Mode) (ds es : List Definition) → IsText us m ds → IsText us n es → ◌≡◌ {A = Before} (record { mode = m; definitions = ds }) (record { mode = n; definitions = es })
 same_read us m n ds es a b =
     let both : Done (record { mode = m; definitions = ds }) ≡ Done (record { mode = n; definitions = es }) = sym (reads a) ∙ reads b in
@@ -27,6 +28,7 @@ same_read us m n ds es a b =
 stands_for_one : (ts : List Placed) (s t : Spec) → StandFor ts s → StandFor ts t → s ≡ t
 stands_for_one ts s t a b = a.tables_are ∙ ap (λ (q : Before). tables q.mode q.definitions) (same_read (plain_tokens ts) a.mode b.mode a.definitions b.definitions a.is_text b.is_text) ∙ sym b.tables_are
 
+-- A text stands for at most one specification.
 pub one_specification : (bytes : List ℕ) (s t : Spec) → Grammar bytes s → Grammar bytes t → s ≡ t
 one_specification bytes s t a b = stands_for_one (tokens_of bytes) s t a.stand_for b.stand_for
 
@@ -43,11 +45,13 @@ not_both : (b : Bool) → b ≡ true → ¬ (not b ≡ true)
 not_both true e n = absurd (cc)
 not_both false e n = absurd (cc)
 
+-- Where all bytes are text, no place is the first of a byte that isn't text.
 pub all_text : (bytes : List ℕ) (place : ℕ) → AllPass is_text bytes → ¬ (position (λ b. not (is_text b)) bytes ≡ Some place)
 all_text bytes place all e =
     let at = position-Some (λ b. not (is_text b)) bytes place 0 e in
     not_both (is_text (get_or bytes place 0)) (passes_at is_text bytes place (list_all-from_AllPass is_text bytes all) at.0) at.1
 
+-- In the tokens of a text none is misplaced: some text begins with the tokens up to and with each.
 pub text_not_misplaced : (ts : List Placed) (mode : Mode) (ds : List Definition) (line column : ℕ) → IsText (plain_tokens ts) mode ds → ¬ (IsMisplaced ts line column)
 text_not_misplaced ts mode ds line column t m =
     let split : ts ≡ (m.before ++ m.token ∷ []) ++ m.behind = m.is_there ∙ sym (append_assoc m.before (m.token ∷ []) m.behind) in
@@ -57,6 +61,7 @@ text_not_misplaced ts mode ds line column t m =
 not_misplaced : (ts : List Placed) (s : Spec) (line column : ℕ) → StandFor ts s → ¬ (IsMisplaced ts line column)
 not_misplaced ts s line column f m = text_not_misplaced ts f.mode f.definitions line column f.is_text m
 
+-- Tokens that stand for a specification have no fault of names or labels.
 pub not_faulty : (ts : List Placed) (s : Spec) (fault : SpecFault) → StandFor ts s → ¬ (HasFault ts fault)
 not_faulty ts s fault f h =
     let same = same_read (plain_tokens ts) f.mode h.mode f.definitions h.definitions f.is_text h.is_text in
@@ -76,6 +81,8 @@ not_broken s BuildFault.OutOfMemory w n t = absurd (n refl)
 breaks_none : (bytes : List ℕ) (s : Spec) (fault : BuildFault) → Grammar bytes s → IsWithinLimits s → fault ≢ BuildFault.OutOfMemory → ¬ (BreaksLimit bytes fault)
 breaks_none bytes s fault g w n b = not_broken s fault w n (subst (λ t. TellsLimit t fault) (one_specification bytes b.specification s b.stands g) b.tells)
 
+-- Where a text of at most 65536 bytes stands for a specification within the limits, it can be
+-- refused for want of memory alone.
 pub accepted : (bytes : List ℕ) (s : Spec) (f : SpecFault) → length bytes ≤ 65536 → Grammar bytes s → IsWithinLimits s → Refuses bytes f → f ≡ SpecFault.OutOfMemory
 accepted bytes s (SpecFault.TooLong len) few g w r = let long = r.1 in absurd (omega (arith, long))
 accepted bytes s (SpecFault.NotText place) few g w r = absurd (all_text bytes place g.all_text r.1)

@@ -81,6 +81,8 @@ ended_or_failed Failed = inl refl
 no_lines : (s : State) (b : Before) → ¬ (step s Token.TextEnd ≡ Lines b)
 no_lines s b e = elim (ended_or_failed s) [ inl f ↦ absurd (cc f) | inr d ↦ (let h : Lines b ≡ Done d.0 = sym e ∙ d.1 in absurd (cc)) ]
 
+-- Where tokens end with the end of the text and the first two bring the machine to whole lines,
+-- those behind the two end so too.
 pub ended_rest : (ts rest : List Placed) (b : Before) → IsEnded ts → 2 ≤ length ts → run Start (plain_tokens (take 2 ts)) ≡ Lines b → rest ≡ drop 2 ts → IsEnded rest
 ended_rest ts rest b ended h e r = by_front ts rest b ended.front ended.last ended.is ended.ends h e r
   where
@@ -153,6 +155,8 @@ definitions_names : {ts : List Token} {ds : List Definition} → Definitions ts 
 definitions_names text_end = refl
 definitions_names (defined {w = w} s more) = ap (λ ws. w ∷ ws) (sum_names s ∙ definitions_names more)
 
+-- Behind the first two tokens of a text, the names that begin lines are those of its definitions,
+-- in order.
 pub text_names : {ts : List Token} {m : Mode} {ds : List Definition} → IsText ts m ds → line_names true (drop 2 ts) ≡ names_of ds
 text_names (text more) = definitions_names more
 
@@ -162,6 +166,8 @@ whole_read [] lines s b h e r d = absurd (omega arith)
 whole_read (t ∷ []) lines s b h e r d = absurd (omega arith)
 whole_read (t ∷ u ∷ ts) lines s b h e r d = ap (λ q. run q (plain_tokens ts)) e ∙ ap (λ us. run s (plain_tokens us)) (sym r) ∙ d
 
+-- Tokens behind the first two, taken without their places, are those behind the first two of all
+-- tokens without their places.
 pub plain-drop_two : (ts : List Placed) → plain_tokens (drop 2 ts) ≡ drop 2 (plain_tokens ts)
 plain-drop_two [] = refl
 plain-drop_two (t ∷ []) = refl
@@ -185,5 +191,6 @@ with_names_few names (w ∷ ws) = omega (arith, with_names_few (if is_among name
     one_more names w true = omega arith
     one_more names w false = omega (arith, length-append names (w ∷ []))
 
+-- Different names that begin lines are at most as many as the tokens.
 pub few_names : (ts : List Placed) → length (with_names [] (line_names true (plain_tokens ts))) ≤ length ts
 few_names ts = omega (arith, with_names_few [] (line_names true (plain_tokens ts)), few_lines true (plain_tokens ts), length-mapped (λ (t : Placed). t.token) ts)

@@ -108,26 +108,38 @@ pub plain-exactly : (some : Bool) (rest : List ℕ) → plain_from 0 some (61 �
 unfolding plain_from
 plain-exactly some rest = refl
 
+-- A plus sign in front gives its token, and then come the tokens of the rest in a line that has
+-- one.
 pub plain-plus : (some : Bool) (rest : List ℕ) → plain_from 0 some (43 ∷ rest) ≡ Token.Plus ∷ plain_from 0 true rest
 unfolding plain_from
 plain-plus some rest = refl
 
+-- An asterisk in front gives its token, and then come the tokens of the rest in a line that has
+-- one.
 pub plain-star : (some : Bool) (rest : List ℕ) → plain_from 0 some (42 ∷ rest) ≡ Token.Star ∷ plain_from 0 true rest
 unfolding plain_from
 plain-star some rest = refl
 
+-- An opening parenthesis in front gives its token, and then come the tokens of the rest in a line
+-- that has one.
 pub plain-open : (some : Bool) (rest : List ℕ) → plain_from 0 some (40 ∷ rest) ≡ Token.Open ∷ plain_from 0 true rest
 unfolding plain_from
 plain-open some rest = refl
 
+-- A closing parenthesis in front gives its token, and then come the tokens of the rest in a line
+-- that has one.
 pub plain-close : (some : Bool) (rest : List ℕ) → plain_from 0 some (41 ∷ rest) ≡ Token.Close ∷ plain_from 0 true rest
 unfolding plain_from
 plain-close some rest = refl
 
+-- A greater-than sign and an equals sign in front give the token of a bound from below, and then
+-- come the tokens of the rest.
 pub plain-least : (some : Bool) (rest : List ℕ) → plain_from 0 some (62 ∷ 61 ∷ rest) ≡ Token.AtLeast ∷ plain_from 0 true rest
 unfolding plain_from
 plain-least some rest = refl
 
+-- A less-than sign and an equals sign in front give the token of a bound from above, and then come
+-- the tokens of the rest.
 pub plain-most : (some : Bool) (rest : List ℕ) → plain_from 0 some (60 ∷ 61 ∷ rest) ≡ Token.AtMost ∷ plain_from 0 true rest
 unfolding plain_from
 plain-most some rest = refl

@@ -57,6 +57,8 @@ one_product {tokens = tokens} {t = t} p = record {
   parses = λ rest. subst (λ u. Sum (tokens ++ rest) (u ∷ []) rest) p.is (summed (p.parses rest) no_products);
 }
 
+-- Tokens that are a factor, a product or a sum for a term, as the form says, are a sum for the same
+-- term.
 pub as_sum : (f : Form) {tokens : List Token} {t : Term} → Parses f tokens t → SumOf tokens t
 as_sum form.Single h = one_product (one_factor h)
 as_sum form.Multiplied h = one_product h
@@ -187,9 +189,12 @@ product_reads m names shown (more_parts {p = p} {t = t} h (more_parts {t = u} {t
 pub empty_reads : (m : Mode) (names : List (List ℕ)) (word : List ℕ) → IsLeafWord word → Reads m names (single (leaf_text (codes "E") word)) (Term.empty word)
 empty_reads m names word w = record { tokens = Token.Empty word ∷ []; lexes = empty_lexes word w; parses = λ rest. empty_leaf; fine = (tt, tt) }
 
+-- The text of an atom with a leaf's word reads as the term of this atom, without a fault.
 pub atom_reads : (m : Mode) (names : List (List ℕ)) (word : List ℕ) → IsLeafWord word → Reads m names (single (leaf_text (codes "Z") word)) (Term.atom word)
 atom_reads m names word w = record { tokens = Token.Atom word ∷ []; lexes = atom_lexes word w; parses = λ rest. atom_leaf; fine = (tt, tt) }
 
+-- The text of a valid name that is among the defined ones reads as a reference to the class of this
+-- name.
 pub class_reads : (m : Mode) (names : List (List ℕ)) (name : List ℕ) → IsName name → is_among names name ≡ true → Reads m names (single name) (Term.class name)
 class_reads m names name n among = record { tokens = Token.Name name ∷ []; lexes = name_lexes name n; parses = λ rest. named; fine = (among, tt) }
 
@@ -272,8 +277,10 @@ counted_reads m names c operator r v t l suits range h =
 pub seq_lexes : Lexes (codes "Seq") (Token.Counted Counting.Seq ∷ [])
 seq_lexes = run_lexes (codes "Seq") (Token.Counted Counting.Seq) (omega arith) refl refl
 
+-- The word Set is the one token of sets before a break.
 pub set_lexes : Lexes (codes "Set") (Token.Counted Counting.Set ∷ [])
 set_lexes = run_lexes (codes "Set") (Token.Counted Counting.Set) (omega arith) refl refl
 
+-- The word Cyc is the one token of cycles before a break.
 pub cyc_lexes : Lexes (codes "Cyc") (Token.Counted Counting.Cyc ∷ [])
 cyc_lexes = run_lexes (codes "Cyc") (Token.Counted Counting.Cyc) (omega arith) refl refl

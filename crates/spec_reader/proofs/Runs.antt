@@ -40,6 +40,7 @@ all_imply p q f (b ∷ bs) e =
     let both = and_parts (p b) (list_all p bs) e in
     and_from (q b) (list_all q bs) (f b both.0) (all_imply p q f bs both.1)
 
+-- Bytes that may all stand in a run are all text.
 pub run_text : (run : List ℕ) → list_all is_run_byte run ≡ true → list_all is_text run ≡ true
 run_text run e = all_imply is_run_byte is_text text_byte run e
 
@@ -93,6 +94,8 @@ plain-empty word rest some h few e k =
     plain-begins 69 (58 ∷ (word ++ rest)) (58 ∷ word) rest some (Token.Empty word) refl
     (with_word (69 ∷ []) word (58 ∷ (word ++ rest)) (Token.Empty word) refl h (word_of word rest e k) (few_token (69 ∷ []) word few) ∙ ap (λ n. Front.Begins (Token.Empty word) n) (add-one (length word)))
 
+-- A letter Z, a colon and a word of 1 to 32 bytes of a run, before a break, give the token of the
+-- atom with this word, and then come those of the rest.
 pub plain-atom : (word rest : List ℕ) (some : Bool) → 0 < length word → length word ≤ 32 → list_all is_run_byte word ≡ true → IsBreak rest → plain_from 0 some (90 ∷ 58 ∷ (word ++ rest)) ≡ Token.Atom word ∷ plain_from 0 true rest
 plain-atom word rest some h few e k =
     plain-begins 90 (58 ∷ (word ++ rest)) (58 ∷ word) rest some (Token.Atom word) refl
@@ -108,10 +111,12 @@ name_token (b ∷ bs) n =
     let name = b ∷ bs in
     cond-false (list_all is_digit name) _ _ (and_left (is_digit b) (list_all is_digit bs) (letter_not_digit b n.letter)) ∙ cond-false (is_same name (codes "E")) _ _ (other_is name (codes "E") n.free.0) ∙ cond-false (is_same name (codes "Z")) _ _ (other_is name (codes "Z") n.free.1.0) ∙ cond-false (is_same name (codes "Seq")) _ _ (other_is name (codes "Seq") n.free.1.1.0) ∙ cond-false (is_same name (codes "Set")) _ _ (other_is name (codes "Set") n.free.1.1.1.0) ∙ cond-false (is_same name (codes "Cyc")) _ _ (other_is name (codes "Cyc") n.free.1.1.1.1.0) ∙ cond-true (begins_with_letter name && nat_le (length name) 32) _ _ (and_from (is_letter b) (nat_le (length name) 32) n.letter (le-leb (length name) 32 n.few))
 
+-- A valid name has at least one byte.
 pub name_long : (name : List ℕ) → IsName name → 0 < length name
 name_long [] n = let letter = n.letter in absurd (cc)
 name_long (b ∷ bs) n = omega arith
 
+-- All bytes of a valid name may stand in a run.
 pub name_bytes : (name : List ℕ) → IsName name → list_all is_run_byte name ≡ true
 name_bytes name n = list_all-from_AllPass is_run_byte name n.run
 
@@ -172,11 +177,14 @@ up_to_64 : all_spell 64 ≡ true
 unfolding digits
 up_to_64 = refl
 
+-- The decimal digits of a bound k, which is from 1 to 64, are one or two, and as a run they are the
+-- token of the number k.
 pub bound_spelt : (k : ℕ) → IsBound k → IsSpelt (decimal k) k
 bound_spelt k b = spelt_so (decimal k) k (spelt 64 k up_to_64 b.from_one b.to_64)
 
 digit_byte : (b : ℕ) → is_digit b ≡ true → is_run_byte b ≡ true
 digit_byte b e = grind (arith, nat_tests)
 
+-- Bytes that are all digits may all stand in a run.
 pub digit_bytes : (digits : List ℕ) → list_all is_digit digits ≡ true → list_all is_run_byte digits ≡ true
 digit_bytes digits e = all_imply is_digit is_run_byte digit_byte digits e

@@ -47,8 +47,11 @@ pub so_far_kept : (bytes rest : List ℕ) (i n : ℕ) (s behind : Spot) (f : Fro
 so_far_kept bytes rest i n s behind f all old new rest_is e h so_far new_is behind_is n_is =
     rw (new_is, behind_is, n_is) (so_far ∙ ap (λ ts. old ++ ts) (scan_step bytes rest i s f rest_is e h) ∙ sym (append_assoc old (made s f) _))
 
+-- Where line plus column is at most the place plus 2, and the column at least 1, the same bound
+-- holds behind the bytes of what begins there.
 pub near_kept : (i n : ℕ) (s behind : Spot) (f : Front) → s.line + s.column ≤ i + 2 → 1 ≤ s.column → behind ≡ along (further f) (moved s f) → n ≡ further f → behind.line + behind.column ≤ i + (1 + n) + 2
 near_kept i n s behind f near one behind_is n_is = rw (behind_is, n_is) (omega (arith, stays_near s f one))
 
+-- Where the column of a spot is at least 1, so is the column of the spot behind what begins there.
 pub from_one_kept : (s behind : Spot) (f : Front) → 1 ≤ s.column → behind ≡ along (further f) (moved s f) → 1 ≤ behind.column
 from_one_kept s behind f one behind_is = rw behind_is (from_one s f one)

@@ -79,6 +79,8 @@ node_same names front others (Node.Cyc part) r within =
 pub record Shows (s : Spec) (shown : List Shown) : Type 0 where
   pub at : (e : ℕ) (n : Node) (r : Range) → node_at s e ≡ Some n → range_at s e ≡ Some r → shown_at shown e ≡ node_shown s.names shown n r
 
+-- In a sound specification, what is shown of each node is what its case makes of what is shown of
+-- all nodes.
 pub all_shows : (s : Spec) → IsSound s → Shows s (all_shown s)
 all_shows s sound = record {
   at = λ e n r at_n at_r.

@@ -184,6 +184,8 @@ closes_at names b w f (o ∷ os) k now popped front d m n s outers_are ends d_is
           os_are,
     )
 
+-- Where a sum ends, the innermost open parenthesis is popped and its number joins the factors, what
+-- is kept is what the machine reads with a closing one.
 pub close_more : (names : List (List ℕ)) (p : Place) (k now : Kept) (popped : KeptOuter) (front : List KeptOuter) (d : Spec) (m n : ℕ) → Stands names p k → k.outers ≡ front ++ popped ∷ [] → EndsSum k.draft k.products k.factors d m → now.draft ≡ wrapped_draft d popped.wrap m → n ≡ wrapped_number d popped.wrap m → now.products ≡ popped.products → now.factors ≡ popped.factors ++ n ∷ [] → now.outers ≡ front → Leads names (closed p p.outers) true Expects.Joint now
 close_more names p k now popped front d m n s = closes_at names p.before p.name p.frame p.outers k now popped front d m n s
 
@@ -216,6 +218,8 @@ ends_at names b w f [] k now d m s e ends d_is ps_are fs_are os_are =
       },
     )
 
+-- Where a sum ends with no parenthesis open and its number becomes a body, what is kept is what the
+-- machine reads with the end of the line.
 pub line_more : (names : List (List ℕ)) (p : Place) (k now : Kept) (d : Spec) (m : ℕ) → Stands names p k → k.outers ≡ [] → EndsSum k.draft k.products k.factors d m → now.draft ≡ with_body d m → now.products ≡ [] → now.factors ≡ [] → now.outers ≡ [] → Leads names (line_over p p.outers) true Expects.Line now
 line_more names p k now d m s = ends_at names p.before p.name p.frame p.outers k now d m s
 

@@ -64,11 +64,14 @@ faulty ts lines m draft first fault long head rest p f some =
     told ts fault (fault_naming draft.mode draft.names [] true lines fault (sym f ∙ some))
     (record { mode = w.mode; definitions = w.definitions; is_text = w.is_text; first = w.fault_is ∙ some })
 
+-- Where lines are read to the end, the tables have at most as many names as the lines have tokens.
 pub few_parsed : (m : Mode) (lines : List Placed) (draft : Spec) → IsParsed m lines draft → length draft.names ≤ length lines
 few_parsed m lines draft p =
     let names_are : length draft.names ≡ length (with_names [] (line_names true (plain_tokens lines))) = ap (λ (d : Spec). length d.names) p.draft_is ∙ ap length p.names_are in
     omega (arith, names_are, few_names lines)
 
+-- Where the first two tokens are read as the line of a mode, the reason why the lines behind them
+-- stop is one for the whole text, two places on.
 pub stop_of : (ts lines : List Placed) (m : Mode) (stop : Stop) → 2 ≤ length ts → run Start (plain_tokens (take 2 ts)) ≡ Lines (record { mode = m; definitions = [] }) → lines ≡ drop 2 ts → IsStop m lines stop → IsStopOf ts stop
 stop_of ts lines m (Stop.At place) long head rest s = skip_two ts lines (Lines (record { mode = m; definitions = [] })) place long head rest s
 stop_of ts lines m Stop.OutOfMemory long head rest s = tt

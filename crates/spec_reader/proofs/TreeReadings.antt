@@ -36,16 +36,19 @@ row_at (m ∷ ns) [] e n r at_n at_r = absurd (cc)
 row_at (m ∷ ns) (q ∷ rs) zero n r at_n at_r = ap Some (λ i. record { node = same_Some m n at_n i; range = same_Some q r at_r i })
 row_at (m ∷ ns) (q ∷ rs) (suc e) n r at_n at_r = row_at ns rs e n r at_n at_r
 
+-- Where there are as many ranges as nodes, there are as many rows of nodes with their ranges.
 pub length-rows : (ns : List Node) (rs : List Range) → length rs ≡ length ns → length (rows_of ns rs) ≡ length ns
 length-rows [] rs same = refl
 length-rows (n ∷ ns) [] same = absurd (omega arith)
 length-rows (n ∷ ns) (r ∷ rs) same = let rest : length rs ≡ length ns = omega arith in ap suc (length-rows ns rs rest)
 
+-- Where there are as many ranges as nodes, the nodes of the rows are the given nodes.
 pub row_nodes : (ns : List Node) (rs : List Range) → length rs ≡ length ns → map (λ (q : Row). q.node) (rows_of ns rs) ≡ ns
 row_nodes [] rs same = refl
 row_nodes (n ∷ ns) [] same = absurd (omega arith)
 row_nodes (n ∷ ns) (r ∷ rs) same = let rest : length rs ≡ length ns = omega arith in ap (λ ms. n ∷ ms) (row_nodes ns rs rest)
 
+-- Where there are as many ranges as nodes, the ranges of the rows are the given ranges.
 pub row_ranges : (ns : List Node) (rs : List Range) → length rs ≡ length ns → map (λ (q : Row). q.range) (rows_of ns rs) ≡ rs
 row_ranges [] [] same = refl
 row_ranges [] (r ∷ rs) same = absurd (omega arith)

@@ -7,6 +7,8 @@ use Rattle.spec_reader.specs.Machine.{Frame, over, wrapped, Outer, Before, Place
 use Rattle.spec_reader.proofs.MachineReads.{reads}
 use Rattle.spec_reader.proofs.MachineAccepts.{accepts}
 
+-- From a state the machine reads tokens ts followed by us as it reads ts, and then us from where it
+-- has come.
 pub run-append : (s : State) (ts us : List Token) → run s (ts ++ us) ≡ run (run s ts) us
 run-append s [] us = refl
 run-append s (t ∷ ts) us = run-append (step s t) ts us

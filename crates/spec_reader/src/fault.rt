@@ -10,8 +10,7 @@ pub enum SpecFault {
     /// The byte at this offset is the first that isn't text.
     NotText { place: u64 },
     /// The token at this line and column is the first such that no text begins with the tokens up
-    /// to
-    /// and with it.
+    /// to and with it.
     Syntax { line: u32, column: u32 },
     /// The first of this and the next two faults by place is a name in a sum without definition.
     Undefined { line: u32, column: u32 },

@@ -61,8 +61,7 @@ pub fn a_canonical_text_is_short()
 {}
 
 /// What a system prints is read back: its text stands for its specification and for no other, is
-/// short
-/// enough to be read, and is refused for want of memory alone.
+/// short enough to be read, and is refused for want of memory alone.
 pub fn what_a_system_prints_is_read_back(system: &System)
     ensures stands { Grammar (canonical_text system.now) system.now }
     ensures one { (s : Spec) → Grammar (canonical_text system.now) s → s ≡ system.now }

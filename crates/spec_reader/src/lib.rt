@@ -4,8 +4,8 @@
 //! grammar (`specs/Grammar.antt`), definitions become tables (`specs/Tables.antt`). A text is read
 //! exactly where it stands for a specification within the limits, and each refusal tells the first
 //! fault with its place (`specs/Reading.antt`). Tokens are read by a machine with a stack of its
-//! own
-//! (`specs/Machine.antt`), which accepts exactly the grammar. No clause says that memory suffices.
+//! own (`specs/Machine.antt`), which accepts exactly the grammar. No clause says that memory
+//! suffices.
 #![tactic(auto)]
 
 pub mod fault;

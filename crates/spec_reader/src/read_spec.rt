@@ -172,8 +172,7 @@ fn limit_fault(fault: BuildFault) -> SpecFault
 /// Reads the text of a specification.
 ///
 /// The refusals are tested in the order in which `SpecFault` has them, a whole text's `Syntax`
-/// before
-/// its first `Undefined`, `Twice` or `NeedsLabels`. `OutOfMemory` may come at any point.
+/// before its first `Undefined`, `Twice` or `NeedsLabels`. `OutOfMemory` may come at any point.
 ///
 /// What a system's `to_text` gives is read back as the same specification
 /// (`laws::what_a_system_prints_is_read_back`).

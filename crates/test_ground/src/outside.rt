@@ -15,8 +15,7 @@ use std::fs;
 use std::test::Fail;
 
 /// A shelf with the bytes of "hello, tape" under the name `t`, `piece` bytes a read, whose read of
-/// the
-/// number `fails` fails.
+/// the number `fails` fails.
 fn hello_shelf(alloc: Global, piece: usize, fails: u64) -> Result<MemoryShelf, Fail>
     requires { 1 ≤ piece }
 {

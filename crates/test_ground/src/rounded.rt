@@ -98,8 +98,7 @@ fn values<const F: u32>(rt: &impl Abort, calls: Calls, x: Arguments) -> Values
 }
 
 /// The sum and the product of a number with itself and its sequences from below, and the sum and
-/// the
-/// product from above.
+/// the product from above.
 fn plain<const F: u32>(x: Arguments) -> Values
     requires fraction_bits { IsFractionBits F }
 {

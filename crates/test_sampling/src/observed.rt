@@ -13,8 +13,7 @@ use std::test::Fail;
 use well_founded::examination::Founded;
 
 /// Tells the class vector after four lower sweeps and what is found at it, and an upper sweep from
-/// a
-/// vector, which must be post-fixed.
+/// a vector, which must be post-fixed.
 pub fn observe<L: Ledger>(
     alloc: Global,
     system: &System,

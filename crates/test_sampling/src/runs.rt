@@ -1,9 +1,8 @@
 //! Drawings, three at a time, whose runs were worked out by hand or by an independent program.
 //!
 //! In the table a line is a run of a pool: a specification, where `;` stands for the end of a line;
-//! a
-//! fraction; the bytes of three tapes; numbers; and what is told, where `/` stands for the end of a
-//! line. The numbers are the greatest size, how many objects each drawing keeps, the read of the
+//! a fraction; the bytes of three tapes; numbers; and what is told, where `/` stands for the end of
+//! a line. The numbers are the greatest size, how many objects each drawing keeps, the read of the
 //! shelf that fails, 0 for none, and then the drawings whose turns are asked for first, in order.
 
 use crate::pools::run_pool;

@@ -13,6 +13,8 @@ pub data Chain (s : Spec) (e : ℕ) : List ℕ → Type 0 where
   start : Chain s e []
   after : {c : ℕ} {cs : List ℕ} (body : ℕ) → body_of s c ≡ Some body → ((d : ℕ) → Under s d e → Leads s c d) → AllByRecursion (λ y. eqb c y ≡ false) cs → Chain s e cs → Chain s e (c ∷ cs)
 
+-- Where whatever class stands under node p stands under node e, a row of classes passed on the way
+-- to e is one for p.
 pub chain-down : {s : Spec} {e p : ℕ} → ((d : ℕ) → Under s d p → Under s d e) → {cs : List ℕ} → Chain s e cs → Chain s p cs
 chain-down f Chain.start = Chain.start
 chain-down f (Chain.after body b l a ch) = Chain.after body b (λ d u. l d (f d u)) a (chain-down f ch)
@@ -47,5 +49,6 @@ chain-below {s} (Chain.after {c = c} {cs = cs} x y l a ch) q h = elim (eqb_tells
   | inr e ↦ chain-below ch q (later q c cs e.0 h)
 ]
 
+-- A row of classes passed on the way to a node is no longer than there are classes.
 pub chain-short : {s : Spec} {e : ℕ} {cs : List ℕ} → Chain s e cs → length cs ≤ length s.bodies
 chain-short {s} {cs = cs} ch = length-le_from_distinct_below cs (length s.bodies) (chain-distinct ch) (chain-below ch)

@@ -81,6 +81,7 @@ of-class s (suc h) c o k =
     let t = there s (ClassHas s h) (body_of s c) o k in
     record { body = t.part; is_body = t.is; has = of-has s (ClassHas s h) (of-class s h) t.part (node_at s t.part) refl o t.has }
 
+-- An object that belongs to a node is one of the node's objects in the relation without heights.
 pub of-belongs : (s : Spec) (e : ℕ) (o : Object) → Belongs s e o → Of s e o
 of-belongs s e o b = of-has s (ClassHas s b.0) (of-class s b.0) e (node_at s e) refl o b.1
 

@@ -37,9 +37,12 @@ least-along s A B f e h = in-closed s A (Least s B) (record { round = λ e n q g
     along e (Node.Set p) g = g
     along e (Node.Cyc p) g = g
 
+-- Marks of the rule where an atom counts if true holds are marks of the nodes that have an object.
 pub marked-some : (s : Spec) (marks : List Bool) → AreMarked s (IsTrue true) marks → AreMarked s (Unit {0}) marks
 marked-some s marks h = record { one_per_node = h.one_per_node; right = λ e m. least-along s (IsTrue true) (Unit {0}) (λ z. tt) e (h.right e m); all = λ e l. h.all e (least-along s (Unit {0}) (IsTrue true) (λ z. refl) e l) }
 
+-- Marks of the rule where an atom counts if false holds are marks of the nodes that have an object
+-- of size 0.
 pub marked-zero : (s : Spec) (marks : List Bool) → AreMarked s (IsTrue false) marks → AreMarked s ⊥ marks
 marked-zero s marks h = record { one_per_node = h.one_per_node; right = λ e m. least-along s (IsTrue false) ⊥ (λ z. cc) e (h.right e m); all = λ e l. h.all e (least-along s ⊥ (IsTrue false) (λ z. absurd z) e l) }
 
@@ -74,6 +77,8 @@ zero-computed s marks e b sound are z = same b (has_empty s e) (λ k. empty-mark
     same false true f g = g refl
     same false false f g = refl
 
+-- In a sound specification whose nodes with an object of size 0 are marked, each node has such an
+-- object or has none.
 pub zero-decided : (s : Spec) (zero : List Bool) → IsSound s → AreMarked s ⊥ zero → (e : ℕ) → HasZero s e ⊎ (¬ (HasZero s e))
 zero-decided s marks sound are e = elim (two (answer_at marks e)) [
   | inl y ↦ inl (empty-belongs s (orderly s sound) e (are.right e y))

@@ -7,11 +7,13 @@ use Rattle.well_founded.specs.Foundedness.{Counts, Least, LeastEach, HasSome, Ha
 use Rattle.well_founded.proofs.Orderly.{IsOrderly}
 use Rattle.well_founded.proofs.Having.{Of, OfEach, OfAll, form_of, of-belongs, belongs-of}
 
+-- The size of what a counted node makes of a list of objects is the sum of their sizes.
 pub size-form : (n : Node) (os : Objects) → size (form_of n os) ≡ sizes os
 size-form (Node.Set p) os = refl
 size-form (Node.Cyc p) os = refl
 size-form _ os = refl
 
+-- What a counted node makes of a list of objects has one node more than their trees together.
 pub tree_nodes-form : (n : Node) (os : Objects) → tree_nodes (form_of n os) ≡ suc (all_nodes os)
 tree_nodes-form (Node.Set p) os = refl
 tree_nodes-form (Node.Cyc p) os = refl
@@ -22,14 +24,17 @@ abbrev pub copies : ℕ → Object → Objects
 copies zero o = none
 copies (suc n) o = more o (copies n o)
 
+-- There are n objects in n copies of an object.
 pub count-copies : (n : ℕ) (o : Object) → count (copies n o) ≡ n
 count-copies zero o = refl
 count-copies (suc n) o = ap suc (count-copies n o)
 
+-- All of n copies of an object of a node are objects of this node.
 pub of-copies : {s : Spec} {e : ℕ} (n : ℕ) {o : Object} → Of s e o → OfAll s e (copies n o)
 of-copies zero k = OfAll.nil
 of-copies (suc n) k = OfAll.cons k (of-copies n k)
 
+-- Copies of an object of size 0 have size 0 together.
 pub sizes-copies : (n : ℕ) (o : Object) → size o ≡ 0 → sizes (copies n o) ≡ 0
 sizes-copies zero o z = refl
 sizes-copies (suc n) o z = let h = sizes-copies n o z in omega arith
@@ -125,9 +130,11 @@ module _ (s : Spec) (A : Type 0) where
 pub some-belongs : (s : Spec) → IsOrderly s → (e : ℕ) → HasSome s e → (o : Object) × Belongs s e o
 some-belongs s sound e h = let f = found s (Unit {0}) sound h in (f.object, belongs-of s f.has)
 
+-- A node to which an object belongs has an object by the rule.
 pub belongs-some : (s : Spec) (e : ℕ) (o : Object) → Belongs s e o → HasSome s e
 belongs-some s e o b = least s (Unit {0}) (of-belongs s e o b) (inl tt)
 
+-- Where the impossible holds or n is 0, n is 0.
 pub no-atom : {n : ℕ} → ⊥ ⊎ (n ≡ 0) → n ≡ 0
 no-atom (inl k) = elim k [ ]
 no-atom (inr p) = p
@@ -136,5 +143,6 @@ no-atom (inr p) = p
 pub empty-belongs : (s : Spec) → IsOrderly s → (e : ℕ) → HasEmpty s e → HasZero s e
 empty-belongs s sound e h = let f = found s ⊥ sound h in record { object = f.object; belongs = belongs-of s f.has; no_atom = no-atom f.fits }
 
+-- A node to which an object of size 0 belongs has an object of size 0 by the rule.
 pub belongs-empty : (s : Spec) (e : ℕ) → HasZero s e → HasEmpty s e
 belongs-empty s e h = least s ⊥ (of-belongs s e h.object h.belongs) (inr h.no_atom)

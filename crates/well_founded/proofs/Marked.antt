@@ -41,6 +41,8 @@ marked-before (b ∷ m) zero (suc e) h = inr h
 marked-before (b ∷ m) (suc i) zero h = inr h
 marked-before (b ∷ m) (suc i) (suc e) h = elim (marked-before m i e h) [ inl z ↦ inl (ap suc z) | inr k ↦ inr k ]
 
+-- Where the rule gives each marked node, marks left as they are count as widened at the nodes below
+-- 0, with none newly marked.
 pub widened-start : (s : Spec) (A : Type 0) (old : List Bool) → ((e : ℕ) → IsMarked old e → Least s A e) → Widened s A old old false 0
 widened-start s A old f = record { right = f; most = omega arith; fewer = λ z. absurd (cc); closed = λ z e lt g. absurd (omega arith) }
 
@@ -72,6 +74,8 @@ widened-keep s A old mid new marked flag i h k is_new is_flag = subst (λ m. Wid
 pub widened-all : (s : Spec) (A : Type 0) (old new : List Bool) (marked : Bool) (i : ℕ) → Widened s A old new marked i → length s.nodes ≤ i → marked ≡ false → IsClosed s A (IsMarked new)
 widened-all s A old new marked i h all z = record { round = λ e n q g. let w = slice_get_within s.nodes e n q in h.closed z e (omega arith) (record { node = n; is_node = q; gets = g }) }
 
+-- Marks, one for each node, are exactly those of the rule where the rule gives each marked node and
+-- no further round widens them.
 pub are-marked : (s : Spec) (A : Type 0) (marks : List Bool) → length marks ≡ length s.nodes → ((e : ℕ) → IsMarked marks e → Least s A e) → IsClosed s A (IsMarked marks) → AreMarked s A marks
 are-marked s A marks l f closed = record { one_per_node = l; right = f; all = λ e k. in-closed s A (IsMarked marks) closed k }
 
@@ -92,6 +96,8 @@ all-number f (p ∷ ps) = ap (λ b. f p.0 && b) (all-number f ps)
 pub gets-at : (s : Spec) (A : Type 0) (P : ℕ → Type 0) (e : ℕ) (n : Node) → node_at s e ≡ Some n → GetsAt s A P e → Gets s A P e n
 gets-at s A P e n q g = subst (λ m. Gets s A P e m) (some-node (sym g.is_node ∙ q)) g.gets
 
+-- For a union, the test that some part is marked says yes exactly where the node gets an object
+-- from the marked nodes.
 pub gets-union : (s : Spec) (A : Type 0) (marks : List Bool) (e : ℕ) (parts : List ExprId) (b : Bool) → node_at s e ≡ Some (Node.Union (map number parts)) → b ≡ list_any (λ p. answer_at marks p.0) parts → IsTrue b ↔ GetsAt s A (IsMarked marks) e
 gets-union s A marks e parts b q z = (down, up)
   where
@@ -101,6 +107,8 @@ gets-union s A marks e parts b q z = (down, up)
     up : GetsAt s A (IsMarked marks) e → IsTrue b
     up g = let k = gets-at s A (IsMarked marks) e (Node.Union (map number parts)) q g in z ∙ (any-number (answer_at marks) parts ∙ any-up (answer_at marks) (map number parts) k.0 k.1 k.2 k.3)
 
+-- For a product, the test that all parts are marked says yes exactly where the node gets an object
+-- from the marked nodes.
 pub gets-product : (s : Spec) (A : Type 0) (marks : List Bool) (e : ℕ) (parts : List ExprId) (b : Bool) → node_at s e ≡ Some (Node.Product (map number parts)) → b ≡ list_all (λ p. answer_at marks p.0) parts → IsTrue b ↔ GetsAt s A (IsMarked marks) e
 gets-product s A marks e parts b q z = (down, up)
   where

@@ -7,6 +7,7 @@ use Rattle.well_founded.specs.Foundedness.{IsPart}
 use Rattle.well_founded.specs.Marking.{IsMarked}
 use Rattle.well_founded.specs.EmptyObjects.{answer_at, node_has_empty, counted_has_empty}
 
+-- A truth value is true or false.
 pub two : (b : Bool) → (b ≡ true) ⊎ (b ≡ false)
 two true = inl refl
 two false = inr refl
@@ -41,6 +42,7 @@ pub record Holding (p : ℕ → Bool) (xs : List ℕ) : Type 0 where
   pub is : slice_get xs i ≡ Some part
   pub passes : p part ≡ true
 
+-- Where the test for some element of a list says yes, an element at some place passes.
 pub any-down : (p : ℕ → Bool) (xs : List ℕ) → list_any p xs ≡ true → Holding p xs
 any-down p [] h = absurd (cc)
 any-down p (x ∷ xs) h = elim (two (p x)) [
@@ -48,16 +50,19 @@ any-down p (x ∷ xs) h = elim (two (p x)) [
   | inr e ↦ let k = any-down p xs (any-later (p x) (list_any p xs) h e) in record { i = suc k.i; part = k.part; is = k.is; passes = k.passes }
 ]
 
+-- Where the element at some place of a list passes, the test for some element says yes.
 pub any-up : (p : ℕ → Bool) (xs : List ℕ) (i part : ℕ) → slice_get xs i ≡ Some part → p part ≡ true → list_any p xs ≡ true
 any-up p [] i part g h = absurd (cc)
 any-up p (x ∷ xs) zero part g h = let same : part ≡ x = cc in or-left (p x) (list_any p xs) (subst (λ y. p y ≡ true) same h)
 any-up p (x ∷ xs) (suc i) part g h = or-right (p x) (list_any p xs) (any-up p xs i part g h)
 
+-- Where the test of all elements of a list says yes, each element passes.
 pub all-down : (p : ℕ → Bool) (xs : List ℕ) → list_all p xs ≡ true → (i part : ℕ) → slice_get xs i ≡ Some part → p part ≡ true
 all-down p [] h i part g = absurd (cc)
 all-down p (x ∷ xs) h zero part g = let same : x ≡ part = cc in subst (λ y. p y ≡ true) same (and-left (p x) (list_all p xs) h)
 all-down p (x ∷ xs) h (suc i) part g = all-down p xs (and-right (p x) (list_all p xs) h) i part g
 
+-- Where each element of a list passes, the test of all elements says yes.
 pub all-up : (p : ℕ → Bool) (xs : List ℕ) → ((i part : ℕ) → slice_get xs i ≡ Some part → p part ≡ true) → list_all p xs ≡ true
 all-up p [] f = refl
 all-up p (x ∷ xs) f = and-both (p x) (list_all p xs) (f 0 x refl) (all-up p xs (λ i part g. f (suc i) part g))
@@ -95,6 +100,8 @@ counted-up : (r : Range) (b : Bool) → (r.low ≡ 0) ⊎ (b ≡ true) → count
 counted-up r b (inl z) = elim (eqb_tells r.low 0) [ inl e ↦ or-left (eqb r.low 0) b e.0 | inr e ↦ absurd (e.1 z) ]
 counted-up r b (inr h) = or-right (eqb r.low 0) b h
 
+-- Where the computed answer for a node is yes, the rule holds at it for the marked classes and
+-- nodes.
 pub mark-holds : (classes before : List Bool) (n : Node) (r : Range) → node_has_empty classes before n r ≡ true → Holds (IsMarked classes) (IsMarked before) r n
 mark-holds cl bf (Node.Empty word) r h = tt
 mark-holds cl bf (Node.Atom word) r h = absurd (cc)
@@ -105,6 +112,8 @@ mark-holds cl bf (Node.Seq part) r h = counted-down r (answer_at bf part) h
 mark-holds cl bf (Node.Set part) r h = counted-down r (answer_at bf part) h
 mark-holds cl bf (Node.Cyc part) r h = counted-down r (answer_at bf part) h
 
+-- Where the rule holds at a node for the marked classes and nodes, the computed answer for the node
+-- is yes.
 pub holds-mark : (classes before : List Bool) (n : Node) (r : Range) → Holds (IsMarked classes) (IsMarked before) r n → node_has_empty classes before n r ≡ true
 holds-mark cl bf (Node.Empty word) r h = refl
 holds-mark cl bf (Node.Atom word) r h = elim h [ ]

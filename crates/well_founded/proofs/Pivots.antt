@@ -19,6 +19,7 @@ pub record ClosedTo (old new : List ClassSet) (k : ℕ) : Type 0 where
   pub led : (c d : ℕ) → Points new c d → Chain old c d
   pub closed : (c d e : ℕ) → d < k → Points new c d → Points new d e → Points new c e
 
+-- Rows left as they are count as widened at a pivot below row 0.
 pub passed-start : (old : List ClassSet) (pivot : ℕ) (through : ClassSet) → WidenedBelow old old pivot through 0
 passed-start old pivot through = record { done = λ c lt d. absurd (omega arith); rest = λ c le. refl }
 
@@ -57,6 +58,8 @@ module _ (old mid : List ClassSet) (pivot : ℕ) (through v none : ClassSet) (i 
       same-number : (a b : ℕ) → a ≡ b → b ≡ a
       same-number a b e = sym e
 
+-- Where all rows are widened at a pivot, row c has d exactly where it had d before, or had the
+-- pivot and the pivot's row had d.
 pub passed-all : (old new : List ClassSet) (pivot : ℕ) (none : ClassSet) (i : ℕ) → length new ≤ i → pivot < length old → WidenedBelow old new pivot (get_or old pivot none) i → (length new ≡ length old) → (c d : ℕ) → Points new c d ↔ (Points old c d ⊎ (Points old c pivot × Points old pivot d))
 passed-all old new pivot none i all within h len c d = (down, up)
   where
@@ -80,6 +83,8 @@ pub chain-join : {rows : List ClassSet} {c d e : ℕ} → Chain rows c d → Cha
 chain-join l (Chain.one p) = Chain.further l p
 chain-join l (Chain.further m p) = Chain.further (chain-join l m) p
 
+-- Where rows are closed under the rows below k, widening each row that has k by row k makes them
+-- closed under those below k + 1.
 pub closed-more : (old mid new : List ClassSet) (k : ℕ) → ClosedTo old mid k → ((c d : ℕ) → Points new c d ↔ (Points mid c d ⊎ (Points mid c k × Points mid k d))) → ClosedTo old new (k + 1)
 closed-more old mid new k h step = record {
   kept = λ c d p. (step c d).1 (inl (h.kept c d p));
@@ -110,6 +115,7 @@ closed-more old mid new k h step = record {
       ]
     ]
 
+-- Rows left as they are count as closed under the rows below 0.
 pub closed-start : (old : List ClassSet) → ClosedTo old old 0
 closed-start old = record {
   kept = λ c d p. p;

@@ -96,9 +96,12 @@ one-more marks rows xs p d = (down, up)
 pub record JoinsSome (rows : List ClassSet) (parts : List ExprId) (set : ClassSet) (i : ℕ) : Type 0 where
   pub joined : (d : ℕ) → IsIn set d ↔ SomePoints rows (map number (take i parts)) d
 
+-- A set without members joins the sets of the first 0 parts.
 pub joins-start : (rows : List ClassSet) (parts : List ExprId) (set : ClassSet) → ((d : ℕ) → ¬ (IsIn set d)) → JoinsSome rows parts set 0
 joins-start rows parts set f = record { joined = λ d. (λ k. absurd (f d k), λ k. absurd (some-none rows d k)) }
 
+-- Where a set joins those of the first i parts, its union with the next part's set joins those of
+-- the first i + 1.
 pub joins-more : (rows : List ClassSet) (parts : List ExprId) (old own new : ClassSet) (i : ℕ) (none : ExprId) → JoinsSome rows parts old i → i < length parts → ((d : ℕ) → IsIn own d ↔ Points rows (number (get_or parts i none)) d) → ((d : ℕ) → IsIn new d ↔ (IsIn old d ⊎ IsIn own d)) → JoinsSome rows parts new (i + 1)
 joins-more rows parts old own new i none h lt f step = record { joined = λ d. subst (λ xs. IsIn new d ↔ SomePoints rows xs d) (sym (numbers-more parts i none lt)) (at d) }
   where
@@ -109,6 +112,7 @@ joins-more rows parts old own new i none h lt f step = record { joined = λ d. s
           λ k. (step d).1 (elim (both.0 k) [ inl a ↦ inl ((h.joined d).1 a) | inr a ↦ inr ((f d).1 a) ]),
         )
 
+-- Where the sets of all parts are joined, d is in the set exactly where the row of some part has d.
 pub joins-all : (rows : List ClassSet) (parts : List ExprId) (set : ClassSet) (i : ℕ) → length parts ≤ i → JoinsSome rows parts set i → (d : ℕ) → IsIn set d ↔ SomePoints rows (map number parts) d
 joins-all rows parts set i all h d = subst (λ xs. IsIn set d ↔ SomePoints rows xs d) (numbers-all parts i all) (h.joined d)
 
@@ -117,6 +121,8 @@ pub record JoinsOne (marks : List Bool) (rows : List ClassSet) (parts : List Exp
   pub marked : IsTrue all ↔ AllMarked marks (map number (take i parts))
   pub joined : (d : ℕ) → IsIn set d ↔ OnePoints marks rows (map number (take i parts)) d
 
+-- A set without members joins the sets of the first 0 parts with all others marked, and these parts
+-- are all marked.
 pub one-start : (marks : List Bool) (rows : List ClassSet) (parts : List ExprId) (set : ClassSet) → ((d : ℕ) → ¬ (IsIn set d)) → JoinsOne marks rows parts set true 0
 one-start marks rows parts set f = record { marked = (λ k. all-none marks, λ k. refl); joined = λ d. (λ k. absurd (f d k), λ k. absurd (one-none marks rows d k)) }
 
@@ -147,5 +153,7 @@ module _ (marks : List Bool) (rows : List ClassSet) (parts : List ExprId) (old o
     joined = λ d. subst (λ ys. IsIn new d ↔ OnePoints marks rows ys d) (sym (numbers-more parts i none lt)) (joined-next d);
   }
 
+-- Where all parts have been joined, d is in the set exactly where the row of one part has d and all
+-- other parts are marked.
 pub one-all : (marks : List Bool) (rows : List ClassSet) (parts : List ExprId) (set : ClassSet) (all : Bool) (i : ℕ) → length parts ≤ i → JoinsOne marks rows parts set all i → (d : ℕ) → IsIn set d ↔ OnePoints marks rows (map number parts) d
 one-all marks rows parts set all i le h d = subst (λ xs. IsIn set d ↔ OnePoints marks rows xs d) (numbers-all parts i le) (h.joined d)

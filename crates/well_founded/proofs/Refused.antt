@@ -15,6 +15,7 @@ use Rattle.well_founded.proofs.Growth.{plug-union, plug-product, plug-copies, Sp
 pub no_object-unfounded : (s : Spec) (c : ℕ) → LacksObject s c → ¬ (IsWellFounded s)
 no_object-unfounded s c k w = let o = w.inhabited c k.body k.is_body in k.without (belongs-some s k.body o.0 o.1)
 
+-- Each number below the count of nodes is the number of a node.
 pub node-there : (s : Spec) (e : ℕ) → e < length s.nodes → (n : Node) × (node_at s e ≡ Some n)
 node-there s e h = (get_or s.nodes e (Node.Empty []), slice_get-get_or s.nodes e (Node.Empty []) h)
 
@@ -22,6 +23,7 @@ first-part : (parts : List ℕ) → 2 ≤ length parts → (part : ℕ) × (slic
 first-part [] h = absurd (omega arith)
 first-part (p ∷ ps) h = (p, refl)
 
+-- Where each element of a list of nodes is in the rule's least relation, the whole list is.
 pub each-from : {s : Spec} {A : Type 0} (parts : List ℕ) → ((i part : ℕ) → slice_get parts i ≡ Some part → Least s A part) → LeastEach s A parts
 each-from [] f = LeastEach.done
 each-from (p ∷ ps) f = LeastEach.first (f 0 p refl) (each-from ps (λ i part q. f (suc i) part q))
@@ -103,6 +105,8 @@ module _ (s : Spec) (sound : IsOrderly s) (objects : (c body : ℕ) → body_of 
     | inr p ↦ let b : e < p.0 = sound.below p.0 e p.1 p.2 p.3 in climb k p.0 p.1 p.2 (omega arith) (up p.0 e p.1 p.2 p.3 u)
   ]
 
+-- A specification isn't well founded where the body of a class has objects of one size with more
+-- nodes than any number.
 pub bounded-not : (s : Spec) (c body : ℕ) → body_of s c ≡ Some body → Unbounded s body → ¬ (IsWellFounded s)
 bounded-not s c body q u w =
     let b = w.bounded c body u.at_size q in

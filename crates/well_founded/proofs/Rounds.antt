@@ -6,6 +6,7 @@ use Rattle.well_founded.specs.Foundedness.{Counts, IsCountedOf, Least, LeastEach
 use Rattle.well_founded.specs.Rounds.{Gets, IsClosed, Passes}
 use Rattle.well_founded.proofs.Refused.{each-from}
 
+-- Two nodes are equal where the optional values that hold them are equal.
 pub some-node : {m n : Node} → Some m ≡ Some n → m ≡ n
 some-node q = cc
 
@@ -21,6 +22,7 @@ counted-gets : {s : Spec} {A : Type 0} {e part : ℕ} {r : Range} → Counts s e
 counted-gets k (inl z) = Least.free k z
 counted-gets k (inr l) = Least.counted k l
 
+-- Where one round of the rule gets a node from those in the least relation, the node is in it.
 pub least-round : (s : Spec) (A : Type 0) (e : ℕ) (n : Node) → node_at s e ≡ Some n → Gets s A (Least s A) e n → Least s A e
 least-round s A e (Node.Empty w) q g = Least.empty w q
 least-round s A e (Node.Atom w) q g = Least.atom w q g
@@ -117,6 +119,8 @@ counted-passes s d e (Node.Set p) part r z is h u = (r, is, subst (λ x. (r.low 
 counted-passes s d e (Node.Cyc p) part r z is h u = (r, is, subst (λ x. (r.low ≤ 1) ⊎ HasEmpty s x) (sym z) h, subst (λ x. Under s d x) (sym z) u)
 counted-passes s d e _ part r z is h u = elim z [ ]
 
+-- A node with class d under it is a reference to d, or has d under a part, with objects of size 0
+-- beside it.
 pub under-passes : (s : Spec) (d e : ℕ) (n : Node) → node_at s e ≡ Some n → Under s d e → Passes s d (Under s d) e n
 under-passes s d e n q (Under.here p) = along s d e (Node.Class d) n p q refl
 under-passes s d e n q (Under.in_union parts i part p g u) = along s d e (Node.Union parts) n p q (i, part, g, u)

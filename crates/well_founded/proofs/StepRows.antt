@@ -47,6 +47,8 @@ length-numbers : (bodies : List ExprId) → length (map number bodies) ≡ lengt
 length-numbers [] = refl
 length-numbers (b ∷ bs) = ap suc (length-numbers bs)
 
+-- Where there is a row for each body, row c has d exactly where the set of the body of class c has
+-- d.
 pub rows-all : (sets : List ClassSet) (bodies : List ExprId) (rows : List ClassSet) (i : ℕ) → length bodies ≤ i → RowsTo sets bodies rows i → (c d : ℕ) → Points rows c d ↔ BodyPoints sets (map number bodies) c d
 rows-all sets bodies rows i all h c d = (
   λ p. (let w = slice_get_within rows c p.row p.is_row in let l = h.one_each in (h.exact c d (omega arith)).0 p),

@@ -1,8 +1,7 @@
 //! Whole runs of the program over shelves and sinks in memory, compared byte by byte.
 //!
 //! It has tests alone, for what no clause of the crates below says: that the refusals, the lines
-//! and
-//! the drawn objects are those that were meant. The expected texts are those of an independent
+//! and the drawn objects are those that were meant. The expected texts are those of an independent
 //! program, or were found by hand.
 #![tactic(auto)]
 
