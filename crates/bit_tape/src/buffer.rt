@@ -32,7 +32,10 @@ impl Model for BitBuffer {
 
     ghost Value = { Ahead };
 
-    ghost view = { λ b. record { bytes = drop (b.at / 8) (take b.filled b.bytes); bit = b.at % 8 } };
+    ghost view = { λ b. record {
+      bytes = drop (b.at / 8) (take b.filled b.bytes);
+      bit = b.at % 8;
+    } };
 
     ghost invariant = { λ b. (b.filled ≤ 4096) × (b.at ≤ 8 * b.filled) };
 }
@@ -95,13 +98,15 @@ impl BitBuffer {
         ensures content { S.content shelf.new ≡ S.content shelf.old }
         ensures length { IfOk result (λ n. length self.new.bytes ≡ n) }
         ensures room { IfOk result (λ n. place + n ≤ 2 ^ 60) }
-        ensures told { IfOk result (λ n. IfSome (S.content shelf.old name.now) (AreAt self.new.bytes place)) }
+        ensures told { IfOk result (λ n.
+            IfSome (S.content shelf.old name.now) (AreAt self.new.bytes place)) }
         ensures end { IfOk result (λ n. IfSome (S.content shelf.old name.now) (λ bytes. n ≡ 0
             → length bytes ≤ place)) }
         ensures bit { self.new.bit ≡ self.old.bit }
         ensures unchanged { OnErr result (self.new ≡ self.old) }
         ensures steady { OnOk result (S.faults shelf.new ≡ S.faults shelf.old) }
-        ensures cause { OnErr result (ReadFailed name.now (S.faults shelf.old) (S.faults shelf.new)) }
+        ensures cause { OnErr result
+            (ReadFailed name.now (S.faults shelf.old) (S.faults shelf.new)) }
     {
         let left = MOST_BYTES - place;
         let want = if left < ROOM as u64 {

@@ -39,9 +39,14 @@ impl Model for Tape {
 
     ghost Value = { TapeState };
 
-    ghost view = { λ t. record { source = source_of t.source; used = t.used; ahead = t.buffer.bytes } };
+    ghost view = { λ t. record {
+      source = source_of t.source;
+      used = t.used;
+      ahead = t.buffer.bytes;
+    } };
 
-    ghost invariant = { λ t. (t.buffer.bit ≡ t.used % 8) × (t.used / 8 + length t.buffer.bytes ≤ 2 ^ 60)
+    ghost invariant = { λ t. (t.buffer.bit ≡ t.used % 8) ×
+        (t.used / 8 + length t.buffer.bytes ≤ 2 ^ 60)
         × GoesOn t.source (t.used / 8) t.buffer.bytes };
 }
 

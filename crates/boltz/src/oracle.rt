@@ -131,7 +131,8 @@ fn base_and_levels<const F: u32, L: Ledger>(
 ) -> Result<Vec<u8>, AllocError>
     requires fraction_bits { IsFractionBits F }
     requires post_fixed { IsPostFixed (setting founded.now x.num x.den F) base }
-    ensures text { IfOk result (λ text. text.items ≡ bounded_text (setting founded.now x.num x.den F)
+    ensures text { IfOk result (λ text.
+        text.items ≡ bounded_text (setting founded.now x.num x.den F)
         base.entry) }
     ensures ticks { steps.new ≤ steps.old + cost_at 6 }
 {
@@ -158,7 +159,8 @@ fn append_levels<const F: u32, L: Ledger>(
     requires same { memo.old.spec ≡ system.now }
     requires none_raised { memo.old.raised ≡ 0 }
     requires from_zero { memo.old.start ≡ zeros (setting system.now memo.old.num memo.old.den F) }
-    requires post_fixed { IsPostFixed (setting system.now memo.old.num memo.old.den F) memo.old.base }
+    requires post_fixed { IsPostFixed
+        (setting system.now memo.old.num memo.old.den F) memo.old.base }
     ensures text { OnOk result (text.new.items ≡ text.old.items
         ++ lines_below (level_after (setting system.now memo.old.num memo.old.den F) memo.old.base)
         6) }

@@ -81,7 +81,8 @@ fn carried_out<S: Shelf, K: Sink, L: Ledger>(
     steps: &mut Steps<L>,
 ) -> Status
     requires stood_for { IsStoodFor command.now }
-    ensures ends { EndsBy (Carries (files (S.content shelf.old) (S.faults shelf.old) (S.faults shelf.new))
+    ensures ends { EndsBy (Carries (files (S.content shelf.old) (S.faults shelf.old)
+        (S.faults shelf.new))
         command.now) (output (K.written out.old) (K.written out.new) (K.faults out.old)
         (K.faults out.new) steps.old steps.new) result }
     ensures content { S.content shelf.new ≡ S.content shelf.old }

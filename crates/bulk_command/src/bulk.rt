@@ -77,7 +77,8 @@ fn run<const F: u32, K: Sink, L: Ledger>(
     requires fraction_bits { IsFractionBits F }
     requires least { 1 ≤ n }
     requires greatest { n ≤ 1000 }
-    ensures ends { EndsBy (Based (setting founded.now 3 16 F) (BulkDrawn n (setting founded.now 3 16 F)))
+    ensures ends { EndsBy (Based (setting founded.now 3 16 F)
+        (BulkDrawn n (setting founded.now 3 16 F)))
         (output (K.written out.old) (K.written out.new) (K.faults out.old) (K.faults out.new)
         steps.old steps.new) result }
     ensures writes { K.faults out.old ≤ K.faults out.new }

@@ -38,7 +38,8 @@ impl CallLog {
     /// Lets the call with this number fail, too. The numbers are given in rising order, from 1.
     pub fn fail_at(&mut self, call: u64) -> Result<(), AllocError>
         requires { All (λ number. number < call) self.old.failing }
-        ensures ok { OnOk result (self.new ≡ record self.old { failing = self.old.failing ++ call ∷ [] }) }
+        ensures ok { OnOk result
+            (self.new ≡ record self.old { failing = self.old.failing ++ call ∷ [] }) }
         ensures err { OnErr result (self.new ≡ self.old) }
     {
         self.failing.push(call)?;

@@ -29,9 +29,15 @@ impl Model for MemorySink {
 
     ghost Value = { SinkState };
 
-    ghost view = { λ s. record { written = s.kept.items; most = s.most; room = s.room; calls = s.calls } };
+    ghost view = { λ s. record {
+      written = s.kept.items;
+      most = s.most;
+      room = s.room;
+      calls = s.calls;
+    } };
 
-    ghost invariant = { λ s. (1 ≤ s.most) × (vec_len s.kept ≤ s.room) × (s.room ≤ vec_capacity s.kept) };
+    ghost invariant = { λ s. (1 ≤ s.most) × (vec_len s.kept ≤ s.room) ×
+        (s.room ≤ vec_capacity s.kept) };
 }
 
 impl MemorySink {
@@ -94,7 +100,8 @@ impl Sink for MemorySink {
               ++ take n bytes.now;
           calls = after_call false self.old.calls;
         }) }
-        ensures after_err { OnErr result (self.new ≡ record self.old { calls = after_call true self.old.calls }) }
+        ensures after_err { OnErr result
+            (self.new ≡ record self.old { calls = after_call true self.old.calls }) }
     {
         let left = self.room - self.kept.len();
         if self.calls.fails_next() || (left == 0 && !bytes.is_empty()) {

@@ -26,7 +26,8 @@ pub fn entry(
     text: &[u8],
     cells: &[Cell],
 ) -> Result<Vec<u8>, AllocError>
-    ensures { IfOk result (λ lines. lines.items ≡ entry_lines number place size text.now cells.now) }
+    ensures { IfOk result (λ lines.
+        lines.items ≡ entry_lines number place size text.now cells.now) }
 {
     let head = format!(in alloc; "object {number} at {place} size {size}\ntext ")?;
     let tail = cells_of(alloc, cells)?;

@@ -27,7 +27,8 @@ use well_founded::cause::UnfoundedCause;
 
 /// Words stand for no command; `Err` where that is want of memory.
 pub fn words_refusal(alloc: Global, fault: WordsFault) -> Result<Report, AllocError>
-    ensures says { IfOk result (λ r. Says Status.WordsRefused (words_line fault) 0 r.status r.text.items 0) }
+    ensures says { IfOk result (λ r.
+        Says Status.WordsRefused (words_line fault) 0 r.status r.text.items 0) }
     ensures memory { OnOk result (fault ≢ WordsFault.OutOfMemory) }
 {
     let line = line_for_words(alloc, fault)?;
@@ -44,7 +45,8 @@ pub fn read_refusal(alloc: Global) -> Result<Report, AllocError>
 
 /// A text is no specification, or breaks a limit; `Err` where that is want of memory.
 pub fn text_refusal(alloc: Global, fault: SpecFault) -> Result<Report, AllocError>
-    ensures says { IfOk result (λ r. Says Status.SpecRefused (text_line fault) 0 r.status r.text.items 0) }
+    ensures says { IfOk result (λ r.
+        Says Status.SpecRefused (text_line fault) 0 r.status r.text.items 0) }
     ensures memory { OnOk result (fault ≢ SpecFault.OutOfMemory) }
 {
     let line = line_for_text(alloc, fault)?;
@@ -58,7 +60,8 @@ pub fn cause_refusal(
     cause: UnfoundedCause,
 ) -> Result<Report, AllocError>
     requires in_range { IsNamed system.now cause }
-    ensures says { IfOk result (λ r. Says Status.SpecRefused (cause_line system.now cause) 0 r.status
+    ensures says { IfOk result (λ r.
+        Says Status.SpecRefused (cause_line system.now cause) 0 r.status
         r.text.items 0) }
     ensures memory { OnOk result (cause ≢ UnfoundedCause.OutOfMemory) }
 {

@@ -70,7 +70,8 @@ pub fn read_file<S: Shelf>(
 pub fn judged(alloc: Global, bytes: &[u8]) -> Result<Founded, Refusal>
     ensures accepted { IfOk result (IsAccepted bytes.now) }
     ensures founded { IfOk result IsWellFounded }
-    ensures err { IfErr result (λ e. Judged (λ s. Never) bytes.now (refusal_status e) (refusal_text e) 0) }
+    ensures err { IfErr result (λ e.
+        Judged (λ s. Never) bytes.now (refusal_status e) (refusal_text e) 0) }
 {
     match read_spec(alloc, bytes) {
         Ok(system) => examined(alloc, bytes, system),
@@ -84,7 +85,8 @@ fn examined(alloc: Global, bytes: &[u8], system: System) -> Result<Founded, Refu
     requires accepted { IsAccepted bytes.now system }
     ensures accepted { IfOk result (IsAccepted bytes.now) }
     ensures founded { IfOk result IsWellFounded }
-    ensures err { IfErr result (λ e. Judged (λ s. Never) bytes.now (refusal_status e) (refusal_text e) 0) }
+    ensures err { IfErr result (λ e.
+        Judged (λ s. Never) bytes.now (refusal_status e) (refusal_text e) 0) }
 {
     match examine(alloc, system) {
         Ok(founded) => {
@@ -108,7 +110,8 @@ pub fn based<const F: u32, L: Ledger>(
 ) -> Result<Base<F>, Refusal>
     requires fraction_bits { IsFractionBits F }
     ensures base { IfOk result (λ base. base_of (setting founded.now x.num x.den F) ≡ Some base) }
-    ensures post_fixed { IfOk result (λ base. IsPostFixed (setting founded.now x.num x.den F) base) }
+    ensures post_fixed { IfOk result (λ base.
+        IsPostFixed (setting founded.now x.num x.den F) base) }
     ensures err { IfErr result (λ e. Based (setting founded.now x.num x.den F) (λ base. Never)
         (refusal_status e) (refusal_text e) (most_ticks (setting founded.now x.num x.den F))) }
     ensures ticks { steps.new ≤ steps.old + most_ticks (setting founded.now x.num x.den F) }

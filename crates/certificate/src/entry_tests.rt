@@ -63,7 +63,8 @@ pub(crate) fn test_entries<const F: u32, O: Oracle<F>, L: Ledger>(
     requires within { window.greatest ≤ 1000000 }
     requires few { length entries.now ≤ 2 ^ 60 }
     requires small { line ≤ 71 }
-    ensures verdict { IfOk result (FirstFails (entries_checks founded.now F (O.table oracle.old) window.least
+    ensures verdict { IfOk result (FirstFails (entries_checks founded.now F
+        (O.table oracle.old) window.least
         window.greatest 0 0 line entries.now)) }
     ensures sound { IfOk result (λ told. told ≡ verdict.Valid
         → AllByRecursion (IsSoundEntry founded.now (O.x oracle.old) window.least window.greatest)
@@ -136,7 +137,8 @@ fn test_entry<const F: u32, O: Oracle<F>, L: Ledger>(
     requires within { window.greatest ≤ 1000000 }
     requires number { before.number < 2 ^ 60 }
     requires line { before.line < 2 ^ 63 }
-    ensures verdict { IfOk result (FirstFails (entry_checks founded.now F (O.table oracle.old) window.least
+    ensures verdict { IfOk result (FirstFails (entry_checks founded.now F
+        (O.table oracle.old) window.least
         window.greatest before.number before.place before.line entry.now)) }
     ensures sound { IfOk result (λ told. told ≡ verdict.Valid
         → IsSoundEntry founded.now (O.x oracle.old) window.least window.greatest entry.now) }

@@ -71,7 +71,8 @@ pub fn read(alloc: Global, bytes: &[u8]) -> Result<Certificate, CertFault>
 /// The number of the line, from 1, that begins where this many bytes are left.
 fn line_at(bytes: &[u8], left: usize) -> u64
     requires { left ≤ length bytes.now }
-    ensures { result ≡ suc (count_by (λ b. nat_eq b 10) (take (length bytes.now - left) bytes.now)) }
+    ensures { result ≡ suc (count_by (λ b.
+        nat_eq b 10) (take (length bytes.now - left) bytes.now)) }
 {
     let before = &bytes[..bytes.len() - left];
     before.iter().filter(|b| **b == b'\n').count() as u64 + 1
@@ -136,7 +137,8 @@ fn read_header(alloc: Global, text: &[u8]) -> Result<(Header, &[u8]), Stop>
 
 /// The digest that stands behind the mode in version 2, and what follows it.
 fn read_digest(version: u8, text: &[u8]) -> Result<(Option<SpecDigest>, &[u8]), Stop>
-    ensures ok { IfOk result (λ p. Passes (after_mode version) text.now (spec_lines p.0) Stage.AtX p.1.now) }
+    ensures ok { IfOk result (λ p.
+        Passes (after_mode version) text.now (spec_lines p.0) Stage.AtX p.1.now) }
     ensures err { IfErr result (StopsAt (after_mode version) text.now) }
 {
     if version == 1 {
@@ -168,7 +170,8 @@ fn read_bases(alloc: Global, text: &[u8]) -> Result<(Names, Values, &[u8]), Allo
 
 /// The entries in front of a text, and what follows them.
 fn read_entries(alloc: Global, text: &[u8]) -> Result<(CertEntries, &[u8]), Stop>
-    ensures ok { IfOk result (λ p. Passes Stage.AtObject text.now (flat_map entry_lines p.0) Stage.AtObject
+    ensures ok { IfOk result (λ p.
+        Passes Stage.AtObject text.now (flat_map entry_lines p.0) Stage.AtObject
         p.1.now) }
     ensures last { IfOk result (λ p. HasNoObject p.1.now) }
     ensures err { IfErr result (StopsAt Stage.AtObject text.now) }
@@ -213,7 +216,8 @@ fn read_entry(alloc: Global, text: &[u8]) -> Result<Option<(CertEntry, &[u8])>, 
 /// The closing in front of a text, where no entry stands there, and what follows it.
 fn read_closing(text: &[u8]) -> Result<(Closing, &[u8]), Stop>
     requires { HasNoObject text.now }
-    ensures ok { IfOk result (λ p. Passes Stage.AtObject text.now (closing_lines p.0) Stage.Over p.1.now) }
+    ensures ok { IfOk result (λ p.
+        Passes Stage.AtObject text.now (closing_lines p.0) Stage.Over p.1.now) }
     ensures err { IfErr result (StopsAt Stage.AtObject text.now) }
 {
     let Some((straddle, rest)) = open_at(text) else {

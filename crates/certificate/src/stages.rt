@@ -74,7 +74,8 @@ pub(crate) fn mode_at(version: u8, text: &[u8]) -> Option<(Mode, &[u8])>
 
 /// The digest of the line in front, and what follows the line.
 pub(crate) fn digest_at(text: &[u8]) -> Option<(SpecDigest, &[u8])>
-    ensures found { IfSome result (λ p. Passes Stage.AtDigest text.now (Line.Spec p.0 ∷ []) Stage.AtX p.1.now) }
+    ensures found { IfSome result (λ p.
+        Passes Stage.AtDigest text.now (Line.Spec p.0 ∷ []) Stage.AtX p.1.now) }
     ensures none { IfNone result (IsStuck Stage.AtDigest text.now) }
 {
     let (line, rest) = next_line(text)?;
@@ -118,7 +119,8 @@ pub(crate) fn window_at(text: &[u8]) -> Option<((u64, u64), &[u8])>
 /// The number, the place and the size of an object's first line in front, and what follows the
 /// line.
 pub(crate) fn object_at(text: &[u8]) -> Option<((u64, u64, u64), &[u8])>
-    ensures found { IfSome result (λ p. Passes Stage.AtObject text.now (Line.Object p.0.0 p.0.1 p.0.2
+    ensures found { IfSome result (λ p.
+        Passes Stage.AtObject text.now (Line.Object p.0.0 p.0.1 p.0.2
         ∷ []) Stage.AtText p.1.now) }
     ensures none { IfNone result (HasNoObject text.now) }
 {
@@ -129,7 +131,8 @@ pub(crate) fn object_at(text: &[u8]) -> Option<((u64, u64, u64), &[u8])>
 
 /// The text of an object's text line in front, and what follows the line.
 pub(crate) fn text_at(text: &[u8]) -> Option<(&[u8], &[u8])>
-    ensures found { IfSome result (λ p. Passes Stage.AtText text.now (Line.Text p.0.now ∷ []) Stage.AtCells
+    ensures found { IfSome result (λ p.
+        Passes Stage.AtText text.now (Line.Text p.0.now ∷ []) Stage.AtCells
         p.1.now) }
     ensures none { IfNone result (IsStuck Stage.AtText text.now) }
 {
@@ -140,7 +143,8 @@ pub(crate) fn text_at(text: &[u8]) -> Option<(&[u8], &[u8])>
 
 /// The number left open of the line in front, and what follows the line.
 pub(crate) fn open_at(text: &[u8]) -> Option<(Straddle, &[u8])>
-    ensures found { IfSome result (λ p. Passes Stage.AtObject text.now (Line.Open p.0 ∷ []) Stage.AtEnd
+    ensures found { IfSome result (λ p.
+        Passes Stage.AtObject text.now (Line.Open p.0 ∷ []) Stage.AtEnd
         p.1.now) }
     ensures none { IfNone result (HasNoOpen text.now) }
 {
@@ -193,7 +197,8 @@ pub(crate) fn cells_at(alloc: Global, text: &[u8]) -> Result<Option<(Cells, &[u8
 /// The closing of a last line in front whose word is not that of an open number, and what follows
 /// the line.
 pub(crate) fn end_at(text: &[u8]) -> Option<(Closing, &[u8])>
-    ensures found { IfSome result (λ p. Passes Stage.AtObject text.now (closing_lines p.0) Stage.Over p.1.now) }
+    ensures found { IfSome result (λ p.
+        Passes Stage.AtObject text.now (closing_lines p.0) Stage.Over p.1.now) }
     ensures none { IfNone result (HasNoObject text.now → HasNoOpen text.now
         → IsStuck Stage.AtObject text.now) }
 {

@@ -188,7 +188,8 @@ fn is_digest_of(digest: &Option<SpecDigest>, system: &System) -> Result<bool, Al
 fn test_limits<const F: u32>(header: &Header) -> Verdict
     ensures { FirstFails (check (HasFraction F header.now) (4 + digest_count header.now.digest)
         reason.Fraction
-        ∷ check (HasWindow header.now) (5 + digest_count header.now.digest) reason.Window ∷ []) result }
+        ∷ check (HasWindow header.now) (5 + digest_count header.now.digest) reason.Window
+        ∷ []) result }
 {
     let line = first_base_line(&header.digest);
     if !has_fraction::<F>(header) {
@@ -272,7 +273,8 @@ fn test_closing(closing: &Closing, count: u64, line: u64) -> Verdict
     requires small { line ≤ 71 }
     requires few { count ≤ 2 ^ 60 }
     ensures { FirstFails (check (closing.now.kept ≡ count)
-        (line + (3 * count + length (open_lines closing.now.straddle))) reason.Closing ∷ []) result }
+        (line + (3 * count + length (open_lines closing.now.straddle))) reason.Closing
+        ∷ []) result }
 {
     if closing.kept == count {
         return Verdict::Valid;

@@ -48,8 +48,10 @@ pub fn draw_union<const F: u32, O: Oracle<F>, S: Shelf, L: Ledger>(
     ensures drawn { IsDraw (union_decision system.now (O.table oracle.old) node.0)
         (bits_of tape.old.source (S.content shelf.old))
         tape.old.used tape.new.used (told_draw Choice.Take result tape.new.used) }
-    ensures ideal { OnValue result (λ i cell. IsIdealOfCell system.now (O.x oracle.old) node.0 cell i) }
-    ensures in_range { OnValue result (λ i cell. i < length (union_parts (node_at system.now node.0))) }
+    ensures ideal { OnValue result (λ i cell.
+        IsIdealOfCell system.now (O.x oracle.old) node.0 cell i) }
+    ensures in_range { OnValue result (λ i cell.
+        i < length (union_parts (node_at system.now node.0))) }
     ensures raised { O.raised oracle.new
         ≡ max (O.raised oracle.old) (level_for (tape.new.used - tape.old.used)) }
     ensures oracle { LeavesOracle O.spec O.x O.table O.cost O.raised

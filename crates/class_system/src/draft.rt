@@ -114,7 +114,8 @@ impl Draft {
         requires counted { IsCountedNode (spec_node item) }
         requires few { length self.old.nodes < 2 ^ 32 }
         ensures number { IfOk result (λ e. e.0 ≡ length self.old.nodes) }
-        ensures ok { OnOk result (self.new ≡ with_node self.old (spec_node item) (spec_range bounds)) }
+        ensures ok { OnOk result
+            (self.new ≡ with_node self.old (spec_node item) (spec_range bounds)) }
         ensures err { OnErr result (self.new ≡ self.old) }
     {
         self.append(item, bounds)
@@ -123,7 +124,8 @@ impl Draft {
     fn append(&mut self, item: Expr, bounds: Range) -> Result<ExprId, AllocError>
         requires few { length self.old.nodes < 2 ^ 32 }
         ensures number { IfOk result (λ e. e.0 ≡ length self.old.nodes) }
-        ensures ok { OnOk result (self.new ≡ with_node self.old (spec_node item) (spec_range bounds)) }
+        ensures ok { OnOk result
+            (self.new ≡ with_node self.old (spec_node item) (spec_range bounds)) }
         ensures err { OnErr result (self.new ≡ self.old) }
     {
         let number = self.nodes.items().len() as u32;

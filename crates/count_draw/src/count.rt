@@ -56,8 +56,10 @@ pub fn draw_count<const F: u32, O: Oracle<F>, S: Shelf, L: Ledger>(
     ensures drawn { IsDraw (count_decision system.now F (O.table oracle.old) node.0 room)
         (bits_of tape.old.source (S.content shelf.old))
         tape.old.used tape.new.used (told_count result tape.new.used) }
-    ensures ideal { OnCount result (λ i cell. IsIdealOfCell system.now (O.x oracle.old) node.0 cell i) }
-    ensures over { OnOver result (λ cell. IsOverOfCell system.now (O.x oracle.old) node.0 cell room) }
+    ensures ideal { OnCount result (λ i cell.
+        IsIdealOfCell system.now (O.x oracle.old) node.0 cell i) }
+    ensures over { OnOver result (λ cell.
+        IsOverOfCell system.now (O.x oracle.old) node.0 cell room) }
     ensures in_range { OnCount result (λ i cell. IsInRange i (range_at system.now node.0)
         × (i ≤ room)) }
     ensures raised { O.raised oracle.new
@@ -100,8 +102,10 @@ pub fn draw_count_kept<const F: u32, O: Oracle<F>, S: Shelf, L: Ledger>(
     ensures drawn { IsDraw (count_decision system.now F (O.table oracle.old) node.0 room)
         (bits_of tape.old.source (S.content shelf.old))
         tape.old.used tape.new.used (told_count result tape.new.used) }
-    ensures ideal { OnCount result (λ i cell. IsIdealOfCell system.now (O.x oracle.old) node.0 cell i) }
-    ensures over { OnOver result (λ cell. IsOverOfCell system.now (O.x oracle.old) node.0 cell room) }
+    ensures ideal { OnCount result (λ i cell.
+        IsIdealOfCell system.now (O.x oracle.old) node.0 cell i) }
+    ensures over { OnOver result (λ cell.
+        IsOverOfCell system.now (O.x oracle.old) node.0 cell room) }
     ensures in_range { OnCount result (λ i cell. IsInRange i (range_at system.now node.0)
         × (i ≤ room)) }
     ensures raised { O.raised oracle.new
@@ -147,8 +151,10 @@ fn draw_by_rows<const F: u32, O: Oracle<F>, S: Shelf, L: Ledger>(
     ensures drawn { IsDraw (count_decision system.now F (O.table oracle.old) node.0 room)
         (bits_of tape.old.source (S.content shelf.old))
         tape.old.used tape.new.used (told_count result tape.new.used) }
-    ensures ideal { OnCount result (λ i cell. IsIdealOfCell system.now (O.x oracle.old) node.0 cell i) }
-    ensures over { OnOver result (λ cell. IsOverOfCell system.now (O.x oracle.old) node.0 cell room) }
+    ensures ideal { OnCount result (λ i cell.
+        IsIdealOfCell system.now (O.x oracle.old) node.0 cell i) }
+    ensures over { OnOver result (λ cell.
+        IsOverOfCell system.now (O.x oracle.old) node.0 cell room) }
     ensures in_range { OnCount result (λ i cell. IsInRange i (range_at system.now node.0)
         × (i ≤ room)) }
     ensures raised { O.raised oracle.new
@@ -196,7 +202,8 @@ pub fn decide_count<const F: u32, O: Oracle<F>>(
     ensures exact { chosen_if result ≡ count_decision system.now F (O.table oracle.now) node.0 room
         cell }
     ensures ideal { OnTake result (IsIdealOfCell system.now (O.x oracle.now) node.0 cell) }
-    ensures over { decision.OnOver result (IsOverOfCell system.now (O.x oracle.now) node.0 cell room) }
+    ensures over { decision.OnOver result
+        (IsOverOfCell system.now (O.x oracle.now) node.0 cell room) }
     ensures in_range { OnTake result (λ i. IsInRange i (range_at system.now node.0) × (i ≤ room)) }
 {
     oracle.known();
@@ -253,7 +260,8 @@ fn decide_by_rows<const F: u32, O: Oracle<F>>(
     requires raised { level_of cell ≤ O.raised oracle.now }
     ensures exact { chosen_if result ≡ count_choice (kind_of counted.kind) F
         (spec_range counted.range)
-        (O.table oracle.now (level_of cell) counted.part.0) (O.table oracle.now (level_of cell) node.0) room cell }
+        (O.table oracle.now (level_of cell) counted.part.0)
+        (O.table oracle.now (level_of cell) node.0) room cell }
 {
     let level = level_at(cell.b);
     let part = oracle.bounds(counted.part.0, level)?;

@@ -29,7 +29,11 @@ impl<const F: u32> Model for Lower<F> {
 
     ghost Value = { Sweeps };
 
-    ghost view = { λ l. record { entries = l.classes.items; room = vec_len l.nodes; done = l.sweeps } };
+    ghost view = { λ l. record {
+      entries = l.classes.items;
+      room = vec_len l.nodes;
+      done = l.sweeps;
+    } };
 }
 
 impl<const F: u32> Lower<F> {

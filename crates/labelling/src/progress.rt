@@ -28,7 +28,11 @@ impl Model for Progress {
 
     ghost Value = { ProgressState };
 
-    ghost view = { λ p. record { remaining = p.tree; given = p.given.items; cells = p.cells.items } };
+    ghost view = { λ p. record {
+      remaining = p.tree;
+      given = p.given.items;
+      cells = p.cells.items;
+    } };
 
     ghost invariant = { λ p. (vec_len p.given + length p.tree ≤ vec_capacity p.given)
         × (length p.tree ≤ p.cells.spare) };

@@ -67,7 +67,8 @@ impl<const F: u32> Base<F> {
         requires fraction_bits { IsFractionBits F }
         requires one_per_class { length values.items ≡ length founded.now.bodies }
         ensures same { IfOk result (λ base. base ≡ values.items) }
-        ensures post_fixed { OnOk result (IsPostFixed (setting founded.now x.num x.den F) values.items) }
+        ensures post_fixed { OnOk result
+            (IsPostFixed (setting founded.now x.num x.den F) values.items) }
         ensures bounds { OnOk result (AreAbove founded.now (ratio x.num x.den) F values.items) }
         ensures fault { IfErr result (IsFaultOf (setting founded.now x.num x.den F) values.items) }
         ensures ticks { steps.new ≤ steps.old + 1 }

@@ -36,7 +36,8 @@ pub(crate) fn search_candidates<const F: u32, L: Ledger>(
     requires fraction_bits { IsFractionBits F }
     requires zero { lower.old ≡ replicate (length system.now.bodies) 0 }
     ensures exact { IfOk result (λ o. o ≡ rule.candidate_base (setting system.now x.num x.den F)) }
-    ensures post_fixed { IfOk result (λ o. IfSome o (IsPostFixed (setting system.now x.num x.den F))) }
+    ensures post_fixed { IfOk result (λ o.
+        IfSome o (IsPostFixed (setting system.now x.num x.den F))) }
     ensures bounds { IfOk result (λ o. IfSome o (AreAbove system.now (ratio x.num x.den) F)) }
     ensures lower { IfOk result (λ o. o ≡ None
         → lower.new ≡ rule.swept_down (setting system.now x.num x.den F) (4 ^ 6)) }
@@ -82,8 +83,10 @@ fn round_base<const F: u32, L: Ledger>(
 ) -> Result<Option<Values>, AllocError>
     requires fraction_bits { IsFractionBits F }
     requires one_per_class { length y.now ≡ length system.now.bodies }
-    ensures exact { IfOk result (λ o. o ≡ rule.round_from (setting system.now x.num x.den F) y.now sweeps) }
-    ensures post_fixed { IfOk result (λ o. IfSome o (IsPostFixed (setting system.now x.num x.den F))) }
+    ensures exact { IfOk result (λ o.
+        o ≡ rule.round_from (setting system.now x.num x.den F) y.now sweeps) }
+    ensures post_fixed { IfOk result (λ o.
+        IfSome o (IsPostFixed (setting system.now x.num x.den F))) }
     ensures bounds { IfOk result (λ o. IfSome o (AreAbove system.now (ratio x.num x.den) F)) }
     ensures ticks { steps.new ≤ steps.old + (sweeps + 1 + rule.candidate_count F) }
 {
@@ -106,9 +109,11 @@ fn first_candidate<const F: u32, L: Ledger>(
     requires fraction_bits { IsFractionBits F }
     requires one_per_class { length y.now ≡ length system.now.bodies }
     requires one_dual_per_class { length dual.now ≡ length system.now.bodies }
-    ensures exact { IfOk result (λ o. o ≡ rule.first_candidate (setting system.now x.num x.den F) y.now
+    ensures exact { IfOk result (λ o.
+        o ≡ rule.first_candidate (setting system.now x.num x.den F) y.now
         dual.now) }
-    ensures post_fixed { IfOk result (λ o. IfSome o (IsPostFixed (setting system.now x.num x.den F))) }
+    ensures post_fixed { IfOk result (λ o.
+        IfSome o (IsPostFixed (setting system.now x.num x.den F))) }
     ensures bounds { IfOk result (λ o. IfSome o (AreAbove system.now (ratio x.num x.den) F)) }
     ensures ticks { steps.new ≤ steps.old + rule.candidate_count F }
 {
@@ -138,7 +143,8 @@ fn try_candidate<const F: u32, L: Ledger>(
     requires few { factor ≤ 281474976710656 }
     ensures exact { IfOk result (λ o. o ≡ rule.if_post_fixed (setting system.now x.num x.den F)
         (rule.widened y.now dual.now factor)) }
-    ensures post_fixed { IfOk result (λ o. IfSome o (IsPostFixed (setting system.now x.num x.den F))) }
+    ensures post_fixed { IfOk result (λ o.
+        IfSome o (IsPostFixed (setting system.now x.num x.den F))) }
     ensures bounds { IfOk result (λ o. IfSome o (AreAbove system.now (ratio x.num x.den) F)) }
     ensures ticks { steps.new ≤ steps.old + 1 }
 {
@@ -158,8 +164,10 @@ fn if_post_fixed<const F: u32, L: Ledger>(
 ) -> Result<Option<Values>, AllocError>
     requires fraction_bits { IsFractionBits F }
     requires one_per_class { length vector ≡ length system.now.bodies }
-    ensures exact { IfOk result (λ o. o ≡ rule.if_post_fixed (setting system.now x.num x.den F) (Some vector)) }
-    ensures post_fixed { IfOk result (λ o. IfSome o (IsPostFixed (setting system.now x.num x.den F))) }
+    ensures exact { IfOk result (λ o.
+        o ≡ rule.if_post_fixed (setting system.now x.num x.den F) (Some vector)) }
+    ensures post_fixed { IfOk result (λ o.
+        IfSome o (IsPostFixed (setting system.now x.num x.den F))) }
     ensures bounds { IfOk result (λ o. IfSome o (AreAbove system.now (ratio x.num x.den) F)) }
     ensures ticks { steps.new ≤ steps.old + 1 }
 {

@@ -39,7 +39,8 @@ pub(crate) fn newton_step<const F: u32, L: Ledger>(
 ) -> Result<Option<Newton>, AllocError>
     requires fraction_bits { IsFractionBits F }
     requires one_per_class { length y.now ≡ length system.now.bodies }
-    ensures exact { IfOk result (λ o. o ≡ rule.newton_step (setting system.now x.num x.den F) y.now) }
+    ensures exact { IfOk result (λ o.
+        o ≡ rule.newton_step (setting system.now x.num x.den F) y.now) }
     ensures fitting { IfOk result (λ o. IfSome o (AreSteps (length system.now.bodies))) }
     ensures ticks { steps.new ≤ steps.old + (length system.now.bodies + 2) }
 {
@@ -79,7 +80,8 @@ fn step_sums<const F: u32, L: Ledger>(
     requires fraction_bits { IsFractionBits F }
     requires one_per_class { length y.now ≡ length system.now.bodies }
     requires one_per_node { length values.now ≡ length system.now.nodes }
-    ensures exact { IfOk result (λ o. o ≡ rule.step_sums (setting system.now x.num x.den F) y.now values.now) }
+    ensures exact { IfOk result (λ o.
+        o ≡ rule.step_sums (setting system.now x.num x.den F) y.now values.now) }
     ensures fitting { IfOk result (λ o. IfSome o (AreSums (length system.now.bodies))) }
     ensures ticks { steps.new ≤ steps.old + (length system.now.bodies + 1) }
 {
@@ -101,7 +103,8 @@ fn newton_matrix<const F: u32, L: Ledger>(
 ) -> Result<Option<Matrix>, AllocError>
     requires fraction_bits { IsFractionBits F }
     requires one_per_node { length values.now ≡ length system.now.nodes }
-    ensures exact { IfOk result (λ o. o ≡ rule.newton_matrix (setting system.now x.num x.den F) values.now) }
+    ensures exact { IfOk result (λ o.
+        o ≡ rule.newton_matrix (setting system.now x.num x.den F) values.now) }
     ensures square { IfOk result (λ o. IfSome o (λ m. IsSquare (length system.now.bodies) m)) }
     ensures ticks { steps.new ≤ steps.old + length system.now.bodies }
 {
@@ -128,7 +131,8 @@ fn newton_column<const F: u32, L: Ledger>(
     requires fraction_bits { IsFractionBits F }
     requires one_per_node { length values.now ≡ length system.now.nodes }
     requires in_range { class < length system.now.bodies }
-    ensures exact { IfOk result (λ o. o ≡ rule.newton_column (setting system.now x.num x.den F) values.now
+    ensures exact { IfOk result (λ o.
+        o ≡ rule.newton_column (setting system.now x.num x.den F) values.now
         class) }
     ensures length { IfOk result (λ o. IfSome o (λ v. length v ≡ length system.now.bodies)) }
     ensures ticks { steps.new ≤ steps.old + 1 }
@@ -162,7 +166,8 @@ fn lower_gap<const F: u32, L: Ledger>(
 ) -> Result<Values, AllocError>
     requires fraction_bits { IsFractionBits F }
     requires one_per_class { length y.now ≡ length system.now.bodies }
-    ensures exact { IfOk result (λ gap. gap ≡ rule.lower_gap (setting system.now x.num x.den F) y.now) }
+    ensures exact { IfOk result (λ gap.
+        gap ≡ rule.lower_gap (setting system.now x.num x.den F) y.now) }
     ensures length { IfOk result (λ gap. length gap ≡ length system.now.bodies) }
     ensures ticks { steps.new ≤ steps.old + 1 }
 {

@@ -63,7 +63,8 @@ pub fn propose<const F: u32, L: Ledger>(
 ) -> Result<Base<F>, UpperFault>
     requires fraction_bits { IsFractionBits F }
     ensures base { IfOk result (λ base. base_of (setting founded.now x.num x.den F) ≡ Some base) }
-    ensures post_fixed { IfOk result (λ base. IsPostFixed (setting founded.now x.num x.den F) base) }
+    ensures post_fixed { IfOk result (λ base.
+        IsPostFixed (setting founded.now x.num x.den F) base) }
     ensures bounds { IfOk result (λ base. AreAbove founded.now (ratio x.num x.den) F base) }
     ensures fault { IfErr result (TellsNoUpper (setting founded.now x.num x.den F)) }
     ensures ticks { steps.new ≤ steps.old + most_ticks (setting founded.now x.num x.den F) }

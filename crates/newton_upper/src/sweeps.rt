@@ -48,7 +48,8 @@ pub(crate) fn upper_values<const F: u32, L: Ledger>(
 ) -> Result<Option<Values>, AllocError>
     requires fraction_bits { IsFractionBits F }
     requires one_per_class { length classes.now ≡ length system.now.bodies }
-    ensures exact { IfOk result (λ o. o ≡ rule.upper_values (setting system.now x.num x.den F) classes.now) }
+    ensures exact { IfOk result (λ o.
+        o ≡ rule.upper_values (setting system.now x.num x.den F) classes.now) }
     ensures length { IfOk result (λ o. IfSome o (λ v. length v ≡ length system.now.nodes)) }
     ensures ticks { steps.new ≤ steps.old + 1 }
 {
@@ -73,7 +74,8 @@ pub fn dual_vector<const F: u32, L: Ledger>(
 ) -> Result<Option<Values>, AllocError>
     requires fraction_bits { IsFractionBits F }
     requires one_per_class { length y.now ≡ length system.now.bodies }
-    ensures exact { IfOk result (λ o. o ≡ rule.dual_vector (setting system.now x.num x.den F) y.now sweeps) }
+    ensures exact { IfOk result (λ o.
+        o ≡ rule.dual_vector (setting system.now x.num x.den F) y.now sweeps) }
     ensures length { IfOk result (λ o. IfSome o (λ v. length v ≡ length system.now.bodies)) }
     ensures ticks { steps.new ≤ steps.old + (sweeps + 1) }
 {
@@ -94,7 +96,8 @@ fn swept_dual<const F: u32, L: Ledger>(
 ) -> Result<Option<Values>, AllocError>
     requires fraction_bits { IsFractionBits F }
     requires one_per_node { length values.now ≡ length system.now.nodes }
-    ensures exact { IfOk result (λ o. o ≡ rule.swept_dual (setting system.now x.num x.den F) values.now
+    ensures exact { IfOk result (λ o.
+        o ≡ rule.swept_dual (setting system.now x.num x.den F) values.now
         sweeps) }
     ensures length { IfOk result (λ o. IfSome o (λ v. length v ≡ length system.now.bodies)) }
     ensures ticks { steps.new ≤ steps.old + sweeps }

@@ -64,7 +64,11 @@ impl Model for Output {
 
     ghost Value = { Printed };
 
-    ghost view = { λ o. record { least = o.least; text = o.text.items; frames = reverse o.frames.items } };
+    ghost view = { λ o. record {
+      least = o.least;
+      text = o.text.items;
+      frames = reverse o.frames.items;
+    } };
 }
 
 impl Output {
@@ -178,7 +182,8 @@ impl Output {
 /// Appends the parts of a set or a cycle in canonical order, between its brackets.
 fn write_parts(text: &mut Vec<u8>, form: Form, mut parts: Vec<Part>) -> Result<(), AllocError>
     ensures { OnOk result (text.new.items
-        ≡ text.old.items ++ (opener form ∷ spaced (arranged form parts.items) ++ closer form ∷ [])) }
+        ≡ text.old.items ++ (opener form ∷ spaced (arranged form parts.items) ++ closer form
+        ∷ [])) }
 {
     match form {
         Form::Set => {

@@ -53,7 +53,8 @@ impl Reader {
         requires in_range { root.0 < length system.now.nodes }
         requires small { length text.now < 2 ^ 32 }
         requires nothing { self.old.stack ≡ [] }
-        ensures ok { OnOk result (Comes system.now (Some root) [] self.old.taken self.new.taken text.now) }
+        ensures ok { OnOk result
+            (Comes system.now (Some root) [] self.old.taken self.new.taken text.now) }
         ensures stop { IfErr result
             (StopsAt (Faults (Comes system.now (Some root) [] self.old.taken) text.now)) }
     {
@@ -135,9 +136,11 @@ impl Reader {
         word: &[u8],
         text: &'a [u8],
     ) -> Result<(Option<ExprId>, &'a [u8]), Stop>
-        ensures ok { IfOk result (λ x. IsNeutral word.now text.now (state self.old) x.0 (state self.new)
+        ensures ok { IfOk result (λ x.
+            IsNeutral word.now text.now (state self.old) x.0 (state self.new)
             x.1.now) }
-        ensures stop { IfErr result (StopsAt (DiffersFrom (leaf_text (codes "E") word.now) text.now)) }
+        ensures stop { IfErr result
+            (StopsAt (DiffersFrom (leaf_text (codes "E") word.now) text.now)) }
     {
         let rest = read_word(leaf_word(b"E", word), text)?;
         self.taken.push_token(Token::Unit)?;
@@ -151,7 +154,8 @@ impl Reader {
         word: &[u8],
         text: &'a [u8],
     ) -> Result<(Option<ExprId>, &'a [u8]), Stop>
-        ensures ok { IfOk result (λ x. IsAtom mode word.now text.now (state self.old) x.0 (state self.new)
+        ensures ok { IfOk result (λ x.
+            IsAtom mode word.now text.now (state self.old) x.0 (state self.new)
             x.1.now) }
         ensures stop { IfErr result (StopsAt (IsNoAtom mode word.now text.now)) }
     {
@@ -175,7 +179,8 @@ impl Reader {
     ) -> Result<(Option<ExprId>, &'a [u8]), Stop>
         requires some { 1 ≤ length parts.now }
         requires few { length parts.now ≤ 64 }
-        ensures ok { IfOk result (λ x. IsOption parts.now text.now (state self.old) x.0 (state self.new)
+        ensures ok { IfOk result (λ x.
+            IsOption parts.now text.now (state self.old) x.0 (state self.new)
             x.1.now) }
         ensures stop { IfErr result (StopsAt (IsNoOption parts.now text.now)) }
     {
@@ -192,7 +197,8 @@ impl Reader {
         text: &'a [u8],
     ) -> Result<(Option<ExprId>, &'a [u8]), Stop>
         requires some { 1 ≤ length parts.now }
-        ensures ok { IfOk result (λ x. IsProduct parts.now text.now (state self.old) x.0 (state self.new)
+        ensures ok { IfOk result (λ x.
+            IsProduct parts.now text.now (state self.old) x.0 (state self.new)
             x.1.now) }
         ensures stop { IfErr result (StopsAt (IsNoByte 40 text.now)) }
     {
@@ -263,7 +269,8 @@ impl Reader {
         text: &'a [u8],
     ) -> Result<(Option<ExprId>, &'a [u8]), Stop>
         requires few { counted.parts + 1 < 2 ^ 32 }
-        ensures ok { IfOk result (λ x. IsFurther counted text.now (state self.old) x.0 (state self.new)
+        ensures ok { IfOk result (λ x.
+            IsFurther counted text.now (state self.old) x.0 (state self.new)
             x.1.now) }
         ensures stop { IfErr result (StopsAt (IsNoFurther counted text.now)) }
     {

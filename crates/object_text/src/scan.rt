@@ -61,7 +61,8 @@ pub(crate) fn behind_first(text: &[u8]) -> &[u8]
 /// What follows a byte at the front of the text.
 pub(crate) fn read_byte(byte: u8, text: &[u8]) -> Result<&[u8], Stop>
     ensures ok { IfOk result (λ rest. text.now ≡ byte ∷ rest.now) }
-    ensures stop { IfErr result (StopsAt (λ left. (left ≡ length text.now) × IsOther byte text.now)) }
+    ensures stop { IfErr result (StopsAt (λ left.
+        (left ≡ length text.now) × IsOther byte text.now)) }
 {
     if begins_with(byte, text) {
         Ok(behind_first(text))
@@ -115,7 +116,8 @@ fn longer(n: u64, most: u64, text: &[u8]) -> Option<u64>
 pub(crate) fn read_number(low: u64, most: u64, text: &[u8]) -> Result<(u64, &[u8]), Stop>
     requires small { most ≤ 1000000 }
     ensures ok { IfOk result (λ read. BeginsWithNumber low most text.now read.0 read.1.now) }
-    ensures stop { IfErr result (StopsAt (λ left. (left ≡ length text.now) × HasNoNumber low most text.now)) }
+    ensures stop { IfErr result (StopsAt (λ left.
+        (left ≡ length text.now) × HasNoNumber low most text.now)) }
 {
     let Some(first) = digit_at(text) else {
         return Err(Stop::At(text.len()));

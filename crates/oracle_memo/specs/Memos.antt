@@ -42,7 +42,8 @@ drawn_in b lo hi = record { lo = max b.lo lo; hi = min b.hi hi }
 pub record HasRows (t : Setting) (start base : List ℕ) (levels : ℕ) (table : List Bounds) : Type 0
   where
     pub at : (row e : ℕ) → row < levels → e < length t.spec.nodes
-        → bounds_at table (row * length t.spec.nodes + e) ≡ level_bounds_from t start base (row + 1) e
+        → bounds_at table (row * length t.spec.nodes + e) ≡ level_bounds_from t start base
+        (row + 1) e
 
 -- The base is post-fixed and the start reached, the class vectors are those of the highest raised
 -- level, and the table has the rows of the raised levels and room for six.

@@ -75,7 +75,11 @@ impl<'a> Model for Writing<'a> {
 
     ghost Value = { Writing };
 
-    ghost view = { λ w. record { pieces = w.pieces; places = w.places.now; written = w.written.items } };
+    ghost view = { λ w. record {
+      pieces = w.pieces;
+      places = w.places.now;
+      written = w.written.items;
+    } };
 }
 
 impl<'a> Writing<'a> {

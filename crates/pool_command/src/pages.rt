@@ -153,7 +153,8 @@ fn numbers(alloc: Global, order: &[usize]) -> Result<String, AllocError>
 /// The status of the first drawing that didn't end with `Done`; `Done` where all did.
 pub(crate) fn first_status(pool: &Pool, count: usize) -> Status
     requires number { count ≤ length pool.now }
-    ensures { result ≡ printed.first_status (λ number. status_by (ending_at pool.now number)) count }
+    ensures { result ≡ printed.first_status (λ number.
+        status_by (ending_at pool.now number)) count }
 {
     let mut status = Status::Done;
     for number in 0..count {

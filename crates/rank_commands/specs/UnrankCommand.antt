@@ -25,7 +25,8 @@ pub data ObjectOfRank (s : Spec) (n r : ℕ) (status : Status) (text : List ℕ)
     beyond : (body count : ℕ) → body_of s 0 ≡ Some body → IsCount s body n count → count ≤ r
         → Says Status.RankRefused number_line 0 status text ticks
         → ObjectOfRank s n r status text ticks
-    no_memory : Says Status.OutOfMemory [] 0 status text ticks → ObjectOfRank s n r status text ticks
+    no_memory : Says Status.OutOfMemory [] 0 status text ticks
+        → ObjectOfRank s n r status text ticks
     printed : (body : ℕ) (o : Object) (belongs : Belongs s body o) → body_of s 0 ≡ Some body
         → IsRanked s body n r o
         → Says Status.Done (object_page s body o belongs) 0 status text ticks

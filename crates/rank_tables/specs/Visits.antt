@@ -93,7 +93,8 @@ visited s t (Tupled e) told =
     record {
       size = whole_size (take (length (product_parts (node_at s e))) told);
       place =
-          tuple_place t (product_parts (node_at s e)) (take (length (product_parts (node_at s e))) told);
+          tuple_place t (product_parts (node_at s e)) (take
+          (length (product_parts (node_at s e))) told);
     }
     ∷ drop (length (product_parts (node_at s e))) told
 visited s t (Listed e k) told =

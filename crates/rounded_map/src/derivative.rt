@@ -92,7 +92,8 @@ fn are_there(bodies: &[ExprId], derivatives: &[Option<u64>]) -> bool
 fn write_duals(bodies: &[ExprId], derivatives: &[Option<u64>], dual: &mut [u64])
     requires lengths { length dual.old ≡ length bodies.now }
     requires bodies { Each (λ body. body < length derivatives.now) (map number bodies.now) }
-    ensures written { dual.new ≡ map amount (map (dual_at derivatives.now) (map number bodies.now)) }
+    ensures written { dual.new ≡ map amount (map (dual_at derivatives.now)
+        (map number bodies.now)) }
 {
     for c in 0..dual.len() {
         dual[c] = number_of(add_hi(Some(UNITS), derivatives[bodies[c].0 as usize]));
@@ -231,7 +232,8 @@ fn factor(part: ExprId, is_replaced: bool, values: &[u64], before: &[Option<u64>
     requires in_range { part.0 < length before.now }
     requires values { length before.now ≤ length values.now }
     ensures factor { result
-        ≡ (if is_replaced then value_at before.now part.0 else Some (slice_index values.now part.0)) }
+        ≡ (if is_replaced then value_at before.now part.0 else Some
+        (slice_index values.now part.0)) }
 {
     if is_replaced {
         before[part.0 as usize]

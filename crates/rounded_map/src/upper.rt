@@ -349,7 +349,8 @@ fn test_entries(bodies: &[ExprId], values: &[Option<u64>], classes: &[u64]) -> R
     requires bodies { Each (λ body. body < length values.now) (map number bodies.now) }
     ensures ok { OnOk result (AreNoGreater (map (value_at values.now) (map number bodies.now))
         (map Some classes.now)) }
-    ensures fault { IfErr result (λ fault. IsFirstAbove (map (value_at values.now) (map number bodies.now))
+    ensures fault { IfErr result (λ fault.
+        IsFirstAbove (map (value_at values.now) (map number bodies.now))
         classes.now fault.class_id.0 fault.got) }
 {
     for c in 0..classes.len() {

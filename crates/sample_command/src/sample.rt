@@ -86,7 +86,8 @@ fn sampled_at<S: Shelf, K: Sink, L: Ledger>(
     ensures counts { (name : List ℕ) → S.faults shelf.old name ≤ S.faults shelf.new name }
     ensures writes { K.faults out.old ≤ K.faults out.new }
 {
-    at_fraction!(fraction, sampled [S, K, L] (alloc, founded, x, tape, limits, fast, shelf, out, steps))
+    at_fraction!(fraction, sampled [S, K, L]
+        (alloc, founded, x, tape, limits, fast, shelf, out, steps))
 }
 
 /// Searches a base of the specification, and draws over its levels, in units of `2^-F`.

@@ -53,7 +53,10 @@ pub fn range_is_monotone<const F: u32>(a: Hi<F>, b: Hi<F>, low: u64, i: u64)
 pub fn from_is_monotone<const F: u32>(a: Hi<F>, b: Hi<F>, low: u64)
     requires fraction_bits { IsFractionBits F }
     requires no_greater { a.0 ≤ b.0 }
-    ensures sequences { IsNoGreater (from_up Kind.Seq F a.entry.0 low) (from_up Kind.Seq F b.entry.0 low) }
-    ensures sets { IsNoGreater (from_up Kind.Set F a.entry.0 low) (from_up Kind.Set F b.entry.0 low) }
-    ensures cycles { IsNoGreater (from_up Kind.Cyc F a.entry.0 low) (from_up Kind.Cyc F b.entry.0 low) }
+    ensures sequences { IsNoGreater (from_up Kind.Seq F a.entry.0 low)
+        (from_up Kind.Seq F b.entry.0 low) }
+    ensures sets { IsNoGreater (from_up Kind.Set F a.entry.0 low)
+        (from_up Kind.Set F b.entry.0 low) }
+    ensures cycles { IsNoGreater (from_up Kind.Cyc F a.entry.0 low)
+        (from_up Kind.Cyc F b.entry.0 low) }
 {}

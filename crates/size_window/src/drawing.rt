@@ -297,7 +297,8 @@ impl Drawing {
     /// Ends the drawing while a shape waits for its labels, in a turn that is counted.
     fn cut_short(&mut self, made: Made, ending: Ending) -> Turned
         requires turns { self.old.turns < 50000000 }
-        ensures ended { self.new ≡ ended_by (counted (waiting_with self.old (shape_of made))) ending }
+        ensures ended { self.new ≡ ended_by (counted (waiting_with self.old
+            (shape_of made))) ending }
         ensures told { result ≡ Turned.Finished ending }
     {
         self.waiting = Some(made);

@@ -244,7 +244,8 @@ fn take_front(tokens: &mut Vec<Placed>, spot: Spot, front: Front) -> Result<Spot
     requires line_fits { spot.line + 1 < 2 ^ 32 }
     requires column_fits { spot.column + 1 + text.further front < 2 ^ 32 }
     ensures made { OnOk result (tokens.new.items ≡ tokens.old.items ++ text.made spot front) }
-    ensures behind { IfOk result (λ s. s ≡ text.along (text.further front) (text.moved spot front)) }
+    ensures behind { IfOk result (λ s.
+        s ≡ text.along (text.further front) (text.moved spot front)) }
 {
     match front {
         Front::LineFeed => {

@@ -61,7 +61,8 @@ pub fn add_names(alloc: Global, draft: &mut Draft, tokens: &[Placed]) -> Result<
     ensures names { OnOk result (draft.new.names
         ≡ with_names draft.old.names (line_names true (plain_tokens tokens.now))) }
     ensures others { OnOk result (draft.new ≡ record draft.old { names = draft.new.names }) }
-    ensures few { OnOk result (length draft.new.names ≤ length draft.old.names + length tokens.now) }
+    ensures few { OnOk result
+        (length draft.new.names ≤ length draft.old.names + length tokens.now) }
 {
     let mut starts = true;
     for placed in tokens {
@@ -125,7 +126,8 @@ pub fn first_fault(
     tokens: &[Placed],
 ) -> Result<Option<SpecFault>, AllocError>
     requires few { length draft.now.names < 2 ^ 32 }
-    ensures exact { IfOk result (λ f. f ≡ first_fault draft.now.mode draft.now.names [] true tokens.now) }
+    ensures exact { IfOk result (λ f.
+        f ≡ first_fault draft.now.mode draft.now.names [] true tokens.now) }
 {
     let mut seen = Names::new(alloc);
     fault_behind(alloc, draft, &mut seen, tokens)
@@ -139,7 +141,8 @@ fn fault_behind(
     tokens: &[Placed],
 ) -> Result<Option<SpecFault>, AllocError>
     requires few { length draft.now.names < 2 ^ 32 }
-    ensures exact { IfOk result (λ f. f ≡ first_fault draft.now.mode draft.now.names seen.old true tokens.now) }
+    ensures exact { IfOk result (λ f.
+        f ≡ first_fault draft.now.mode draft.now.names seen.old true tokens.now) }
 {
     let mut starts = true;
     for placed in tokens {

@@ -95,7 +95,8 @@ impl Reader {
     fn equals(&mut self, token: &Token) -> bool
         ensures read { (names : List (List ℕ)) (b : Before) (w : List ℕ)
             → Rests names b (kept self.old.sums)
-            → Leads names (step (Named b w) token.now) result self.new.expects (kept self.new.sums) }
+            → Leads names (step (Named b w) token.now) result self.new.expects
+            (kept self.new.sums) }
         ensures few { self.new.sums.draft ≡ self.old.sums.draft }
     {
         match token {
@@ -112,7 +113,8 @@ impl Reader {
         ensures read { IfOk result (λ stands. (names : List (List ℕ)) (p : Place)
             → Stands names p (kept self.old.sums)
             → Leads names (step (Want p) token.now) stands self.new.expects (kept self.new.sums)) }
-        ensures few { OnOk result (length self.new.sums.draft.nodes ≤ length self.old.sums.draft.nodes + 1) }
+        ensures few { OnOk result
+            (length self.new.sums.draft.nodes ≤ length self.old.sums.draft.nodes + 1) }
         ensures names { OnOk result (self.new.sums.draft.names ≡ self.old.sums.draft.names) }
     {
         match token {
@@ -215,7 +217,8 @@ impl Reader {
         ensures read { IfOk result (λ stands. (names : List (List ℕ)) (p : Place)
             → Stands names p (kept self.old.sums)
             → Leads names (step (Have p) token.now) stands self.new.expects (kept self.new.sums)) }
-        ensures few { OnOk result (length self.new.sums.draft.nodes ≤ length self.old.sums.draft.nodes + 3) }
+        ensures few { OnOk result
+            (length self.new.sums.draft.nodes ≤ length self.old.sums.draft.nodes + 3) }
         ensures names { OnOk result (self.new.sums.draft.names ≡ self.old.sums.draft.names) }
     {
         match token {
@@ -241,7 +244,8 @@ impl Reader {
         ensures read { IfOk result (λ stands. (names : List (List ℕ)) (s : State)
             → Represents names s self.old.expects (kept self.old.sums)
             → Leads names (step s token.now) stands self.new.expects (kept self.new.sums)) }
-        ensures few { OnOk result (length self.new.sums.draft.nodes ≤ length self.old.sums.draft.nodes + 3) }
+        ensures few { OnOk result
+            (length self.new.sums.draft.nodes ≤ length self.old.sums.draft.nodes + 3) }
         ensures names { OnOk result (self.new.sums.draft.names ≡ self.old.sums.draft.names) }
     {
         match self.expects {
