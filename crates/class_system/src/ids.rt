@@ -1,6 +1,7 @@
 //! Numbers of classes and nodes, and lists of nodes.
 ghost use Rattle.std.specs.Prelude.{◌≡◌, [], ◌∷◌, ◌++◌, OnOk, OnErr};
 
+use smallvec::SmallVec;
 use std::alloc::{AllocError, Global};
 use std::marker::Model;
 
@@ -9,13 +10,14 @@ use std::marker::Model;
 pub struct ClassId(pub u32);
 
 /// A node, by its number from 0.
-#[derive(Clone, Copy, Debug, PartialEq, Eq)]
+#[derive(Clone, Copy, Debug, Default, PartialEq, Eq)]
 pub struct ExprId(pub u32);
 
-/// A list of nodes, as the parts of a union or product, or the bodies of classes.
+/// A list of nodes, as the parts of a union or product, or the bodies of classes. Up to four nodes
+/// are kept in the value itself, and more in an allocation.
 #[derive(Debug, Drop)]
 pub struct Parts {
-    content: Vec<ExprId>,
+    content: SmallVec<ExprId, 4>,
 }
 
 impl Model for Parts {
@@ -33,7 +35,7 @@ impl Parts {
         ensures empty { result ≡ [] }
     {
         Parts {
-            content: Vec::new(alloc),
+            content: SmallVec::new(alloc),
         }
     }
 
