@@ -1,10 +1,10 @@
 -- What words stand for, why they stand for none, and which limits a drawing has.
 use Rattle.std.proofs.Common.{length, ◌+◌, Bool, ◌≡◌, ◌≢◌, ℕ, ◌≤◌, ◌⊎◌, List, [], ◌∷◌, refl, ap, arith, inl, inr}
-use Rattle.size_window.specs.Drawing.{AreLimits as AreWithin, limits_of}
+use Rattle.size_window.specs.Drawing.{AreLimitsAsked as AreWithin, limits_of}
 use Rattle.size_window.specs.declared.limits.Limits.{Limits}
 use Rattle.command_words.specs.Values.{IsSet}
 use Rattle.command_words.specs.Words.{Given, Takes}
-use Rattle.command_words.specs.Commands.{AreLimits, Makes, IsCommand, Refuses}
+use Rattle.command_words.specs.Commands.{AreLimitsAsked, Makes, IsCommand, Refuses}
 use Rattle.command_words.specs.Commands as makes
 use Rattle.command_words.specs.declared.command.Command.{Command}
 use Rattle.command_words.specs.declared.command.Command.TheVariants as command
@@ -57,7 +57,7 @@ set-turns : (name : CommandName) (texts : List (List ℕ)) (n : ℕ) → IsSet n
 set-turns name [] n set = (omega (arith, set), omega (arith, set))
 set-turns name (text ∷ others) n set = set.within
 
-are-within : (name : CommandName) (given : Given) (limits : Limits) → AreLimits name given limits → AreWithin (limits_of limits)
+are-within : (name : CommandName) (given : Given) (limits : Limits) → AreLimitsAsked name given limits → AreWithin (limits_of limits)
 are-within name given limits are =
     let count = set-count name (given.values option.Count) limits.count are.count in
     let turns = set-turns name (given.values option.Turns) limits.turns are.turns in

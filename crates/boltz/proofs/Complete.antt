@@ -24,7 +24,7 @@ use Rattle.command_words.proofs.Unique.{one_command}
 use Rattle.boltz.specs.Answers.{World, Carries, Answers, Unworded}
 use Rattle.boltz.specs.Answers as answers
 use Rattle.boltz.specs.Commands.{Specifies, AreRefused}
-use Rattle.boltz.specs.Complete.{IsGiven, IsFit, IsPrintable, IsUnfit, undisturbed, IsDrawable, IsBoundable, IsBaseless, IsWithoutFast}
+use Rattle.boltz.specs.Complete.{IsGiven, IsFit, AsksToPrint, IsUnfit, undisturbed, IsDrawable, IsBoundable, IsBaseless, IsWithoutFast}
 use Rattle.boltz.specs.Complete as complete
 use Rattle.sample_command.specs.Drawn.{TapeMet, HasFailed, Drawn, Lists, drawn_header, closing_lines, ending_status}
 use Rattle.sample_command.specs.Drawn as drawn
@@ -86,7 +86,7 @@ fit-only w asked file s fit next status text ticks memory p = specified-only w.f
 
 -- Words that ask to print a well-founded specification are answered by its canonical form, unless
 -- memory runs out.
-pub printed : (w : World) (s : Spec) (status : Status) (text : List ℕ) (ticks : ℕ) → IsPrintable w s → status ≢ Status.OutOfMemory → Answers w status text ticks → (status ≡ Status.Done) × (text ≡ spec_text s)
+pub printed : (w : World) (s : Spec) (status : Status) (text : List ℕ) (ticks : ℕ) → AsksToPrint w s → status ≢ Status.OutOfMemory → Answers w status text ticks → (status ≡ Status.Done) × (text ≡ spec_text s)
 printed w s status text ticks p memory h =
     let asked = command.Spec p.file in
     may-say-only Status.Done (spec_text s) 0 status text ticks memory (fit-only w asked p.file s p.fit Printed status text ticks memory (outcome-of w asked p.fit.named status text ticks memory h))

@@ -40,7 +40,7 @@ pub record IsFit (w : World) (c : Command) (file : List ℕ) (s : Spec) : Type 0
   pub has : HasSpecification w.files file s
 
 -- The words ask to print this specification.
-pub record IsPrintable (w : World) (s : Spec) : Type 0 where
+pub record AsksToPrint (w : World) (s : Spec) : Type 0 where
   pub file : List ℕ
   pub fit : IsFit w (command.Spec file) file s
 

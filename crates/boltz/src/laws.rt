@@ -25,7 +25,7 @@ ghost use Rattle.size_window.specs.RunByBits.{Ending};
 ghost use Rattle.size_window.specs.declared.limits.Limits.{Limits};
 ghost use Rattle.boltz.specs.Answers.{World, Answers, Carries, IsUndisturbed};
 ghost use Rattle.boltz.specs.Commands.{AreRefused};
-ghost use Rattle.boltz.specs.Complete.{IsPrintable, IsUnfit, IsDrawable, IsBoundable, IsBaseless};
+ghost use Rattle.boltz.specs.Complete.{AsksToPrint, IsUnfit, IsDrawable, IsBoundable, IsBaseless};
 ghost use Rattle.boltz.specs.Complete.{IsWithoutFast, IsCountable, undisturbed};
 ghost use Rattle.bulk_command.specs.BulkCommand.{bulk_course, course_line};
 ghost use Rattle.bulk_command.specs.BulkTables.{bulk_tables};
@@ -84,7 +84,7 @@ pub fn words_are_refused_by_their_line()
 /// What can be printed has no other answer than to be printed.
 pub fn what_can_be_printed_is_printed()
     ensures printed { (w : World) (s : Spec) (status : Status) (text : List ℕ) (ticks : ℕ)
-        → IsPrintable w s
+        → AsksToPrint w s
         → status ≢ Status.OutOfMemory → Answers w status text ticks → (status ≡ Status.Done)
         × (text ≡ spec_text s) }
 {}

@@ -10,7 +10,7 @@ use Rattle.choice_draw.specs.Decision.{level_for}
 use Rattle.oracle_memo.specs.Levels.{level_bounds, cost_at}
 use Rattle.rounded_map.specs.RoundedMap.{Setting, setting}
 use Rattle.size_window.specs.declared.ending.Ending.{Ending as Told}
-use Rattle.size_window.specs.RunByBits.{Limits, State, start}
+use Rattle.size_window.specs.RunByBits.{Limits, RunState, start}
 use Rattle.class_system.specs.Sound.{IsSound}
 use Rattle.size_window.specs.Drawing.{AreLimits, DrawingState, state_of, ending_of}
 use Rattle.size_window.specs.Trace.{atoms_in, TracesStart}
@@ -76,10 +76,10 @@ module _ (n : ℕ) (t : Setting) (base : List ℕ) (chosen : Chosen t.spec t.bit
     line-is kept thrown atoms bits turns is_kept is_thrown are_atoms are_bits are_turns =
         let at = h.so_far.drawing.state in
         let c = h.so_far.course in
-        let kept_at : c.state.kept ≡ d.kept = ap (λ (st : State). st.kept) at in
-        let thrown_at : c.state.thrown ≡ d.thrown = ap (λ (st : State). st.thrown) at in
-        let turns_at : c.state.turns ≡ d.turns = ap (λ (st : State). st.turns) at in
-        let bits_at : c.state.attempt.used ≡ used = ap (λ (st : State). st.attempt.used) at ∙ attempt-used d.waiting d.session used in
+        let kept_at : c.state.kept ≡ d.kept = ap (λ (st : RunState). st.kept) at in
+        let thrown_at : c.state.thrown ≡ d.thrown = ap (λ (st : RunState). st.thrown) at in
+        let turns_at : c.state.turns ≡ d.turns = ap (λ (st : RunState). st.turns) at in
+        let bits_at : c.state.attempt.used ≡ used = ap (λ (st : RunState). st.attempt.used) at ∙ attempt-used d.waiting d.session used in
         same-line (ending_word (ending_of e)) kept c.state.kept thrown c.state.thrown atoms (atoms_in c.entries) bits c.state.attempt.used turns c.state.turns (is_kept ∙ sym kept_at) (is_thrown ∙ sym thrown_at) (are_atoms ∙ h.so_far.drawing.atoms) (are_bits ∙ sym bits_at) (are_turns ∙ sym turns_at)
 
     -- what may be said of a run is an outcome of it

@@ -7,7 +7,7 @@ use Rattle.std.proofs.Math.Seq.{take-append_seam, drop-append_seam}
 use Rattle.bz_model.specs.Spec.{Spec, Mode, Node, Range, node_at, range_at, node_of, range_of, body_of, IsInRange}
 use Rattle.bz_model.specs.Object.{Object, Objects, none, more, count, Has, HaveEach, HaveAll, ClassHas, Belongs}
 use Rattle.bz_model.specs.Measures.{size, sizes}
-use Rattle.bz_model.specs.ObjectText.{PartText, in_order, rotated_to, least_of, lesser_label, least_label, HasLabels, IsTextOf, text_by, texts_of_each, texts_of_all, class_text, object_text, spaced}
+use Rattle.bz_model.specs.ObjectText.{PartText, in_order, rotated_to, least_of, lesser_label, least_label, HasLabels, IsObjectText, text_by, texts_of_each, texts_of_all, class_text, object_text, spaced}
 use Rattle.bz_laws.specs.InOrder.{leasts, IsRising, BeginsWithLeast, StandsInOrder, AllStandInOrder}
 use Rattle.bz_laws.specs.Spelled.{IsPlain}
 use Rattle.bz_laws.proofs.Nodes.{HasAt}
@@ -230,12 +230,12 @@ canon-class s zero c o l k x = elim k [ ]
 canon-class s (suc h) c o l k x = canon s (ClassHas s h) (class_text standing s h) (class_text canonical s h) (canon-class s h) (node_of s (body_of s c)) (range_of s (body_of s c)) o l k x
 
 -- a text that is the canonical one of what is read from it is read in order
-pub canonical-ordered : (s : Spec) → IsPlain s → (e : ℕ) (text : List ℕ) (o : Object) (l : List ℕ) (b : Belongs s e o) → IsTextOf s e text o l → text ≡ object_text s e o b l → StandsInOrder o l
+pub canonical-ordered : (s : Spec) → IsPlain s → (e : ℕ) (text : List ℕ) (o : Object) (l : List ℕ) (b : Belongs s e o) → IsObjectText s e text o l → text ≡ object_text s e o b l → StandsInOrder o l
 canonical-ordered s plain e text o l b a eq =
     let c = canon s (ClassHas s b.0) (class_text standing s b.0) (class_text canonical s b.0) (canon-class s b.0) (node_at s e) (range_at s e) o l b.1 a.labelled in
     let t = one_reading s plain e text o c.object l c.labels a (record { belongs = (b.0, c.has); labelled = c.labelled; spelled = eq ∙ sym c.shown }) in
     subst (λ z. StandsInOrder z l) (sym t.0) (subst (StandsInOrder c.object) (sym t.1) c.ordered)
 
 -- and the other way round
-pub ordered-canonical : (s : Spec) (e : ℕ) (text : List ℕ) (o : Object) (l : List ℕ) (b : Belongs s e o) → IsTextOf s e text o l → StandsInOrder o l → text ≡ object_text s e o b l
+pub ordered-canonical : (s : Spec) (e : ℕ) (text : List ℕ) (o : Object) (l : List ℕ) (b : Belongs s e o) → IsObjectText s e text o l → StandsInOrder o l → text ≡ object_text s e o b l
 ordered-canonical s e text o l b a k = a.spelled ∙ one_text standing s e o l a.belongs b ∙ sym (ordered-printed s e o l b k)

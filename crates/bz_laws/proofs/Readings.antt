@@ -10,7 +10,7 @@ use Rattle.std.proofs.Math.Nat.{le-max_left, le-max_right}
 use Rattle.bz_model.specs.Spec.{Spec, Mode, Node, Range, node_at, range_at, node_of, range_of, body_of}
 use Rattle.bz_model.specs.Object.{Object, Objects, none, more, Has, HaveEach, HaveAll, ClassHas, HasWithin, Belongs}
 use Rattle.bz_model.specs.Measures.{size, sizes}
-use Rattle.bz_model.specs.ObjectText.{Arrangement, HasLabels, IsTextOf, IsCanonicalText, object_text, text_by, texts_of_each, texts_of_all, class_text, text_within, spaced, leaf_text, label_text}
+use Rattle.bz_model.specs.ObjectText.{Arrangement, HasLabels, IsObjectText, IsCanonicalText, object_text, text_by, texts_of_each, texts_of_all, class_text, text_within, spaced, leaf_text, label_text}
 use Rattle.bz_laws.specs.Spelled.{IsWordByte, IsPlainNode, IsPlain}
 use Rattle.bz_laws.proofs.Heights.{within-up_to}
 use Rattle.bz_laws.proofs.Unions.{part_missing}
@@ -351,7 +351,7 @@ module _ (s : Spec) (plain : IsPlain s) where
   within_same n e o p l m h k x y eq = same s plain (ClassHas s n) (class_text standing s n) (class_begins n) (class_same n) (node_at s e) (good-at s plain e) (range_at s e) o p l m [] [] h k x y tt tt (append-nil (text_within standing s n (Some e) o l) ∙ eq ∙ sym (append-nil (text_within standing s n (Some e) p m)))
 
   -- a text is that of at most one object and labels
-  pub one_reading : (e : ℕ) (text : List ℕ) (o p : Object) (l m : List ℕ) → IsTextOf s e text o l → IsTextOf s e text p m → (o ≡ p) × (l ≡ m)
+  pub one_reading : (e : ℕ) (text : List ℕ) (o p : Object) (l m : List ℕ) → IsObjectText s e text o l → IsObjectText s e text p m → (o ≡ p) × (l ≡ m)
   one_reading e text o p l m a b =
       let h : ℕ = max a.belongs.0 b.belongs.0 in
       let c : Belongs s e o = (max a.belongs.0 b.belongs.0, within-up_to s a.belongs.0 (max a.belongs.0 b.belongs.0) (omega (arith, le-max_left)) (Some e) o a.belongs.1) in
@@ -360,7 +360,7 @@ module _ (s : Spec) (plain : IsPlain s) where
       (t.object, t.labels)
 
   -- a canonical text is the text of the object that is read from it
-  pub printed_again : (e : ℕ) (text : List ℕ) (o p : Object) (l m : List ℕ) (b : Belongs s e p) → IsCanonicalText s e text o l → IsTextOf s e text p m → text ≡ object_text s e p b m
+  pub printed_again : (e : ℕ) (text : List ℕ) (o p : Object) (l m : List ℕ) (b : Belongs s e p) → IsCanonicalText s e text o l → IsObjectText s e text p m → text ≡ object_text s e p b m
   printed_again e text o p l m b a k =
       let t = one_reading e text o p l m a.read k in
       subst (λ z. (c : Belongs s e z) → text ≡ object_text s e z c m) t.0

@@ -2,7 +2,7 @@
 ghost use Rattle.std.specs.Prelude.{◌≡◌, ℕ, List};
 ghost use Rattle.bz_model.specs.Spec.{Spec};
 ghost use Rattle.bz_model.specs.Object.{Object, Belongs};
-ghost use Rattle.bz_model.specs.ObjectText.{object_text, IsTextOf, IsCanonicalText};
+ghost use Rattle.bz_model.specs.ObjectText.{object_text, IsObjectText, IsCanonicalText};
 ghost use Rattle.bz_laws.specs.InOrder.{StandsInOrder};
 ghost use Rattle.bz_laws.specs.Spelled.{IsPlain};
 
@@ -16,10 +16,10 @@ pub fn an_object_has_one_text()
 /// low lines alone.
 pub fn a_text_is_that_of_one_object()
     ensures read { (s : Spec) (e : ℕ) (text : List ℕ) (o p : Object) (labels others : List ℕ)
-        → IsPlain s → IsTextOf s e text o labels → IsTextOf s e text p others
+        → IsPlain s → IsObjectText s e text o labels → IsObjectText s e text p others
         → (o ≡ p) × (labels ≡ others) }
     ensures canonical { (s : Spec) (e : ℕ) (text : List ℕ) (o p : Object) (labels others : List ℕ)
-        → IsPlain s → IsCanonicalText s e text o labels → IsTextOf s e text p others
+        → IsPlain s → IsCanonicalText s e text o labels → IsObjectText s e text p others
         → (o ≡ p) × (labels ≡ others) }
 {}
 
@@ -27,7 +27,7 @@ pub fn a_text_is_that_of_one_object()
 pub fn a_canonical_text_is_printed_again()
     ensures { (s : Spec) (e : ℕ) (text : List ℕ) (o p : Object) (labels others : List ℕ)
         (b : Belongs s e p) → IsPlain s → IsCanonicalText s e text o labels
-        → IsTextOf s e text p others → text ≡ object_text s e p b others }
+        → IsObjectText s e text p others → text ≡ object_text s e p b others }
 {}
 
 /// Canonical texts are those of objects that stand in order: where a text is that of an object with
@@ -35,9 +35,9 @@ pub fn a_canonical_text_is_printed_again()
 /// their least labels and each cycle begins with the part that holds its least label.
 pub fn canonical_texts_stand_in_order()
     ensures in_order { (s : Spec) (e : ℕ) (text : List ℕ) (o : Object) (labels : List ℕ)
-        (b : Belongs s e o) → IsPlain s → IsTextOf s e text o labels
+        (b : Belongs s e o) → IsPlain s → IsObjectText s e text o labels
         → text ≡ object_text s e o b labels → StandsInOrder o labels }
     ensures canonical { (s : Spec) (e : ℕ) (text : List ℕ) (o : Object) (labels : List ℕ)
-        (b : Belongs s e o) → IsTextOf s e text o labels → StandsInOrder o labels
+        (b : Belongs s e o) → IsObjectText s e text o labels → StandsInOrder o labels
         → text ≡ object_text s e o b labels }
 {}

@@ -5,7 +5,7 @@ use Rattle.std.proofs.Common.{refl, arith, lit≤, lit<, ◌∙◌, ap}
 use Rattle.bz_model.specs.Object.{Object, none, more, Belongs, HasWithin}
 use Rattle.bz_model.specs.Object.Object.{Dot, Pick, Tuple, SetOf, CycOf}
 use Rattle.bz_model.specs.Labels.{AreOneTo}
-use Rattle.bz_model.specs.ObjectText.{object_text, text_within, Arrangement, IsTextOf, IsCanonicalText, HasLabels}
+use Rattle.bz_model.specs.ObjectText.{object_text, text_within, Arrangement, IsObjectText, IsCanonicalText, HasLabels}
 use Rattle.bz_model.specs.Spec.{Mode}
 use Rattle.bz_model.proofs.Rows.{two_class, tree, marked, leaf_tree, tree_of_four, marked_cycles, neutral_and_atom}
 use Rattle.bz_model.proofs.Examples.{pair_of_two_class, leaf_belongs, tree_belongs}
@@ -36,7 +36,7 @@ crossed = SetOf (more (CycOf (more (Pick 0 Dot) (more (Pick 0 Dot) none))) none)
 crossed_belongs : Belongs marked 2 crossed
 crossed_belongs = (1, ((lit≤ tt, tt), (((lit≤ tt, tt), (tt, (tt, tt))), tt)))
 
-crossed_text : IsTextOf marked 2 (codes "{<0.Z#2 0.Z#1>}") crossed (2 ∷ 1 ∷ [])
+crossed_text : IsObjectText marked 2 (codes "{<0.Z#2 0.Z#1>}") crossed (2 ∷ 1 ∷ [])
 unfolding digits crossed_belongs
 crossed_text = record { belongs = crossed_belongs; labelled = (refl, ((lit≤ tt, lit≤ tt), ((lit≤ tt, lit≤ tt), tt))); spelled = refl }
 

@@ -15,7 +15,7 @@ pub record Encloses (s : Spec) (x : Fraction) (F e : ℕ) (b : Bounds) : Type 0 
 
 -- A table is sound where the specification is well founded, each of its nodes has an object, x is
 -- positive, and the bounds of each node at the levels 1 to 6 enclose the node's value.
-pub record IsSound (s : Spec) (x : Fraction) (F : ℕ) (table : (level node : ℕ)
+pub record IsSoundTable (s : Spec) (x : Fraction) (F : ℕ) (table : (level node : ℕ)
     → Bounds) : Type 0 where
   pub founded : IsWellFounded s
   pub inhabited : (e : ℕ) → e < length s.nodes → (o : Object) × Belongs s e o

@@ -4,7 +4,7 @@ ghost use Rattle.std.specs.Prelude.{IsNone};
 ghost use Rattle.bz_model.specs.Fraction.{Fraction};
 ghost use Rattle.bz_model.specs.Spec.{Spec};
 ghost use Rattle.bz_model.specs.declared.cell.Bounds.{Bounds};
-ghost use Rattle.bz_model.specs.Oracle.{IsSound, AreCosts, cost_between};
+ghost use Rattle.bz_model.specs.Oracle.{IsSoundTable, AreCosts, cost_between};
 
 use crate::cell::Bounds;
 use crate::steps::Steps;
@@ -50,7 +50,7 @@ pub trait Oracle<const F: u32> {
 
     /// Does nothing: its clauses say what the table and the costs are.
     fn known(&self)
-        ensures sound { IsSound (spec self.now) (x self.now) F (table self.now) }
+        ensures sound { IsSoundTable (spec self.now) (x self.now) F (table self.now) }
         ensures costs { AreCosts (cost self.now) }
         ensures raised { raised self.now ≤ 6 };
 }

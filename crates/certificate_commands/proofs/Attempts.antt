@@ -7,13 +7,13 @@ use Rattle.object_store.specs.Tokens.{size_of}
 use Rattle.choice_draw.specs.Draw.{bit_of}
 use Rattle.labelling.specs.LabelsByBits.{Labelling, labelling}
 use Rattle.shape_sampler.specs.Visit.{Attempt, Visited, visit}
-use Rattle.size_window.specs.RunByBits.{Sampling, State, Turned, Ending, quiet, with_attempt, added, thrown_away, kept_or_waits, went, visited, shape_turn, counted_turn, label_turn, labelled_with, turn_unless, fault_place, after, ended}
+use Rattle.size_window.specs.RunByBits.{Sampling, RunState, Turned, Ending, quiet, with_attempt, added, thrown_away, kept_or_waits, went, visited, shape_turn, counted_turn, label_turn, labelled_with, turn_unless, fault_place, after, ended}
 
 -- a turn leaves no more attempts thrown away than turns
 abbrev FewThrown : Turned → Type 0
 FewThrown t = t.state.thrown ≤ t.state.turns
 
-module _ (s : Sampling) (st : State) (h : suc st.thrown ≤ st.turns) where
+module _ (s : Sampling) (st : RunState) (h : suc st.thrown ≤ st.turns) where
   fewer : st.thrown ≤ st.turns
   fewer = omega arith
 
@@ -51,12 +51,12 @@ module _ (s : Sampling) (st : State) (h : suc st.thrown ≤ st.turns) where
   counted-few fault false = turn-few fault st.attempt.pending
 
 module _ (s : Sampling) where
-  ends-or-counts : (st : State) (fault : Option ℕ) (all limit : Bool) → st.thrown ≤ st.turns → FewThrown (cond all (quiet (ended st Ending.Done st.attempt.used)) (cond limit (quiet (ended st Ending.TurnLimit st.attempt.used)) (counted_turn s (bit_of s.tape (fault_place st fault)) (record st { turns = suc st.turns }))))
+  ends-or-counts : (st : RunState) (fault : Option ℕ) (all limit : Bool) → st.thrown ≤ st.turns → FewThrown (cond all (quiet (ended st Ending.Done st.attempt.used)) (cond limit (quiet (ended st Ending.TurnLimit st.attempt.used)) (counted_turn s (bit_of s.tape (fault_place st fault)) (record st { turns = suc st.turns }))))
   ends-or-counts st fault true limit h = h
   ends-or-counts st fault false true h = h
   ends-or-counts st fault false false h = counted-few s (record st { turns = suc st.turns }) (omega arith) (fault_place st fault) st.awaits
 
-  unless-few : (st : State) (fault : Option ℕ) (o : Option Ending) → st.thrown ≤ st.turns → FewThrown (turn_unless s fault st o)
+  unless-few : (st : RunState) (fault : Option ℕ) (o : Option Ending) → st.thrown ≤ st.turns → FewThrown (turn_unless s fault st o)
   unless-few st fault None h = ends-or-counts st fault (nat_eq st.kept s.limits.count) (nat_eq st.turns s.limits.turns) h
   unless-few st fault (Some ending) h = h
 

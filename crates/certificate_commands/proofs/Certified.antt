@@ -24,7 +24,7 @@ use Rattle.size_window.specs.Drawing.{AreLimits}
 use Rattle.size_window.specs.Ideally.{chooser_of}
 use Rattle.size_window.specs.InOrder.{AreInOrder, IsInOrder}
 use Rattle.size_window.specs.Redrawn.{AreRedrawn}
-use Rattle.size_window.specs.RunByBits.{Limits, Sampling, State, Entry, Course, Ending, after}
+use Rattle.size_window.specs.RunByBits.{Limits, Sampling, RunState, Entry, Course, Ending, after}
 use Rattle.size_window.specs.TapeEnd.{bits_a_turn, UsesFewBits}
 use Rattle.size_window.specs.Trace.{EndsAt}
 use Rattle.size_window.proofs.Redrawing.{has-own}
@@ -216,7 +216,7 @@ module _ (s : Spec) (sound : IsSound s) (F : ℕ) (table : (level node : ℕ) �
       (record { number = omega (arith, n, a); place = omega (arith, p, b); size = omega (arith, z, c) }, entries-small most used a b c es texts k.1 x.1)
 
 -- A drawing's certificate.
-abbrev pub certificate_of : Spec → (x : Fraction) → (F : ℕ) → Limits → (base : List ℕ) → State → List CertEntry → Certificate
+abbrev pub certificate_of : Spec → (x : Fraction) → (F : ℕ) → Limits → (base : List ℕ) → RunState → List CertEntry → Certificate
 certificate_of s x F limits base st entries = record {
   header = header_of s x F limits.min limits.max base;
   entries = entries;

@@ -3,10 +3,10 @@ use Rattle.std.proofs.Common.{◌≡◌, ℕ, ◌+◌, ◌<◌, ◌≤◌, max, 
 use Rattle.std.specs.Prelude.{Some}
 use Rattle.bz_model.specs.declared.cell.Bounds.{Bounds}
 use Rattle.bz_model.specs.Fraction.{ratio}
-use Rattle.bz_model.specs.Oracle.{Encloses, IsSound}
+use Rattle.bz_model.specs.Oracle.{Encloses, IsSoundTable}
 use Rattle.bz_model.specs.Spec.{Spec, body_of}
 use Rattle.bz_model.specs.Object.{Object, Belongs}
-use Rattle.class_system.specs.Sound.{IsSound as IsSoundSpec}
+use Rattle.class_system.specs.Sound.{IsSoundTable as IsSoundSpec}
 use Rattle.class_system.proofs.Soundness.{body_in_range}
 use Rattle.bz_laws.proofs.Weights.{bound-pos}
 use Rattle.kleene_lower.specs.Lower.{zeros}
@@ -49,7 +49,7 @@ pub record IsRoot (t : Setting) (base : List ℕ) (root : Bounds) : Type 0 where
   pub encloses : (body : ℕ) → body_of t.spec 0 ≡ Some body → Encloses t.spec (ratio t.num t.den) t.bits body root
   pub some : 0 < root.hi
 
-module _ (t : Setting) (base : List ℕ) (system : Spec) (m now : Memory) (e : ℕ) (root : Bounds) (same : system ≡ t.spec) (at : body_of system 0 ≡ Some e) (made : m ≡ made_of t base) (raised : now ≡ record m { raised = max m.raised 6 }) (within : e < length now.spec.nodes) (sound : IsSound now.spec (ratio now.num now.den) t.bits (λ level node. level_bounds_from (setting now.spec now.num now.den t.bits) now.start now.base level node)) (is : root ≡ level_bounds_from (setting now.spec now.num now.den t.bits) now.start now.base 6 e) where
+module _ (t : Setting) (base : List ℕ) (system : Spec) (m now : Memory) (e : ℕ) (root : Bounds) (same : system ≡ t.spec) (at : body_of system 0 ≡ Some e) (made : m ≡ made_of t base) (raised : now ≡ record m { raised = max m.raised 6 }) (within : e < length now.spec.nodes) (sound : IsSoundTable now.spec (ratio now.num now.den) t.bits (λ level node. level_bounds_from (setting now.spec now.num now.den t.bits) now.start now.base level node)) (is : root ≡ level_bounds_from (setting now.spec now.num now.den t.bits) now.start now.base 6 e) where
   now-is : now ≡ record (made_of t base) { raised = max 0 6 }
   now-is = raised ∙ ap (λ (k : Memory). record k { raised = max k.raised 6 }) made
 

@@ -8,11 +8,11 @@ use Rattle.object_store.specs.declared.visit.Visit.{Visit}
 use Rattle.object_store.specs.declared.visit.Visit.TheVariants as visit
 use Rattle.class_system.specs.Sound.{IsSound}
 use Rattle.object_store.specs.Tokens.{BelongEach, IsOf}
-use Rattle.object_store.specs.Waiting.{joined, Waits, Shows}
-use Rattle.object_store.specs.Walking.{Walking, IsVisit, HasNoObject}
+use Rattle.object_store.specs.Waiting.{joined, AreWaiting, Shows}
+use Rattle.object_store.specs.Walking.{Walking, IsVisitOfWalk, HasNoObjects}
 use Rattle.chance_law.specs.declared.scaled.Scaled.{Scaled}
 use Rattle.chance_law.specs.declared.weights.Weights.{Weights}
-use Rattle.chance_law.specs.Scaled.{IsNear, one}
+use Rattle.chance_law.specs.Scaled.{IsNearZero, one}
 use Rattle.chance_law.specs.Factors.{Factor, factors, all_factors, over_two_to}
 use Rattle.chance_law.specs.Chance.{LeadsDown, LeadsUp}
 use Rattle.chance_law.specs.Weights.{AreWithin, AreWeightsOf, HasCome, IsOnTheWay, visit_factors}
@@ -26,7 +26,7 @@ join-factors (more o os) ps = ap (λ fs. factors o ++ fs) (join-factors os ps) �
 -- The objects that wait after a visit have the factors that the visit leaves.
 record Left (s : Spec) (v : Visit) (os : Objects) (fs : List ℕ) (us : List Token) : Type 0 where
   objects : Objects
-  waits : Waits s fs objects us
+  waits : AreWaiting s fs objects us
   split : all_factors os ≡ visit_factors v ++ all_factors objects
 
 left-after : (s : Spec) (e : ℕ) (es : List ℕ) (os : Objects) (ts : List Token) (v : Visit) (fs : List ℕ) (us : List Token) → Shows s e es os ts v fs us → Left s v os fs us
@@ -66,7 +66,7 @@ comes x w now o os ps fs split h d u = record {
 }
 
 -- At the start the object itself waits, and both weights are 1.
-pub begins : (s : Spec) (x w : Weights) (o : Object) (es : List ℕ) (ts : List Token) → Waits s es (more o none) ts → w.lo ≡ one → w.hi ≡ one → AreWithin 512 w → IsOnTheWay s x o es ts w
+pub begins : (s : Spec) (x w : Weights) (o : Object) (es : List ℕ) (ts : List Token) → AreWaiting s es (more o none) ts → w.lo ≡ one → w.hi ≡ one → AreWithin 512 w → IsOnTheWay s x o es ts w
 begins s x w o es ts waits lo hi within = record {
   objects = more o none;
   waits = waits;
@@ -98,13 +98,13 @@ goes-on s x w now o e es ws fs ts us v h shows d u within =
 -- At the end nothing waits, and the weights are the object's.
 pub ends : (s : Spec) (x w : Weights) (o : Object) (es : List ℕ) (ts : List Token) → es ≡ [] → IsOnTheWay s x o es ts w → AreWeightsOf x o w
 ends s x w o es ts empty h =
-    let nothing = none_waits h.objects (subst (λ gs. Waits s gs h.objects ts) empty h.waits) in
+    let nothing = none_waits h.objects (subst (λ gs. AreWaiting s gs h.objects ts) empty h.waits) in
     record {
       down = h.come.down w.lo (subst (λ os. LeadsDown x.lo w.lo (all_factors os) w.lo) (sym nothing) refl);
       up = h.come.up w.hi (subst (λ os. LeadsUp x.hi w.hi (all_factors os) w.hi) (sym nothing) refl);
     }
   where
-    none_waits : (os : Objects) → Waits s [] os ts → os ≡ none
+    none_waits : (os : Objects) → AreWaiting s [] os ts → os ≡ none
     none_waits none k = refl
     none_waits (more o os) k = elim k.belong [ ]
 
@@ -117,18 +117,18 @@ wider m n w le h = record {
   hi_near = near h.hi_near;
 }
   where
-    near : {e : ℤ} → IsNear m e → IsNear n e
+    near : {e : ℤ} → IsNearZero m e → IsNearZero n e
     near k = record { above = (let a = k.above in omega arith); below = (let b = k.below in omega arith) }
 
 -- A visit of the walk goes on.
-pub goes-on-walk : (s : Spec) (x w now : Weights) (o : Object) (before after : Walking) (e : ℕ) (v : Visit) → before.system ≡ s → IsVisit before after e v → IsOnTheWay s x o before.waiting before.left w → LeadsDown x.lo w.lo (visit_factors v) now.lo → LeadsUp x.hi w.hi (visit_factors v) now.hi → ((bound : ℕ) → AreWithin bound w → AreWithin (bound + 512 * length (visit_factors v)) now) → IsOnTheWay s x o after.waiting after.left now
+pub goes-on-walk : (s : Spec) (x w now : Weights) (o : Object) (before after : Walking) (e : ℕ) (v : Visit) → before.system ≡ s → IsVisitOfWalk before after e v → IsOnTheWay s x o before.waiting before.left w → LeadsDown x.lo w.lo (visit_factors v) now.lo → LeadsUp x.hi w.hi (visit_factors v) now.hi → ((bound : ℕ) → AreWithin bound w → AreWithin (bound + 512 * length (visit_factors v)) now) → IsOnTheWay s x o after.waiting after.left now
 goes-on-walk s x w now o before after e v same visit h d u within =
-    let waits = subst (λ z. Waits z before.waiting h.objects before.left) (sym same) h.waits in
+    let waits = subst (λ z. AreWaiting z before.waiting h.objects before.left) (sym same) h.waits in
     let shows = subst (λ z. Shows z e visit.others h.objects before.left v after.waiting after.left) same (visit.shows h.objects waits) in
     goes-on s x w now o e visit.others before.waiting after.waiting before.left after.left v h shows d u within
 
 -- Objects wait, so a walk on its way doesn't come to tokens of no object.
-pub never-without : (s : Spec) (x w : Weights) (o : Object) (before after : Walking) → before.system ≡ s → HasNoObject before after → ¬ (IsOnTheWay s x o before.waiting before.left w)
+pub never-without : (s : Spec) (x w : Weights) (o : Object) (before after : Walking) → before.system ≡ s → HasNoObjects before after → ¬ (IsOnTheWay s x o before.waiting before.left w)
 never-without s x w o before after same none_there h = none_there.never (record { objects = h.objects; belong = subst (λ z. BelongEach z before.waiting h.objects) (sym same) h.waits.belong; spelled = h.waits.spelled })
 
 -- Fewer than 2^32 tokens have fewer than 2^33 factors, so the exponents are near.

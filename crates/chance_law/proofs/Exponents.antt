@@ -8,7 +8,7 @@ use borrow.Author.Differences.{up, down}
 use Rattle.std.proofs.Math.Nat.{mul-le-mul_right}
 use Rattle.bz_model.specs.Fraction.{times, ratio}
 use Rattle.chance_law.specs.declared.scaled.Scaled.{Scaled}
-use Rattle.chance_law.specs.Scaled.{rise, fall, value, IsScaled, IsNear, IsRoundedDown}
+use Rattle.chance_law.specs.Scaled.{rise, fall, value, IsScaled, IsNearZero, IsRoundedDown}
 use Rattle.chance_law.proofs.Rounding.{power-sum}
 use Rattle.chance_law.proofs.Determined.{quotient-down}
 
@@ -83,10 +83,10 @@ part-down s r d k some is e lo hi = quotient-down (times (value s) (ratio 1 d)) 
         back : (n a d : ℕ) → 1 ≤ d → n / d < a → n < a * d
         back n a d h lt = let u = mul-le-mul_right d lt in omega arith
 
-near-fits : (x : ℤ) → IsNear (2 ^ 61) x → SFits w64 x
+near-fits : (x : ℤ) → IsNearZero (2 ^ 61) x → SFits w64 x
 near-fits (pos n) h = record { sfits = (let a = h.above in omega arith) }
 near-fits (negsuc n) h = record { sfits = (let a = h.below in omega arith) }
 
 -- exponents that were passed on as 64 bits
-pub passed : (x y z : ℤ) (k : ℕ) → IsNear (2 ^ 61) x → IsNear (2 ^ 61) y → SFits w64 z → z ≡ (to_z w64 (of_z w64 x) +ℤ to_z w64 (of_z w64 y)) +ℤ pos k → to_z w64 (of_z w64 z) ≡ (x +ℤ y) +ℤ pos k
+pub passed : (x y z : ℤ) (k : ℕ) → IsNearZero (2 ^ 61) x → IsNearZero (2 ^ 61) y → SFits w64 z → z ≡ (to_z w64 (of_z w64 x) +ℤ to_z w64 (of_z w64 y)) +ℤ pos k → to_z w64 (of_z w64 z) ≡ (x +ℤ y) +ℤ pos k
 passed x y z k a b c e = to_z-of_z w64 z c ∙ e ∙ ap (λ u. (u +ℤ to_z w64 (of_z w64 y)) +ℤ pos k) (to_z-of_z w64 x (near-fits x a)) ∙ ap (λ u. (x +ℤ u) +ℤ pos k) (to_z-of_z w64 y (near-fits y b))

@@ -40,6 +40,6 @@ abbrev pub one : Scaled
 one = record { m = 9223372036854775808; e = negsuc 62 }
 
 -- An exponent is at most n above or below 0.
-pub record IsNear (n : ℕ) (e : ℤ) : Type 0 where
+pub record IsNearZero (n : ℕ) (e : ℤ) : Type 0 where
   pub above : rise e ≤ n
   pub below : fall e ≤ n

@@ -5,10 +5,10 @@ use Rattle.bz_model.specs.Object.{Object, Objects}
 use Rattle.object_store.specs.declared.token.Token.{Token}
 use Rattle.object_store.specs.declared.visit.Visit.{Visit}
 use Rattle.object_store.specs.declared.visit.Visit.TheVariants as visit
-use Rattle.object_store.specs.Waiting.{Waits}
+use Rattle.object_store.specs.Waiting.{AreWaiting}
 use Rattle.chance_law.specs.declared.scaled.Scaled.{Scaled}
 use Rattle.chance_law.specs.declared.weights.Weights.{Weights}
-use Rattle.chance_law.specs.Scaled.{IsScaled, IsNear, one}
+use Rattle.chance_law.specs.Scaled.{IsScaled, IsNearZero, one}
 use Rattle.chance_law.specs.Factors.{Factor, factors, all_factors, over_two_to}
 use Rattle.chance_law.specs.Chance.{LeadsDown, LeadsUp}
 
@@ -16,8 +16,8 @@ use Rattle.chance_law.specs.Chance.{LeadsDown, LeadsUp}
 pub record AreWithin (bound : ℕ) (w : Weights) : Type 0 where
   pub lo_scaled : IsScaled w.lo
   pub hi_scaled : IsScaled w.hi
-  pub lo_near : IsNear bound w.lo.e
-  pub hi_near : IsNear bound w.hi.e
+  pub lo_near : IsNearZero bound w.lo.e
+  pub hi_near : IsNearZero bound w.hi.e
 
 -- What a visit multiplies the weights by: x for an atom, one part in each of 2 to k for a set of k
 -- parts, and one part in k for a cycle of k parts.
@@ -49,7 +49,7 @@ pub record AreWeightsOf (x : Weights) (o : Object) (w : Weights) : Type 0 where
 pub record IsOnTheWay (s : Spec) (x : Weights) (o : Object) (es : List ℕ) (tokens : List Token)
     (w : Weights) : Type 0 where
   pub objects : Objects
-  pub waits : Waits s es objects tokens
+  pub waits : AreWaiting s es objects tokens
   pub come : HasCome x w o objects
   pub done : ℕ
   pub counted : done + length (all_factors objects) ≡ length (factors o)

@@ -1,6 +1,6 @@
 //! Scaled numbers: 64 binary digits and an exponent, with products and quotients rounded outward.
 ghost use Rattle.std.specs.Prelude.{◌≡◌, suc, ◌+◌, ◌*◌, ◌^◌, ◌<◌, ◌≤◌, ◌+ℤ◌, pos, true, false};
-ghost use Rattle.chance_law.specs.Scaled.{IsNear, IsScaled, rise, fall};
+ghost use Rattle.chance_law.specs.Scaled.{IsNearZero, IsScaled, rise, fall};
 
 /// The number `m * 2^e`, `m` having 64 binary digits.
 #[derive(Clone, Copy, Debug, PartialEq, Eq)]
@@ -57,7 +57,7 @@ fn power_of_two(b: u32) -> u128
 /// One unit more than `m * 2^e`, which is `2^63` of twice the unit where `m` is the greatest.
 fn next(m: u64, e: i64) -> Scaled
     requires digits { 2 ^ 63 ≤ m }
-    requires near { IsNear (2 ^ 62 + 128) e }
+    requires near { IsNearZero (2 ^ 62 + 128) e }
     ensures scaled { IsScaled result }
     ensures same { (result.m * 2 ^ rise result.e) * 2 ^ fall e
         ≡ (suc m * 2 ^ rise e) * 2 ^ fall result.e }
@@ -104,7 +104,7 @@ impl Scaled {
     /// The product with a power of two. Nothing is rounded.
     pub fn times_power(self, k: u32) -> Scaled
         requires scaled { IsScaled self }
-        requires near { IsNear (2 ^ 61) self.e }
+        requires near { IsNearZero (2 ^ 61) self.e }
         requires few { k ≤ 64 }
         ensures scaled { IsScaled result }
         ensures exact { AreEqual (value result) (times (value self) (whole (2 ^ k))) }
@@ -121,8 +121,8 @@ impl Scaled {
     pub fn times_down(self, other: Scaled) -> Scaled
         requires scaled { IsScaled self }
         requires other_scaled { IsScaled other }
-        requires near { IsNear (2 ^ 61) self.e }
-        requires other_near { IsNear (2 ^ 61) other.e }
+        requires near { IsNearZero (2 ^ 61) self.e }
+        requires other_near { IsNearZero (2 ^ 61) other.e }
         ensures rounded { IsRoundedDown (times (value self) (value other)) result }
         ensures above { rise result.e ≤ rise self.e + rise other.e + 64 }
         ensures below { fall result.e ≤ fall self.e + fall other.e }
@@ -138,8 +138,8 @@ impl Scaled {
     pub fn times_up(self, other: Scaled) -> Scaled
         requires scaled { IsScaled self }
         requires other_scaled { IsScaled other }
-        requires near { IsNear (2 ^ 61) self.e }
-        requires other_near { IsNear (2 ^ 61) other.e }
+        requires near { IsNearZero (2 ^ 61) self.e }
+        requires other_near { IsNearZero (2 ^ 61) other.e }
         ensures rounded { IsRoundedUp (times (value self) (value other)) result }
         ensures above { rise result.e ≤ rise self.e + rise other.e + 65 }
         ensures below { fall result.e ≤ fall self.e + fall other.e }
@@ -156,7 +156,7 @@ impl Scaled {
     /// One part in a whole number of it, rounded down.
     pub fn over_down(self, number: u64) -> Scaled
         requires scaled { IsScaled self }
-        requires near { IsNear (2 ^ 61) self.e }
+        requires near { IsNearZero (2 ^ 61) self.e }
         requires some { 1 ≤ number }
         ensures rounded { IsRoundedDown (times (value self) (ratio 1 number)) result }
         ensures above { rise result.e ≤ rise self.e }
@@ -172,7 +172,7 @@ impl Scaled {
     /// One part in a whole number of it, rounded up.
     pub fn over_up(self, number: u64) -> Scaled
         requires scaled { IsScaled self }
-        requires near { IsNear (2 ^ 61) self.e }
+        requires near { IsNearZero (2 ^ 61) self.e }
         requires some { 1 ≤ number }
         ensures rounded { IsRoundedUp (times (value self) (ratio 1 number)) result }
         ensures above { rise result.e ≤ rise self.e + 1 }
@@ -194,8 +194,8 @@ impl Scaled {
 
 /// The sum of two exponents and a number of digits left out.
 fn sum(a: i64, b: i64, left_out: u32) -> i64
-    requires near { IsNear (2 ^ 61) a }
-    requires other_near { IsNear (2 ^ 61) b }
+    requires near { IsNearZero (2 ^ 61) a }
+    requires other_near { IsNearZero (2 ^ 61) b }
     requires few { left_out ≤ 64 }
     ensures exact { result ≡ (a +ℤ b) +ℤ pos left_out }
 {

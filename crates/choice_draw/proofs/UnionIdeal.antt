@@ -7,7 +7,7 @@ use Rattle.bz_model.specs.Fraction.{Fraction}
 use Rattle.bz_model.specs.Spec.{Spec, Node, node_at}
 use Rattle.bz_model.specs.Cell.{IsCell, IsInCell}
 use Rattle.bz_model.specs.Ideal.{IsIdealOption}
-use Rattle.bz_model.specs.Oracle.{IsSound}
+use Rattle.bz_model.specs.Oracle.{IsSoundTable}
 use Rattle.class_system.specs.Each.{Each}
 use Rattle.class_system.specs.Views.{number}
 use Rattle.class_system.specs.declared.ids.ExprId.{ExprId}
@@ -21,7 +21,7 @@ pub decision-by : (s : Spec) (table other : (level node : ℕ) → Bounds) (e : 
 decision-by s table other e parts cell choice same_table same_parts decided = sym (decided ∙ ap (λ t. union_choice t e parts cell) same_table ∙ ap (λ ps. union_choice table e ps cell) same_parts)
 
 -- an option taken at a union, over a sound table
-pub union-ideal : (s : Spec) (x : Fraction) (F e : ℕ) (parts : List ExprId) (table : (level node : ℕ) → Bounds) (cell : Cell) → IsUnion s e → map number parts ≡ union_parts (node_at s e) → 2 ≤ length (map number parts) → Each (λ p. p.0 < length s.nodes) parts → IsSound s x F table → IsCell cell.k cell.b → (r : Option ℕ) → taken r ≡ union_choice table e (map number parts) cell → IfSome r (λ i. (u : Fraction) → IsInCell cell.k cell.b u → IsIdealOption s x u e i)
+pub union-ideal : (s : Spec) (x : Fraction) (F e : ℕ) (parts : List ExprId) (table : (level node : ℕ) → Bounds) (cell : Cell) → IsUnion s e → map number parts ≡ union_parts (node_at s e) → 2 ≤ length (map number parts) → Each (λ p. p.0 < length s.nodes) parts → IsSoundTable s x F table → IsCell cell.k cell.b → (r : Option ℕ) → taken r ≡ union_choice table e (map number parts) cell → IfSome r (λ i. (u : Fraction) → IsInCell cell.k cell.b u → IsIdealOption s x u e i)
 union-ideal s x F e parts table cell union same two in_range sound is_cell None decided = tt
 union-ideal s x F e parts table cell union same two in_range sound is_cell (Some i) decided = λ u inside.
     let here : node_at s e ≡ Some (Node.Union (map number parts)) = union.here ∙ ap (λ ps. Some (Node.Union ps)) (sym (same ∙ ap union_parts union.here)) in

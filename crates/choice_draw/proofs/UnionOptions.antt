@@ -10,7 +10,7 @@ use Rattle.bz_model.specs.Spec.{Spec, Node, node_at}
 use Rattle.bz_model.specs.Object.{Belongs}
 use Rattle.bz_model.specs.Totals.{Above, Below, total_by}
 use Rattle.bz_model.specs.Ideal.{Upto, IsGreatestOption}
-use Rattle.bz_model.specs.Oracle.{IsSound, Encloses}
+use Rattle.bz_model.specs.Oracle.{IsSoundTable, Encloses}
 use Rattle.bz_laws.proofs.Fractions.{AtMost-trans}
 use Rattle.bz_laws.proofs.Samples.{AboveBy-weaker}
 use Rattle.bz_laws.proofs.Bounds.{above-min, below-lower, above-higher, units_sum, units_sum'}
@@ -36,7 +36,7 @@ first_parts P zero parts all = tt
 first_parts P (suc n) [] all = tt
 first_parts P (suc n) (p ∷ parts) all = (all.0, first_parts P n parts all.1)
 
-module _ (s : Spec) (x : Fraction) (F e : ℕ) (parts : List ℕ) (node : node_at s e ≡ Some (Node.Union parts)) (table : (level node : ℕ) → Bounds) (sound : IsSound s x F table) (in_range : e < length s.nodes) (parts_in_range : (i p : ℕ) → slice_get parts i ≡ Some p → p < length s.nodes) (some : 0 < length parts) (level : ℕ) (from_one : 1 ≤ level) (to_six : level ≤ 6) where
+module _ (s : Spec) (x : Fraction) (F e : ℕ) (parts : List ℕ) (node : node_at s e ≡ Some (Node.Union parts)) (table : (level node : ℕ) → Bounds) (sound : IsSoundTable s x F table) (in_range : e < length s.nodes) (parts_in_range : (i p : ℕ) → slice_get parts i ≡ Some p → p < length s.nodes) (some : 0 < length parts) (level : ℕ) (from_one : 1 ≤ level) (to_six : level ≤ 6) where
   enclosed : (i p : ℕ) → slice_get parts i ≡ Some p → Encloses s x F p (table level p)
   enclosed i p at = sound.enclosed level p from_one to_six (parts_in_range i p at)
 

@@ -14,7 +14,7 @@ use Rattle.command_words.specs.declared.names.OptionName.TheVariants as option
 use Rattle.command_words.specs.Words.{Given, Takes, given_by}
 use Rattle.command_words.specs.Values.{StandsFor, IsRefused, IsSet, IsBad, texts_of, order}
 use Rattle.command_words.specs.Values as bad
-use Rattle.command_words.specs.Commands.{IsTape, AreLimits, AreFractionBits, Makes, IsCommand, IsBadValue}
+use Rattle.command_words.specs.Commands.{IsTape, AreLimitsAsked, AreFractionBits, Makes, IsCommand, IsBadValue}
 use Rattle.command_words.specs.Commands as makes
 use Rattle.command_words.proofs.Formed.{same_form}
 use Rattle.command_words.proofs.Refused.{set-not_refused, order-injective}
@@ -45,16 +45,16 @@ fine name given x seed min max count turns fraction n rank value.Fraction = frac
 fine name given x seed min max count turns fraction n rank value.N = n
 fine name given x seed min max count turns fraction n rank value.Rank = rank
 
-min_fine : (name : CommandName) (given : Given) (l : Limits) → AreLimits name given l → ¬ (IsRefused name value.Min (given.values option.Min))
+min_fine : (name : CommandName) (given : Given) (l : Limits) → AreLimitsAsked name given l → ¬ (IsRefused name value.Min (given.values option.Min))
 min_fine name given l are = set-not_refused name value.Min 0 (given.values option.Min) l.min are.min
 
-max_fine : (name : CommandName) (given : Given) (l : Limits) → AreLimits name given l → ¬ (IsRefused name value.Max (given.values option.Max))
+max_fine : (name : CommandName) (given : Given) (l : Limits) → AreLimitsAsked name given l → ¬ (IsRefused name value.Max (given.values option.Max))
 max_fine name given l are = set-not_refused name value.Max 1000 (given.values option.Max) l.max are.max
 
-count_fine : (name : CommandName) (given : Given) (l : Limits) → AreLimits name given l → ¬ (IsRefused name value.Count (given.values option.Count))
+count_fine : (name : CommandName) (given : Given) (l : Limits) → AreLimitsAsked name given l → ¬ (IsRefused name value.Count (given.values option.Count))
 count_fine name given l are = set-not_refused name value.Count 1 (given.values option.Count) l.count are.count
 
-turns_fine : (name : CommandName) (given : Given) (l : Limits) → AreLimits name given l → ¬ (IsRefused name value.Turns (given.values option.Turns))
+turns_fine : (name : CommandName) (given : Given) (l : Limits) → AreLimitsAsked name given l → ¬ (IsRefused name value.Turns (given.values option.Turns))
 turns_fine name given l are = set-not_refused name value.Turns 1000000 (given.values option.Turns) l.turns are.turns
 
 bits_fine : (name : CommandName) (given : Given) (b : FractionBits) → AreFractionBits name given b → ¬ (IsRefused name value.Fraction (given.values option.Fraction))
@@ -92,7 +92,7 @@ made-fine given name c takes (makes.rank f o e) =
     fine Rank given (λ r. r) (not_given Rank value.Seed _ (takes.options option.Seed)) (not_given Rank value.Min _ (takes.options option.Min)) (not_given Rank value.Max _ (takes.options option.Max)) (not_given Rank value.Count _ (takes.options option.Count)) (not_given Rank value.Turns _ (takes.options option.Turns)) (not_given Rank value.Fraction _ (takes.options option.Fraction)) (λ r. r) (λ r. r)
 
 -- nor is its window empty
-limits-window : (name : CommandName) (given : Given) (l : Limits) (min max : ℕ) → AreLimits name given l → IsSet name value.Min 0 (given.values option.Min) min → IsSet name value.Max 1000 (given.values option.Max) max → min ≤ max
+limits-window : (name : CommandName) (given : Given) (l : Limits) (min max : ℕ) → AreLimitsAsked name given l → IsSet name value.Min 0 (given.values option.Min) min → IsSet name value.Max 1000 (given.values option.Max) max → min ≤ max
 limits-window name given l min max are low high =
     let least = same_set name value.Min 0 (given.values option.Min) l.min min are.min low in
     let greatest = same_set name value.Max 1000 (given.values option.Max) l.max max are.max high in

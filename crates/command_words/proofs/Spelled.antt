@@ -2,7 +2,7 @@
 use Rattle.std.proofs.Common.{◌≡◌, ◌≢◌, ℕ, suc, List, [], ◌∷◌, ◌++◌, All, get_or, ◌==◌, if◌then◌else◌, refl, sym, ◌∙◌, ap, subst, arith}
 use Rattle.command_words.specs.declared.names.OptionName.{OptionName}
 use Rattle.command_words.specs.declared.names.OptionName.TheVariants.{Tape, Seed, Min, Max, Count, Turns, Fraction}
-use Rattle.command_words.specs.Words.{Argument, option_word, fast_word, words_of, IsPlain, HasPlainText}
+use Rattle.command_words.specs.Words.{Argument, option_word, fast_word, words_of, IsPlainWord, HasPlainText}
 use Rattle.command_words.specs.Words as words
 
 -- The option whose word has this letter at its fifth place.
@@ -23,7 +23,7 @@ pub option_word-injective : (o p : OptionName) → option_word o ≡ option_word
 option_word-injective o p e = sym (option_named-word o) ∙ ap option_named e ∙ option_named-word p
 
 -- the word of an option begins with `-`
-pub option_word-not_plain : (o : OptionName) → ¬ (IsPlain (option_word o))
+pub option_word-not_plain : (o : OptionName) → ¬ (IsPlainWord (option_word o))
 option_word-not_plain Tape h = h.plain refl
 option_word-not_plain Seed h = h.plain refl
 option_word-not_plain Min h = h.plain refl
@@ -33,7 +33,7 @@ option_word-not_plain Turns h = h.plain refl
 option_word-not_plain Fraction h = h.plain refl
 
 -- so does `--fast`, which is the word of no option
-fast_word-not_plain : ¬ (IsPlain fast_word)
+fast_word-not_plain : ¬ (IsPlainWord fast_word)
 fast_word-not_plain h = h.plain refl
 
 fast_word-no_option : (o : OptionName) → option_word o ≢ fast_word
@@ -45,11 +45,11 @@ fast_word-no_option Count e = absurd (omega (arith, ap (λ w. get_or w 4 0) e))
 fast_word-no_option Turns e = absurd (omega (arith, ap (λ w. get_or w 4 0) e))
 fast_word-no_option Fraction e = absurd (omega (arith, ap (λ w. get_or w 4 0) e))
 
-not_fast : (w : List ℕ) → IsPlain w → w ≢ fast_word
-not_fast w h e = fast_word-not_plain (subst IsPlain e h)
+not_fast : (w : List ℕ) → IsPlainWord w → w ≢ fast_word
+not_fast w h e = fast_word-not_plain (subst IsPlainWord e h)
 
-not_option : (w : List ℕ) (o : OptionName) → IsPlain w → w ≢ option_word o
-not_option w o h e = option_word-not_plain o (subst IsPlain e h)
+not_option : (w : List ℕ) (o : OptionName) → IsPlainWord w → w ≢ option_word o
+not_option w o h e = option_word-not_plain o (subst IsPlainWord e h)
 
 -- Each argument is plain.
 abbrev pub ArePlain : List Argument → Type 0

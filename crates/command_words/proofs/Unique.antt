@@ -20,7 +20,7 @@ use Rattle.command_words.specs.declared.names.CommandName.TheVariants.{Oracle, S
 use Rattle.command_words.specs.declared.names.OptionName.TheVariants as option
 use Rattle.command_words.specs.Words.{Given, Takes, given_by}
 use Rattle.command_words.specs.Values.{StandsFor, IsSet}
-use Rattle.command_words.specs.Commands.{IsTape, AreLimits, AreFractionBits, IsFast, Makes, IsCommand}
+use Rattle.command_words.specs.Commands.{IsTape, AreLimitsAsked, AreFractionBits, IsFast, Makes, IsCommand}
 use Rattle.command_words.specs.Commands as makes
 use Rattle.command_words.proofs.Formed.{same_form}
 
@@ -50,7 +50,7 @@ same_x text x y h i =
     let form = one-form text h.form i.form in
     same_fraction x y (sym h.is_num ∙ ap number_value form.0 ∙ i.is_num) (sym h.is_den ∙ ap number_value form.1 ∙ i.is_den)
 
-same_limits : (name : CommandName) (given : Given) (l m : Limits) → AreLimits name given l → AreLimits name given m → l ≡ m
+same_limits : (name : CommandName) (given : Given) (l m : Limits) → AreLimitsAsked name given l → AreLimitsAsked name given m → l ≡ m
 same_limits name given l m h i =
     let min = same_set name value.Min 0 (given.values option.Min) l.min m.min h.min i.min in
     let max = same_set name value.Max 1000 (given.values option.Max) l.max m.max h.max i.max in

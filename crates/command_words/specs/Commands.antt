@@ -28,7 +28,7 @@ pub data IsTape (given : Given) : TapeWord → Type 0 where
 
 -- The limits of a drawing are the numbers that are given, or their defaults, and the window isn't
 -- empty.
-pub record AreLimits (asked : CommandName) (given : Given) (limits : Limits) : Type 0 where
+pub record AreLimitsAsked (asked : CommandName) (given : Given) (limits : Limits) : Type 0 where
   pub min : IsSet asked value.Min 0 (given.values option.Min) limits.min
   pub max : IsSet asked value.Max 1000 (given.values option.Max) limits.max
   pub count : IsSet asked value.Count 1 (given.values option.Count) limits.count
@@ -53,12 +53,12 @@ pub data Makes (given : Given) : CommandName → Command → Type 0 where
       → Makes given name.Oracle (command.Oracle file x bits)
   sample : (file text : List ℕ) (x : Fraction) (tape_word : TapeWord) (limits : Limits)
       (bits : FractionBits) (fast : Bool) → given.places ≡ file ∷ text ∷ [] → ReadsAs text (Ok x)
-      → IsTape given tape_word → AreLimits name.Sample given limits
+      → IsTape given tape_word → AreLimitsAsked name.Sample given limits
       → AreFractionBits name.Sample given bits → IsFast given fast
       → Makes given name.Sample (command.Sample file x tape_word limits bits fast)
   pool : (file text schedule : List ℕ) (tapes : List (List ℕ)) (x : Fraction) (limits : Limits)
       (bits : FractionBits) → given.places ≡ file ∷ text ∷ schedule ∷ tapes → ReadsAs text (Ok x)
-      → AreLimits name.Pool given limits → AreFractionBits name.Pool given bits
+      → AreLimitsAsked name.Pool given limits → AreFractionBits name.Pool given bits
       → Makes given name.Pool (command.Pool file x schedule tapes limits bits)
   verify : (file cert : List ℕ) → given.places ≡ file ∷ cert ∷ []
       → Makes given name.Verify (command.Verify file cert)

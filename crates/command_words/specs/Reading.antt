@@ -18,7 +18,7 @@ use Rattle.command_words.specs.Words.{Argument, Given, given_by, words_of, place
 use Rattle.command_words.specs.Words.{times_fast, fewest_places, most_places, most_values}
 use Rattle.command_words.specs.Words.{most_fast, HasPlainText, HasForm}
 use Rattle.command_words.specs.Values.{IsSet, IsBad, x_among, n_among, rank_among}
-use Rattle.command_words.specs.Commands.{AreLimits, AreFractionBits}
+use Rattle.command_words.specs.Commands.{AreLimitsAsked, AreFractionBits}
 
 -- What is given with one argument more: its positional word behind the others, its value behind
 -- those of its option, or `--fast` once more.
@@ -108,7 +108,7 @@ IsX _ _ = ⊥
 pub record AreValues (name : CommandName) (given : Given) (values : Values) : Type 0 where
   pub x : IsX (x_among name given.places) values.x
   pub seed : IsSet name value.Seed 0 (given.values option.Seed) values.seed
-  pub limits : AreLimits name given values.limits
+  pub limits : AreLimitsAsked name given values.limits
   pub fraction : AreFractionBits name given values.fraction
   pub n : IsSet name value.N 0 (n_among name given.places) values.n
   pub rank : IsSet name value.Rank 0 (rank_among name given.places) values.rank

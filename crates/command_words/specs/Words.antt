@@ -147,14 +147,14 @@ pub record Takes (name : CommandName) (given : Given) : Type 0 where
       → length (given.values option.Tape) + length (given.values option.Seed) ≡ 1
 
 -- A positional word or a value isn't empty and doesn't begin with `-`.
-pub record IsPlain (word : List ℕ) : Type 0 where
+pub record IsPlainWord (word : List ℕ) : Type 0 where
   pub some : 0 < length word
   pub plain : slice_index word 0 ≢ 45
 
 -- The positional word or the value of an argument is plain, where it has one.
 abbrev pub HasPlainText : Argument → Type 0
-HasPlainText (Argument.Positional word) = IsPlain word
-HasPlainText (Argument.Setting option value) = IsPlain value
+HasPlainText (Argument.Positional word) = IsPlainWord word
+HasPlainText (Argument.Setting option value) = IsPlainWord value
 HasPlainText Argument.Fast = ⊤
 
 -- Each byte of a word is from 20 to 7E, hexadecimal.

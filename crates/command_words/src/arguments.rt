@@ -1,6 +1,7 @@
 //! Arguments read from the words behind a command's name.
 ghost use Rattle.std.specs.Prelude.{◌≡◌, ◌<◌, ◌↔◌, ◌∷◌, length, IsTrue, OnOk, IfOk, IfErr};
-ghost use Rattle.command_words.specs.Words.{Argument, IsPlain, option_word, fast_word, most_values};
+ghost use Rattle.command_words.specs.Words.{Argument, IsPlainWord, option_word, fast_word};
+ghost use Rattle.command_words.specs.Words.{most_values};
 ghost use Rattle.command_words.specs.Words.{most_fast};
 ghost use Rattle.command_words.specs.Reading.{Adds, ReadsArgument, BeginsWithNone, GivesArguments};
 ghost use Rattle.command_words.specs.Reading.{AreNoArguments, IfNoCommand};
@@ -75,10 +76,10 @@ fn read_fast(name: CommandName, given: &mut Given<'_>) -> Result<(), WordsFault>
 
 /// Reads a positional word.
 fn read_place(alloc: Global, given: &mut Given<'_>, word: &Word) -> Result<(), WordsFault>
-    ensures plain { OnOk result (IsPlain word.now) }
+    ensures plain { OnOk result (IsPlainWord word.now) }
     ensures added { OnOk result
         (Adds (given_of given.old) (given_of given.new) (Argument.Positional word.now)) }
-    ensures err { IfErr result (λ fault. IfNoCommand fault (¬ (IsPlain word.now))) }
+    ensures err { IfErr result (λ fault. IfNoCommand fault (¬ (IsPlainWord word.now))) }
 {
     if !is_plain(word.bytes()) {
         return Err(WordsFault::NotACommand);
@@ -125,7 +126,7 @@ fn takes_more(name: CommandName, option: OptionName, given: &Given<'_>) -> bool
 
 /// Whether a word can be a positional word or a value: it isn't empty and doesn't begin with `-`.
 fn is_plain(word: &[u8]) -> bool
-    ensures { IsTrue result ↔ IsPlain word.now }
+    ensures { IsTrue result ↔ IsPlainWord word.now }
 {
     match word {
         [] => false,

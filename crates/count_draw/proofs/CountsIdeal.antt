@@ -7,7 +7,7 @@ use Rattle.bz_model.specs.declared.cell.Bounds.{Bounds}
 use Rattle.bz_model.specs.Fraction.{Fraction}
 use Rattle.bz_model.specs.Spec.{Spec, Range, range_at, IsInRange}
 use Rattle.bz_model.specs.Cell.{IsCell}
-use Rattle.bz_model.specs.Oracle.{IsSound}
+use Rattle.bz_model.specs.Oracle.{IsSoundTable}
 use Rattle.series_bounds.specs.Series.{Kind}
 use Rattle.choice_draw.specs.Decision.{Choice, level_of}
 use Rattle.choice_draw.specs.IdealOfCell.{IsIdealOfCell, IsOverOfCell}
@@ -30,7 +30,7 @@ room_is (Some h) room r e = elim (cases_Bool (nat_lt room h)) [
   | inr not_less ↦ let here : None ≡ Some r = sym (ap (λ b. cond b (Some room) None) not_less) ∙ e in let never : ⊥ = cc in absurd never
 ]
 
-module _ (s : Spec) (x : Fraction) (F e part : ℕ) (kind : Kind) (r : Range) (table : (level node : ℕ) → Bounds) (at : IsCountedAs s e part kind r) (sound : IsSound s x F table) (part_in : part < length s.nodes) (room : ℕ) (cell : Cell) (is_cell : IsCell cell.k cell.b) where
+module _ (s : Spec) (x : Fraction) (F e part : ℕ) (kind : Kind) (r : Range) (table : (level node : ℕ) → Bounds) (at : IsCountedAs s e part kind r) (sound : IsSoundTable s x F table) (part_in : part < length s.nodes) (room : ℕ) (cell : Cell) (is_cell : IsCell cell.k cell.b) where
   are_sound : AreSound s x F e (counted_options kind F r (table (level_of cell) part) (table (level_of cell) e) room)
   are_sound =
       let some = is_cell.some_bits in

@@ -5,7 +5,7 @@ use Rattle.bz_model.specs.Fraction.{Fraction, AtMost, plus, units}
 use Rattle.bz_model.specs.Spec.{Spec, Node, Range, range_at, IsWithinHigh}
 use Rattle.bz_model.specs.Totals.{Above, Below}
 use Rattle.bz_model.specs.Ideal.{Upto, IsGreatestOption}
-use Rattle.bz_model.specs.Oracle.{IsSound, Encloses}
+use Rattle.bz_model.specs.Oracle.{IsSoundTable, Encloses}
 use Rattle.bz_laws.specs.Terms as laws
 use Rattle.bz_laws.specs.Terms.{term}
 use Rattle.bz_laws.proofs.Samples.{AboveBy-weaker}
@@ -56,7 +56,7 @@ module _ (s : Spec) (x : Fraction) (F e part : ℕ) (kind : Kind) (r : Range) (a
           (above-upto s x (units F part_bounds.hi) e part (counted_node kind part) (form_of kind) at.node (is_counted kind part) r.low r.high at.range i part_encloses.above)
 
 -- the options of a counted node, from a sound table
-pub counts-sound : (s : Spec) (x : Fraction) (F e part : ℕ) (kind : Kind) (r : Range) (table : (level node : ℕ) → Bounds) → IsCountedAs s e part kind r → IsSound s x F table → part < length s.nodes → (level : ℕ) → 1 ≤ level → level ≤ 6 → (room : ℕ) → AreSound s x F e (counted_options kind F r (table level part) (table level e) room)
+pub counts-sound : (s : Spec) (x : Fraction) (F e part : ℕ) (kind : Kind) (r : Range) (table : (level node : ℕ) → Bounds) → IsCountedAs s e part kind r → IsSoundTable s x F table → part < length s.nodes → (level : ℕ) → 1 ≤ level → level ≤ 6 → (room : ℕ) → AreSound s x F e (counted_options kind F r (table level part) (table level e) room)
 counts-sound s x F e part kind r table at sound part_in level from_one to_six room =
     let inside : e < length s.nodes = node_inside s e part kind at.node in
     let object = sound.inhabited e inside in

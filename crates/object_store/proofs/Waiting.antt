@@ -12,11 +12,11 @@ use Rattle.object_store.specs.declared.visit.Visit.{Visit}
 use Rattle.object_store.specs.declared.visit.Visit.TheVariants as visit
 use Rattle.object_store.specs.Tokens.{tokens_of, tokens_all, BelongEach, AreOf}
 use Rattle.object_store.specs.Seen.{Seen, IsLeafAt, IsUnionAt, IsListAt, IsNoPick, IsNoCount, nodes_below, tokens_after, parts_at}
-use Rattle.object_store.specs.Waiting.{Waits, Shows, ShowsTuple, ShowsLeaf, ShowsPick, ShowsList}
+use Rattle.object_store.specs.Waiting.{AreWaiting, Shows, ShowsTuple, ShowsLeaf, ShowsPick, ShowsList}
 use Rattle.object_store.proofs.NextToken.{tokens_all-joined, each-joined, tuple-of, list-of, all-each-of, form-tokens}
 
 -- The objects that wait are what the tokens are asked for.
-pub asked : (s : Spec) (es : List ℕ) (os : Objects) (ts : List Token) → Waits s es os ts → AreOf s es ts
+pub asked : (s : Spec) (es : List ℕ) (os : Objects) (ts : List Token) → AreWaiting s es os ts → AreOf s es ts
 asked s es os ts w = record { objects = os; belong = w.belong; spelled = w.spelled }
 
 -- The first object that waits, and the others.
@@ -28,12 +28,12 @@ pub record FirstWaits (s : Spec) (e : ℕ) (es : List ℕ) (os : Objects) (ts : 
   pub belong : BelongEach s es others
   pub spelled : tokens_of object ++ tokens_all others ≡ ts
 
-pub first-waits : (s : Spec) (e : ℕ) (es : List ℕ) (os : Objects) (ts : List Token) → Waits s (e ∷ es) os ts → FirstWaits s e es os ts
+pub first-waits : (s : Spec) (e : ℕ) (es : List ℕ) (os : Objects) (ts : List Token) → AreWaiting s (e ∷ es) os ts → FirstWaits s e es os ts
 first-waits s e es none ts w = elim w.belong [ ]
 first-waits s e es (more o ps) ts w = record { object = o; others = ps; whole = refl; belongs = w.belong.0; belong = w.belong.1; spelled = w.spelled }
 
 -- Where nothing waits no token is left.
-pub nothing-waits : (s : Spec) (os : Objects) (ts : List Token) → Waits s [] os ts → (os ≡ none) × (ts ≡ [])
+pub nothing-waits : (s : Spec) (os : Objects) (ts : List Token) → AreWaiting s [] os ts → (os ≡ none) × (ts ≡ [])
 nothing-waits s none ts w = (refl, sym w.spelled)
 nothing-waits s (more o os) ts w = elim w.belong [ ]
 
@@ -57,7 +57,7 @@ module _ (s : Spec) (e : ℕ) where
   only-dot word _ h = elim h [ ]
 
 module _ (s : Spec) (e : ℕ) (es : List ℕ) (os : Objects) (ts : List Token) where
-  tuple-waits : (parts : List ℕ) → node_at s e ≡ Some (Node.Product parts) → Waits s (e ∷ es) os ts → ShowsTuple s e es os ts (parts ++ es) ts
+  tuple-waits : (parts : List ℕ) → node_at s e ≡ Some (Node.Product parts) → AreWaiting s (e ∷ es) os ts → ShowsTuple s e es os ts (parts ++ es) ts
   tuple-waits parts at w =
       let f = first-waits s e es os ts w in
       let t = tuple-of s e parts at f.object f.belongs in
@@ -76,7 +76,7 @@ module _ (s : Spec) (e : ℕ) (es : List ℕ) (os : Objects) (ts : List Token) w
         };
       }
 
-  leaf-waits : (node : List ℕ → Node) (leaf : Object) (t : Token) (k : IsLeafAt node t s e ts) → (tokens_of leaf ≡ t ∷ []) → ((o : Object) → Has s (ClassBelongs s) (Some (node k.word)) (range_at s e) o → o ≡ leaf) → Waits s (e ∷ es) os ts → ShowsLeaf node leaf t s e es os ts es (drop 1 ts)
+  leaf-waits : (node : List ℕ → Node) (leaf : Object) (t : Token) (k : IsLeafAt node t s e ts) → (tokens_of leaf ≡ t ∷ []) → ((o : Object) → Has s (ClassBelongs s) (Some (node k.word)) (range_at s e) o → o ≡ leaf) → AreWaiting s (e ∷ es) os ts → ShowsLeaf node leaf t s e es os ts es (drop 1 ts)
   leaf-waits node leaf t k one only w =
       let f = first-waits s e es os ts w in
       let is = only f.object (known s (ClassBelongs s) e k.is_node f.object (belongs-has s e f.object f.belongs)) in
@@ -92,7 +92,7 @@ module _ (s : Spec) (e : ℕ) (es : List ℕ) (os : Objects) (ts : List Token) w
         waits = record { belong = f.belong; spelled = sym rest };
       }
 
-  pick-waits : (option part : ℕ) → IsUnionAt s e ts option part → Waits s (e ∷ es) os ts → ShowsPick s e es os ts option part (part ∷ es) (drop 1 ts)
+  pick-waits : (option part : ℕ) → IsUnionAt s e ts option part → AreWaiting s (e ∷ es) os ts → ShowsPick s e es os ts option part (part ∷ es) (drop 1 ts)
   pick-waits option part k w =
       let f = first-waits s e es os ts w in
       go f.object f.others f.whole (known s (ClassBelongs s) e k.is_node f.object (belongs-has s e f.object f.belongs)) f.belong f.spelled
@@ -119,7 +119,7 @@ module _ (s : Spec) (e : ℕ) (es : List ℕ) (os : Objects) (ts : List Token) w
           pick i o ps whole (same-pick i option same.0) h b (ap (drop 1) spelled)
       go _ ps whole h b spelled = elim h [ ]
 
-  list-waits : (node : ℕ → Node) (form : Objects → Object) (parts part : ℕ) → IsListAt node s e ts parts part → IsCounted (node part) part form → Waits s (e ∷ es) os ts → ShowsList node form s e es os ts parts part (replicate parts part ++ es) (drop 1 ts)
+  list-waits : (node : ℕ → Node) (form : Objects → Object) (parts part : ℕ) → IsListAt node s e ts parts part → IsCounted (node part) part form → AreWaiting s (e ∷ es) os ts → ShowsList node form s e es os ts parts part (replicate parts part ++ es) (drop 1 ts)
   list-waits node form parts part k c w =
       let f = first-waits s e es os ts w in
       let l = list-of s (node part) part form (range_at s e) f.object c (known s (ClassBelongs s) e k.is_node f.object (belongs-has s e f.object f.belongs)) in
@@ -144,7 +144,7 @@ module _ (s : Spec) (e : ℕ) (es : List ℕ) (os : Objects) (ts : List Token) w
       }
 
   -- What is seen at a node's first token is what the first object that waits is.
-  pub shown : (v : Visit) → Seen s e ts v → Waits s (e ∷ es) os ts → Shows s e es os ts v (nodes_below s e v ++ es) (tokens_after v ts)
+  pub shown : (v : Visit) → Seen s e ts v → AreWaiting s (e ∷ es) os ts → Shows s e es os ts v (nodes_below s e v ++ es) (tokens_after v ts)
   shown (visit.Class body) k w =
       let f = first-waits s e es os ts w in
       record {
@@ -153,7 +153,7 @@ module _ (s : Spec) (e : ℕ) (es : List ℕ) (os : Objects) (ts : List Token) w
         is_body = k.is_body;
         put = refl;
         no_token = refl;
-        waits = subst (λ ps. Waits s (body.0 ∷ es) ps ts) (sym f.whole) (record { belong = (class-from s e k.class body.0 k.is_node k.is_body f.object f.belongs, f.belong); spelled = f.spelled });
+        waits = subst (λ ps. AreWaiting s (body.0 ∷ es) ps ts) (sym f.whole) (record { belong = (class-from s e k.class body.0 k.is_node k.is_body f.object f.belongs, f.belong); spelled = f.spelled });
       }
   shown visit.Product k w = subst (λ ps. ShowsTuple s e es os ts (ps ++ es) ts) (sym (ap parts_at k.is_node)) (tuple-waits k.parts k.is_node w)
   shown visit.Empty k w = leaf-waits Node.Empty Unit_ token.Unit k refl (only-unit s e k.word) w

@@ -9,8 +9,8 @@ use Rattle.object_store.specs.Tokens.{AreOf}
 use Rattle.object_store.specs.Walk.{AllBelow}
 use Rattle.object_store.specs.Descent.{Descent}
 use Rattle.object_store.specs.Seen.{Seen, IsWayDown, nodes_below, tokens_after}
-use Rattle.object_store.specs.Waiting.{Waits, Shows}
-use Rattle.object_store.specs.Walking.{IsOnItsWay, IsVisit}
+use Rattle.object_store.specs.Waiting.{AreWaiting, Shows}
+use Rattle.object_store.specs.Walking.{IsOnItsWay, IsVisitOfWalk}
 use Rattle.object_store.proofs.Waiting.{shown}
 use Rattle.object_store.proofs.Steps.{same-asked, seen-below, expands-seen, token-seen}
 use Rattle.object_store.proofs.Descent.{descent-start, descent-expand, too_long}
@@ -56,13 +56,13 @@ module _ (s : Spec) (sound : IsSound s) (e : ℕ) (es ws : List ℕ) (ts : List 
       descent = subst (λ gs. Descent s on_way.start gs later) (sym put) (descent-expand s sound on_way.start e later es (nodes_below s e v ++ es) (expands-seen s e es ts v down seen) (subst (λ n. Descent s on_way.start (e ∷ es) n) one_less descent));
     }
 
-    visit-made : (us : List Token) (z : ℕ) → us ≡ tokens_after v ts → length us * suc (length s.nodes) + z < length ts * suc (length s.nodes) + way → IsVisit (record { system = s; waiting = ws; left = ts; way = way }) (record { system = s; waiting = fs; left = us; way = z }) e v
+    visit-made : (us : List Token) (z : ℕ) → us ≡ tokens_after v ts → length us * suc (length s.nodes) + z < length ts * suc (length s.nodes) + way → IsVisitOfWalk (record { system = s; waiting = ws; left = ts; way = way }) (record { system = s; waiting = fs; left = us; way = z }) e v
     visit-made us z after fewer = record {
       others = es;
       first = first;
       in_range = node-within;
       system = refl;
-      shows = λ os w. subst₂ (λ gs vs. Shows s e es os ts v gs vs) (sym put) (sym after) (shown s e es os ts v seen (subst (λ gs. Waits s gs os ts) first w));
+      shows = λ os w. subst₂ (λ gs vs. Shows s e es os ts v gs vs) (sym put) (sym after) (shown s e es os ts v seen (subst (λ gs. AreWaiting s gs os ts) first w));
       same = (
         λ a. subst₂ (AreOf s) (sym put) (sym after) ((same-asked s e es ts v seen).0 (subst (λ gs. AreOf s gs ts) first a)),
         λ a. subst (λ gs. AreOf s gs ts) (sym first) ((same-asked s e es ts v seen).1 (subst₂ (AreOf s) put after a)),
@@ -75,12 +75,12 @@ module _ (s : Spec) (sound : IsSound s) (e : ℕ) (es ws : List ℕ) (ts : List 
     fewer-tokens l (suc m) n y h k = let same : l ≡ m = omega arith in rw same (omega arith)
 
     -- A visit with a token.
-    pub visit-with-token : ¬ (IsWayDown v) → (us : List Token) (n : ℕ) → us ≡ drop 1 ts → n ≡ length s.nodes → IsVisit (record { system = s; waiting = ws; left = ts; way = way }) (record { system = s; waiting = fs; left = us; way = n }) e v
+    pub visit-with-token : ¬ (IsWayDown v) → (us : List Token) (n : ℕ) → us ≡ drop 1 ts → n ≡ length s.nodes → IsVisitOfWalk (record { system = s; waiting = ws; left = ts; way = way }) (record { system = s; waiting = fs; left = us; way = n }) e v
     visit-with-token no_way us n rest all =
         let t = token-seen s e es ts v no_way seen in
         let less : length us ≡ length ts - 1 = ap length rest ∙ length-drop 1 ts in
         visit-made us n (rest ∙ sym t.0) (subst (λ m. length us * suc (length s.nodes) + m < length ts * suc (length s.nodes) + way) (sym all) (fewer-tokens (length us) (length ts) (length s.nodes) way less t.1))
 
     -- A visit without a token.
-    pub visit-down : tokens_after v ts ≡ ts → (later : ℕ) → way ≡ suc later → IsVisit (record { system = s; waiting = ws; left = ts; way = way }) (record { system = s; waiting = fs; left = ts; way = later }) e v
+    pub visit-down : tokens_after v ts ≡ ts → (later : ℕ) → way ≡ suc later → IsVisitOfWalk (record { system = s; waiting = ws; left = ts; way = way }) (record { system = s; waiting = fs; left = ts; way = later }) e v
     visit-down no_token later one_less = visit-made ts later (sym no_token) (omega arith)

@@ -9,19 +9,19 @@ use Rattle.object_store.specs.Tokens.{AreOf}
 use Rattle.object_store.specs.Walk.{AllBelow}
 
 -- One step down: from a class to its body, from a product to its first part.
-pub data StepsTo (s : Spec) (e f : ℕ) : Type 0 where
-  to_body : (c : ℕ) → node_at s e ≡ Some (Node.Class c) → body_of s c ≡ Some f → StepsTo s e f
-  to_part : (parts : List ℕ) → node_at s e ≡ Some (Node.Product (f ∷ parts)) → StepsTo s e f
+pub data StepsDownTo (s : Spec) (e f : ℕ) : Type 0 where
+  to_body : (c : ℕ) → node_at s e ≡ Some (Node.Class c) → body_of s c ≡ Some f → StepsDownTo s e f
+  to_part : (parts : List ℕ) → node_at s e ≡ Some (Node.Product (f ∷ parts)) → StepsDownTo s e f
 
 -- One step down or more.
-pub data Leads (s : Spec) (e : ℕ) : ℕ → Type 0 where
-  one : {f : ℕ} → StepsTo s e f → Leads s e f
-  further : {f g : ℕ} → Leads s e f → StepsTo s f g → Leads s e g
+pub data LeadsDownTo (s : Spec) (e : ℕ) : ℕ → Type 0 where
+  one : {f : ℕ} → StepsDownTo s e f → LeadsDownTo s e f
+  further : {f g : ℕ} → LeadsDownTo s e f → StepsDownTo s f g → LeadsDownTo s e g
 
 -- Each of these nodes leads to the first pending one, if there is one.
 abbrev pub LeadTo : Spec → List ℕ → List ℕ → Type 0
 LeadTo s passed [] = Unit {0}
-LeadTo s passed (e ∷ es) = AllByRecursion (λ p. Leads s p e) passed
+LeadTo s passed (e ∷ es) = AllByRecursion (λ p. LeadsDownTo s p e) passed
 
 -- What holds on a way down: the same tokens are asked for, and no node was passed twice, if there
 -- is an object.

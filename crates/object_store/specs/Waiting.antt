@@ -16,7 +16,7 @@ joined none ps = ps
 joined (more o os) ps = more o (joined os ps)
 
 -- One object of each of these nodes waits, and the tokens are theirs, one object after the other.
-pub record Waits (s : Spec) (es : List ℕ) (os : Objects) (tokens : List Token) : Type 0 where
+pub record AreWaiting (s : Spec) (es : List ℕ) (os : Objects) (tokens : List Token) : Type 0 where
   pub belong : BelongEach s es os
   pub spelled : tokens_all os ≡ tokens
 
@@ -28,7 +28,7 @@ pub record ShowsClass (s : Spec) (e : ℕ) (es : List ℕ) (os : Objects) (ts : 
   pub is_body : body_of s class ≡ Some body
   pub put : fs ≡ body ∷ es
   pub no_token : us ≡ ts
-  pub waits : Waits s fs os us
+  pub waits : AreWaiting s fs os us
 
 -- The first object is a tuple of one object of each part, and the parts wait in the product's
 -- place.
@@ -42,7 +42,7 @@ pub record ShowsTuple (s : Spec) (e : ℕ) (es : List ℕ) (os : Objects) (ts : 
   pub belong : BelongEach s parts members
   pub put : fs ≡ parts ++ es
   pub no_token : us ≡ ts
-  pub waits : Waits s fs (joined members others) us
+  pub waits : AreWaiting s fs (joined members others) us
 
 -- The first object is a leaf, of this kind of node and with this token.
 pub record ShowsLeaf (node : List ℕ → Node) (leaf : Object) (t : Token) (s : Spec) (e : ℕ)
@@ -53,7 +53,7 @@ pub record ShowsLeaf (node : List ℕ → Node) (leaf : Object) (t : Token) (s :
   pub is_leaf : os ≡ more leaf others
   pub put : fs ≡ es
   pub is_token : ts ≡ t ∷ us
-  pub waits : Waits s fs others us
+  pub waits : AreWaiting s fs others us
 
 -- The first object is the pick of this part, which waits in the union's place.
 pub record ShowsPick (s : Spec) (e : ℕ) (es : List ℕ) (os : Objects) (ts : List Token)
@@ -66,7 +66,7 @@ pub record ShowsPick (s : Spec) (e : ℕ) (es : List ℕ) (os : Objects) (ts : L
   pub is_pick : os ≡ more (Pick option object) others
   pub put : fs ≡ part ∷ es
   pub is_token : ts ≡ token.Pick option ∷ us
-  pub waits : Waits s fs (more object others) us
+  pub waits : AreWaiting s fs (more object others) us
 
 -- The first object is a list of so many objects of the part, in this form, and the part waits so
 -- many times in the node's place.
@@ -81,7 +81,7 @@ pub record ShowsList (node : ℕ → Node) (form : Objects → Object) (s : Spec
   pub belong : BelongEach s (replicate parts part) members
   pub put : fs ≡ replicate parts part ++ es
   pub is_token : ts ≡ token.Count parts ∷ us
-  pub waits : Waits s fs (joined members others) us
+  pub waits : AreWaiting s fs (joined members others) us
 
 -- What a visit of node e shows, where it was the first node that waited, before the nodes es, with
 -- objects os and tokens ts: the nodes fs wait afterwards, and the tokens us are left.

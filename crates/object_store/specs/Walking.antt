@@ -7,7 +7,7 @@ use Rattle.object_store.specs.declared.visit.Visit.{Visit}
 use Rattle.object_store.specs.declared.walk.Next.{Next}
 use Rattle.object_store.specs.declared.walk.Next.TheVariants as next
 use Rattle.object_store.specs.Tokens.{AreOf}
-use Rattle.object_store.specs.Waiting.{Waits, Shows}
+use Rattle.object_store.specs.Waiting.{AreWaiting, Shows}
 use Rattle.object_store.specs.Descent.{Descent}
 
 -- A walk over tokens by a specification: the nodes that wait, the next one first, the tokens that
@@ -31,12 +31,12 @@ pub record IsOnItsWay (s : Spec) (waiting : List ℕ) (way : ℕ) : Type 0 where
 -- Node e was the first that waited. Whatever objects waited, the visit shows what the first of them
 -- is and what waits now; the tokens before are those of objects exactly where those now are; and
 -- fewer visits are left.
-pub record IsVisit (before now : Walking) (e : ℕ) (v : Visit) : Type 0 where
+pub record IsVisitOfWalk (before now : Walking) (e : ℕ) (v : Visit) : Type 0 where
   pub others : List ℕ
   pub first : before.waiting ≡ e ∷ others
   pub in_range : e < length before.system.nodes
   pub system : now.system ≡ before.system
-  pub shows : (os : Objects) → Waits before.system before.waiting os before.left
+  pub shows : (os : Objects) → AreWaiting before.system before.waiting os before.left
       → Shows before.system e others os before.left v now.waiting now.left
   pub same : AreOf before.system before.waiting before.left
       ↔ AreOf before.system now.waiting now.left
@@ -49,12 +49,12 @@ pub record IsEnd (before now : Walking) : Type 0 where
   pub stays : now ≡ before
 
 -- No objects of the nodes that wait have the tokens that are left.
-pub record HasNoObject (before now : Walking) : Type 0 where
+pub record HasNoObjects (before now : Walking) : Type 0 where
   pub never : ¬ (AreOf before.system before.waiting before.left)
   pub stays : now ≡ before
 
 -- What a step of the walk comes to.
 abbrev pub IsNext : (before now : Walking) → Next → Type 0
-IsNext before now (next.Node e v) = IsVisit before now e.0 v
+IsNext before now (next.Node e v) = IsVisitOfWalk before now e.0 v
 IsNext before now next.End = IsEnd before now
-IsNext before now next.NoObject = HasNoObject before now
+IsNext before now next.NoObject = HasNoObjects before now

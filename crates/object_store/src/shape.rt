@@ -3,7 +3,7 @@ ghost use Rattle.std.specs.Prelude.{◌≡◌, ◌+◌, ◌<◌, ◌≤◌, [], 
 ghost use Rattle.std.specs.Prelude.{IfOk, OnOk, OnErr};
 ghost use Rattle.bz_model.specs.Object.{none, more};
 ghost use Rattle.object_store.specs.Tokens.{size_of, IsOf, AreOf};
-ghost use Rattle.object_store.specs.Waiting.{Waits};
+ghost use Rattle.object_store.specs.Waiting.{AreWaiting};
 
 use crate::token::Token;
 use crate::walk::{Next, Walk};
@@ -101,7 +101,7 @@ impl Shape {
             ↔ IsOf system.now c.0 self.now.items) }
         ensures waits { IfOk result (λ w. (of : IsOf system.now c.0 self.now.items)
             → (w.waiting ≡ of.body ∷ [])
-            × Waits system.now w.waiting (more of.object none) w.left) }
+            × AreWaiting system.now w.waiting (more of.object none) w.left) }
     {
         system.known();
         Walk::new(

@@ -7,7 +7,7 @@ ghost use Rattle.std.specs.Prelude.{◌≡◌, ℕ, ◌<◌, ◌∷◌, ◌++◌
 ghost use Rattle.bz_model.specs.Object.{Object, none, more, Belongs};
 ghost use Rattle.object_store.specs.Tokens.{tokens_of};
 ghost use Rattle.object_store.specs.Seen.{nodes_below};
-ghost use Rattle.object_store.specs.Waiting.{Waits};
+ghost use Rattle.object_store.specs.Waiting.{AreWaiting};
 ghost use Rattle.object_store.specs.Walking.{IsNext};
 
 use crate::pending::Pending;
@@ -67,7 +67,7 @@ impl<'a> Walk<'a> {
         ensures waiting { IfOk result (λ w. w.waiting ≡ e.0 ∷ []) }
         ensures left { IfOk result (λ w. w.left ≡ tokens.now) }
         ensures waits { IfOk result (λ w. (o : Object) → Belongs system.now e.0 o
-            → tokens_of o ≡ tokens.now → Waits w.system w.waiting (more o none) w.left) }
+            → tokens_of o ≡ tokens.now → AreWaiting w.system w.waiting (more o none) w.left) }
     {
         let mut pending = Pending::new(alloc);
         pending.push(e, 1)?;

@@ -3,7 +3,7 @@ use Rattle.std.proofs.Common.{◌≡◌, ◌≢◌, ℕ, zero, suc, ◌+◌, ◌
 use Rattle.std.proofs.lemmas.List.{take-append-drop}
 use Rattle.bz_model.specs.Spec.{Spec, Mode, body_of}
 use Rattle.bz_model.specs.Object.{Object, Belongs}
-use Rattle.bz_model.specs.ObjectText.{Arrangement, IsTextOf, IsCanonicalText, HasLabels, object_text}
+use Rattle.bz_model.specs.ObjectText.{Arrangement, IsObjectText, IsCanonicalText, HasLabels, object_text}
 use Rattle.bz_laws.proofs.Readings.{one_reading}
 use Rattle.bz_laws.proofs.Texts.{one_text}
 use Rattle.class_system.specs.Sound.{IsSound}
@@ -15,7 +15,7 @@ use Rattle.object_store.proofs.Sizes.{size_of-tokens}
 use Rattle.object_text.specs.declared.fault.TextFault.{TextFault}
 use Rattle.object_text.specs.declared.fault.TextFault.TheVariants as fault
 use Rattle.object_text.specs.Labels.{HasOneForEach}
-use Rattle.object_text.specs.Reading.{IsForm, Begins, IsWrongAt, told, IsRead, TellsFaultAt, TellsFault}
+use Rattle.object_text.specs.Reading.{IsForm, BeginsSomeText, IsWrongAt, told, IsRead, TellsFaultAt, TellsFault}
 use Rattle.object_text.specs.BothWays.{listed, IsReprinted}
 use Rattle.object_text.proofs.FirstBytes.{is-plain}
 
@@ -27,7 +27,7 @@ one-body s c a b x y = cc
 form-not-wrong : (s : Spec) (e : ℕ) (text : List ℕ) (place : ℕ) → IsForm s e text → ¬ (IsWrongAt s e text place)
 form-not-wrong s e text place f w = go (length text) place w.within w.byte w.missing
   where
-    go : (n place : ℕ) → place ≤ length text → (place < length text → ¬ (Begins s e (take (place + 1) text))) → (place ≡ length text → ¬ (IsForm s e text)) → ⊥
+    go : (n place : ℕ) → place ≤ length text → (place < length text → ¬ (BeginsSomeText s e (take (place + 1) text))) → (place ≡ length text → ¬ (IsForm s e text)) → ⊥
     go n place within byte missing = elim (less place (length text) within) [
       | inl lt ↦ byte lt (record { more = drop (place + 1) text; form = subst (IsForm s e) (sym (take-append-drop (place + 1) text)) f })
       | inr eq ↦ missing eq f
@@ -72,7 +72,7 @@ module _ (s : Spec) (sound : IsSound s) (limits : IsWithinLimits s) (c : ℕ) (t
   pub one-object-read : (tokens others : List Token) (labels told_too : Option (List ℕ)) → IsRead s c text tokens labels → IsRead s c text others told_too → (tokens ≡ others) × (labels ≡ told_too)
   one-object-read tokens others labels told_too a b =
       let same = one-body s c b.body a.body b.is_body a.is_body in
-      let again : IsTextOf s a.body text b.object b.labels = subst (λ e. IsTextOf s e text b.object b.labels) same b.canonical.read in
+      let again : IsObjectText s a.body text b.object b.labels = subst (λ e. IsObjectText s e text b.object b.labels) same b.canonical.read in
       let r = one_reading s (is-plain s sound limits) a.body text a.object b.object a.labels b.labels a.canonical.read again in
       (sym a.spelled ∙ ap tokens_of r.0 ∙ b.spelled, sym a.labels_are ∙ ap (told s.mode) r.1 ∙ b.labels_are)
 

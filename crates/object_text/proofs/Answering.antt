@@ -4,7 +4,7 @@ use Rattle.std.proofs.Math.Seq.{take-append_seam}
 use Rattle.bz_model.specs.Spec.{Spec, Mode, body_of}
 use Rattle.bz_model.specs.Object.{Object}
 use Rattle.bz_model.specs.Labels.{AreOneTo}
-use Rattle.bz_model.specs.ObjectText.{IsTextOf, IsCanonicalText, HasLabels, AreLabelsOf}
+use Rattle.bz_model.specs.ObjectText.{IsObjectText, IsCanonicalText, HasLabels, AreLabelsOf}
 use Rattle.bz_laws.proofs.Canonical.{canonical-ordered, ordered-canonical}
 use Rattle.class_system.specs.Sound.{IsSound}
 use Rattle.class_system.specs.Limits.{IsWithinLimits}
@@ -18,8 +18,8 @@ use Rattle.object_text.specs.declared.scan.Stop.{Stop}
 use Rattle.object_text.specs.declared.scan.Stop.TheVariants as stop
 use Rattle.object_text.specs.declared.fault.TextFault.{TextFault}
 use Rattle.object_text.specs.declared.fault.TextFault.TheVariants as fault
-use Rattle.object_text.specs.Reading.{IsForm, Begins, IsWrongAt, IsNotCanonical, told, IsRead, TellsFault}
-use Rattle.object_text.specs.States.{IsFinished, IsOrderly, IsRefused, stop_fault}
+use Rattle.object_text.specs.Reading.{IsForm, BeginsSomeText, IsWrongAt, IsNotCanonical, told, IsRead, TellsFault}
+use Rattle.object_text.specs.States.{IsReadWhole, IsOrderly, IsRefused, stop_fault}
 use Rattle.object_text.proofs.InOrderTests.{test-stands, stands-test}
 use Rattle.object_text.proofs.FirstBytes.{is-plain}
 
@@ -34,7 +34,7 @@ module _ (s : Spec) (e : ExprId) where
   form-of : (text : List ℕ) → Accepts (Comes s (Some e) [] nothing) text → IsForm s e.0 text
   form-of text a =
       let h = a.reads in
-      record { object = h.object; labels = h.labels; is_text = subst (λ t. IsTextOf s e.0 t h.object h.labels) (sym (h.split ∙ ap (λ r. h.own ++ r) h.later.0 ∙ append-nil h.own)) h.is_text }
+      record { object = h.object; labels = h.labels; is_text = subst (λ t. IsObjectText s e.0 t h.object h.labels) (sym (h.split ∙ ap (λ r. h.own ++ r) h.later.0 ∙ append-nil h.own)) h.is_text }
 
   of-form : (text : List ℕ) → IsForm s e.0 text → Accepts (Comes s (Some e) [] nothing) text
   of-form text f = record { whole = with_object nothing f.object f.labels; reads = record { object = f.object; labels = f.labels; own = text; rest = []; is_text = f.is_text; split = sym (append-nil text); later = (refl, refl) } }
@@ -52,7 +52,7 @@ module _ (s : Spec) (e : ExprId) where
         missing = λ all form. ended f.back f.split f.stops (omega arith) form;
       }
     where
-      stopped : (back : List ℕ) → text ≡ f.front ++ back → CantGoOn (Comes s (Some e) [] nothing) f.front back → 0 < length back → place ≡ length f.front → ¬ (Begins s e.0 (take (place + 1) text))
+      stopped : (back : List ℕ) → text ≡ f.front ++ back → CantGoOn (Comes s (Some e) [] nothing) f.front back → 0 < length back → place ≡ length f.front → ¬ (BeginsSomeText s e.0 (take (place + 1) text))
       stopped [] split stops some here b = omega arith
       stopped (x ∷ back) split stops some here b =
           let one : take (place + 1) text ≡ f.front ++ x ∷ [] = ap (take (place + 1)) split ∙ take-one f.front back x (place + 1) (omega arith) in
@@ -69,7 +69,7 @@ module _ (s : Spec) (e : ExprId) where
 pub record WasRead (s : Spec) (e : ℕ) (text : List ℕ) (whole : Taken) : Type 0 where
   pub object : Object
   pub labels : List ℕ
-  pub is_text : IsTextOf s e text object labels
+  pub is_text : IsObjectText s e text object labels
   pub tokens : whole.tokens ≡ tokens_of object
   pub labels_are : whole.labels ≡ labels
   pub ordered : whole.ordered ≡ in_order object labels
@@ -83,7 +83,7 @@ was-read s e text whole h =
     record {
       object = h.object;
       labels = h.labels;
-      is_text = subst (λ t. IsTextOf s e.0 t h.object h.labels) (sym (h.split ∙ ap (λ r. h.own ++ r) h.later.0 ∙ append-nil h.own)) h.is_text;
+      is_text = subst (λ t. IsObjectText s e.0 t h.object h.labels) (sym (h.split ∙ ap (λ r. h.own ++ r) h.later.0 ∙ append-nil h.own)) h.is_text;
       tokens = sym (ap (λ (t : Taken). t.tokens) same);
       labels_are = sym (ap (λ (t : Taken). t.labels) same);
       ordered = sym (ap (λ (t : Taken). t.ordered) same);
@@ -119,7 +119,7 @@ module _ (s : Spec) (sound : IsSound s) (limits : IsWithinLimits s) (e : ℕ) (t
 
 -- A text that was read whole as an object of a class's body, and stands in order, is the canonical
 -- text of an object of the class with these tokens and labels.
-pub read-of : (s : Spec) (sound : IsSound s) (limits : IsWithinLimits s) (c body : ℕ) → body_of s c ≡ Some body → (text : List ℕ) (whole : Taken) → WasRead s body text whole → (tokens : List Token) (labels : Option (List ℕ)) → IsFinished s.mode whole tokens labels → IsRead s c text tokens labels
+pub read-of : (s : Spec) (sound : IsSound s) (limits : IsWithinLimits s) (c body : ℕ) → body_of s c ≡ Some body → (text : List ℕ) (whole : Taken) → WasRead s body text whole → (tokens : List Token) (labels : Option (List ℕ)) → IsReadWhole s.mode whole tokens labels → IsRead s c text tokens labels
 read-of s sound limits c body at text whole r tokens labels f = record {
   body = body;
   is_body = at;

@@ -7,7 +7,7 @@ use Rattle.bz_model.specs.Spec.{Spec, Mode, Node, Range, node_at, range_at, node
 use Rattle.bz_model.specs.Object.{Object, Objects, none, more, count, Has, HaveEach, HaveAll, ClassHas, Belongs}
 use Rattle.bz_model.specs.Object.Object.{Unit_, Dot, Pick, Tuple, SeqOf, SetOf, CycOf}
 use Rattle.bz_model.specs.Measures.{size, sizes}
-use Rattle.bz_model.specs.ObjectText.{Arrangement, PartText, in_order, rotated_to, least_of, lesser_label, least_label, HasLabels, IsTextOf, text_by, texts_of_each, texts_of_all, class_text, object_text, spaced}
+use Rattle.bz_model.specs.ObjectText.{Arrangement, PartText, in_order, rotated_to, least_of, lesser_label, least_label, HasLabels, IsObjectText, text_by, texts_of_each, texts_of_all, class_text, object_text, spaced}
 use Rattle.bz_laws.specs.InOrder.{leasts, IsRising, BeginsWithLeast, StandsInOrder, AllStandInOrder}
 use Rattle.bz_laws.proofs.Nodes.{HasAt}
 use Rattle.bz_laws.proofs.Samples.{AllByRecursion-append}
@@ -284,7 +284,7 @@ is-class s (suc h) c o l k x = is-form s (ClassHas s h) (class_text standing s h
 
 -- What a printed text is read as.
 pub record IsArranged (s : Spec) (e : ℕ) (o : Object) (l : List ℕ) (b : Belongs s e o) (i : LabelledObject) : Type 0 where
-  pub is_text : IsTextOf s e (object_text s e o b l) i.object i.labels
+  pub is_text : IsObjectText s e (object_text s e o b l) i.object i.labels
   pub ordered : StandsInOrder i.object i.labels
   pub sized : size i.object ≡ size o
 

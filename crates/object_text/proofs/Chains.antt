@@ -3,7 +3,7 @@ use Rattle.std.proofs.Common.{◌≡◌, ℕ, zero, suc, List, [], ◌∷◌, �
 use Rattle.bz_model.specs.Spec.{Spec}
 use Rattle.bz_model.specs.Object.{Objects, none, more, count}
 use Rattle.bz_model.specs.Measures.{size}
-use Rattle.bz_model.specs.ObjectText.{IsTextOf}
+use Rattle.bz_model.specs.ObjectText.{IsObjectText}
 use Rattle.object_text.specs.Taken.{Taken, with_object}
 use Rattle.object_text.specs.Expected.{ReadsEach}
 use Rattle.object_text.proofs.ObjectTexts.{AreTexts, spaces, texts-labels, parts-apart}
@@ -31,7 +31,7 @@ module _ (s : Spec) (ended : Taken → Taken) (Later : List ℕ → Taken → Ty
         objects = more k.object r.objects;
         labels = k.labels ++ r.labels;
         rest = r.rest;
-        each = AreTexts.one_more (subst (IsTextOf s part k.own k.object) (sym t.0) k.is_text) (subst (AreTexts s parts r.texts r.objects) (sym t.1) r.each);
+        each = AreTexts.one_more (subst (IsObjectText s part k.own k.object) (sym t.0) k.is_text) (subst (AreTexts s parts r.texts r.objects) (sym t.1) r.each);
         split = h.split ∙ ap (λ z. 32 ∷ z) (k.split ∙ ap (λ z. k.own ++ z) r.split ∙ sym (append_assoc k.own (spaces r.texts) r.rest));
         later = subst (λ m. Later r.rest (through ended (ended (with_object taken k.object m)) r.objects (drop (size k.object) (k.labels ++ r.labels)))) (sym t.0)
             (subst (λ m. Later r.rest (through ended (ended (with_object taken k.object k.labels)) r.objects m)) (sym t.1) r.later);

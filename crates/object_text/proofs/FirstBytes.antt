@@ -10,7 +10,7 @@ use Rattle.std.proofs.lemmas.Bool.Decides.{leb_tells, eqb_tells}
 use Rattle.bz_model.specs.Spec.{Spec, Node, Range, node_at, range_at, node_of, range_of, body_of}
 use Rattle.bz_model.specs.Object.{Object, Has, ClassHas}
 use Rattle.bz_model.specs.Object.Object.{Unit_, Dot, Pick, Tuple, SeqOf, SetOf, CycOf}
-use Rattle.bz_model.specs.ObjectText.{IsTextOf, leaf_text, label_text, text_by, class_text}
+use Rattle.bz_model.specs.ObjectText.{IsObjectText, leaf_text, label_text, text_by, class_text}
 use Rattle.bz_laws.specs.Spelled.{IsWordByte, IsPlainNode, IsPlain}
 use Rattle.class_system.specs.Sound.{IsSound}
 use Rattle.class_system.specs.Limits.{IsWithinLimits}
@@ -139,5 +139,5 @@ module _ (s : Spec) (sound : IsSound s) (limits : IsWithinLimits s) where
   starts-class zero c o l w = elim w [ ]
   starts-class (suc h) c o l w = starts-body h (body_of s c) (starts-class h) o l w
 
-  pub starts : (e : ℕ) (text : List ℕ) (o : Object) (l : List ℕ) → IsTextOf s e text o l → Starts text
+  pub starts : (e : ℕ) (text : List ℕ) (o : Object) (l : List ℕ) → IsObjectText s e text o l → Starts text
   starts e text o l h = starts-same text _ h.spelled (starts-node h.belongs.0 e (node_at s e) refl (starts-class h.belongs.0) (range_at s e) o l h.belongs.1)

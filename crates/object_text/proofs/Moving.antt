@@ -13,7 +13,7 @@ use Rattle.object_text.specs.declared.parse_stack.Expected.{Expected}
 use Rattle.object_text.specs.Taken.{Taken, with_token, with_label}
 use Rattle.object_text.specs.Scanning.{Word, Number, BeginsWithByte, DiffersFrom, IsLabel, HasNoLabel, BeginsLike, Steps, Faults}
 use Rattle.object_text.specs.Expected.{ReadsObject, Reads, Comes, AllCanCome, HasObjects, Moves}
-use Rattle.object_text.specs.Pieces.{State, IsNeutral, IsLabelIf, IsAtom, IsNoAtom}
+use Rattle.object_text.specs.Pieces.{ReadingState, IsNeutral, IsLabelIf, IsAtom, IsNoAtom}
 use Rattle.object_text.proofs.Digits.{cons-same}
 use Rattle.object_text.proofs.Scans.{steps-then, steps-same, faults-through, WordThen, word-steps, word-faults, byte-differs, number-steps, number-faults}
 use Rattle.object_text.proofs.TakenParts.{same}
@@ -54,7 +54,7 @@ pub like-byte : (b : ℕ) (text other rest : List ℕ) → BeginsLike text other
 like-byte b [] other rest h e = absurd (let f = h in cc)
 like-byte b (d ∷ text) other rest h e = (cons-same d b h.0 rest (sym h.1 ∙ e)).0
 
-module _ (s : Spec) (sound : IsSound s) (limits : IsWithinLimits s) (have : HasObjects s) (e : ExprId) (text rest : List ℕ) (old : State) (can : AllCanCome s (length text) old.stack) where
+module _ (s : Spec) (sound : IsSound s) (limits : IsWithinLimits s) (have : HasObjects s) (e : ExprId) (text rest : List ℕ) (old : ReadingState) (can : AllCanCome s (length text) old.stack) where
   abbrev Before : Taken → List ℕ → Type 0
   Before = λ whole other. ReadsObject s e.0 (Reads s whole old.stack) other old.taken
 
@@ -79,7 +79,7 @@ module _ (s : Spec) (sound : IsSound s) (limits : IsWithinLimits s) (have : HasO
         go [] = omega arith
         go (b ∷ word) = omega arith
 
-    pub neutral-moves : (next : Option ExprId) (now : State) → IsNeutral word text old next now rest → Moves s (Comes s (Some e) old.stack old.taken) text next now.stack now.taken rest
+    pub neutral-moves : (next : Option ExprId) (now : ReadingState) → IsNeutral word text old next now rest → Moves s (Comes s (Some e) old.stack old.taken) text next now.stack now.taken rest
     neutral-moves next now h =
         let less = shorter (leaf_text (codes "E") word) text rest h.split some-word in
         moves-by s Before text rest h.over h.taken h.stack (record {
@@ -144,7 +144,7 @@ module _ (s : Spec) (sound : IsSound s) (limits : IsWithinLimits s) (have : HasO
         let n = l.number in
         omega (arith, ap length l.split, ap length n.split, length-append (decimal label) rest)
 
-    pub atom-moves : (m : Mode) → spec_mode m ≡ s.mode → (next : Option ExprId) (now : State) → IsAtom m word text old next now rest → Moves s (Comes s (Some e) old.stack old.taken) text next now.stack now.taken rest
+    pub atom-moves : (m : Mode) → spec_mode m ≡ s.mode → (next : Option ExprId) (now : ReadingState) → IsAtom m word text old next now rest → Moves s (Comes s (Some e) old.stack old.taken) text next now.stack now.taken rest
     atom-moves m same next now h = go m same h.label
       where
         go : (m : Mode) → spec_mode m ≡ s.mode → IsLabelIf m h.behind (with_token old.taken token.Dot) now.taken rest → Moves s (Comes s (Some e) old.stack old.taken) text next now.stack now.taken rest

@@ -13,7 +13,7 @@ use Rattle.object_text.specs.declared.parse_stack.Counted.{Counted}
 use Rattle.object_text.specs.Taken.{Taken, with_object, opened, parted, closed}
 use Rattle.object_text.specs.Scanning.{Word, BeginsWithByte, BeginsLike, Steps, CantGoOn, Faults}
 use Rattle.object_text.specs.Expected.{opener, closer, list_node, ReadsObject, ReadsEach, Reads, Comes, AllCanCome, HasObjects, Moves}
-use Rattle.object_text.specs.Pieces.{State, IsNoByte, MayEnd, MayGoOn, IsList, IsFurther, IsNoFurther}
+use Rattle.object_text.specs.Pieces.{ReadingState, IsNoByte, MayEnd, MayGoOn, IsList, IsFurther, IsNoFurther}
 use Rattle.object_text.proofs.Digits.{cons-same}
 use Rattle.object_text.proofs.Scans.{steps-then, faults-here, WordThen, word-steps, word-faults, byte-differs}
 use Rattle.object_text.proofs.Beginnings.{ReadsSome, ListReads, list-reads, reads-list}
@@ -39,7 +39,7 @@ module _ (s : Spec) (sound : IsSound s) (limits : IsWithinLimits s) where
       go Set f e = f.no_set_end e
       go Cycle f e = f.no_cycle_end e
 
-module _ (s : Spec) (sound : IsSound s) (limits : IsWithinLimits s) (have : HasObjects s) (text rest : List ℕ) (old : State) (can : AllCanCome s (length text) old.stack) where
+module _ (s : Spec) (sound : IsSound s) (limits : IsWithinLimits s) (have : HasObjects s) (text rest : List ℕ) (old : ReadingState) (can : AllCanCome s (length text) old.stack) where
   abbrev Behind : Taken → Taken → List ℕ → Type 0
   Behind t = λ whole other. Reads s whole old.stack other t
 
@@ -135,7 +135,7 @@ module _ (s : Spec) (sound : IsSound s) (limits : IsWithinLimits s) (have : HasO
     first-steps : ¬ (MayEnd kind range 0 rest) → Steps Opened First rest rest
     first-steps never = record { front = []; split = refl; back = λ whole other h. first-in whole other h; forth = λ whole other like h. first-out whole other (never-like other like never) h }
 
-    pub list-moves : (next : Option ExprId) (now : State) → IsList kind part range text old next now rest → Moves s (Comes s (Some e) old.stack old.taken) text next now.stack now.taken rest
+    pub list-moves : (next : Option ExprId) (now : ReadingState) → IsList kind part range text old next now rest → Moves s (Comes s (Some e) old.stack old.taken) text next now.stack now.taken rest
     list-moves next now (IsList.empty r split over taken stack) =
         let less : length rest < length text = omega (arith, ap length split) in
         moves-by s Before text rest over taken stack (record {
@@ -235,7 +235,7 @@ module _ (s : Spec) (sound : IsSound s) (limits : IsWithinLimits s) (have : HasO
               };
             }
 
-    pub further-moves : (next : Option ExprId) (now : State) → IsFurther c text old next now rest → Moves s List' text next now.stack now.taken rest
+    pub further-moves : (next : Option ExprId) (now : ReadingState) → IsFurther c text old next now rest → Moves s List' text next now.stack now.taken rest
     further-moves next now (IsFurther.ended r split over taken stack) =
         let less : length rest < length text = omega (arith, ap length split) in
         moves-by s List' text rest over taken stack (record {

@@ -15,7 +15,7 @@ use Rattle.object_text.specs.declared.parse_stack.Expected.TheVariants.{Close}
 use Rattle.object_text.specs.Taken.{Taken, with_token, with_object}
 use Rattle.object_text.specs.Scanning.{Word, Number, BeginsWithNumber, HasNoNumber, Steps, Faults}
 use Rattle.object_text.specs.Expected.{expected_parts, ReadsObject, ReadsEach, Reads, Comes, AllCanCome, HasObjects, Moves}
-use Rattle.object_text.specs.Pieces.{State, IsOption, IsNoOption, IsNoByte}
+use Rattle.object_text.specs.Pieces.{ReadingState, IsOption, IsNoOption, IsNoByte}
 use Rattle.object_text.proofs.Digits.{HasNoDigit}
 use Rattle.object_text.proofs.Scans.{steps-then, steps-same, faults-through, WordThen, word-steps, word-faults, byte-differs, number-steps, number-faults}
 use Rattle.object_text.proofs.TakenParts.{same}
@@ -62,7 +62,7 @@ expected-come : (s : Spec) (left : ℕ) (es : List ExprId) (stack : List Expecte
 expected-come s left [] stack below can = (tt, can)
 expected-come s left (e ∷ es) stack below can = (below.0, expected-come s left es stack below.1 can)
 
-module _ (s : Spec) (sound : IsSound s) (limits : IsWithinLimits s) (have : HasObjects s) (e : ExprId) (text rest : List ℕ) (old : State) (can : AllCanCome s (length text) old.stack) where
+module _ (s : Spec) (sound : IsSound s) (limits : IsWithinLimits s) (have : HasObjects s) (e : ExprId) (text rest : List ℕ) (old : ReadingState) (can : AllCanCome s (length text) old.stack) where
   abbrev Before : Taken → List ℕ → Type 0
   Before = λ whole other. ReadsObject s e.0 (Reads s whole old.stack) other old.taken
 
@@ -120,7 +120,7 @@ module _ (s : Spec) (sound : IsSound s) (limits : IsWithinLimits s) (have : HasO
     number-read option behind n = steps-by Before Number' (λ whole other. Stopped whole option other) text behind in-object out-object
         (number-steps 0 (length (map number es) - 1) Stopped small text behind option (subst (λ k. BeginsWithNumber 0 (k - 1) text option behind) (sym (length-map es number)) n) no-digit-stopped)
 
-    pub option-moves : (next : Option ExprId) (now : State) → IsOption es text old next now rest → Moves s (Comes s (Some e) old.stack old.taken) text next now.stack now.taken rest
+    pub option-moves : (next : Option ExprId) (now : ReadingState) → IsOption es text old next now rest → Moves s (Comes s (Some e) old.stack old.taken) text next now.stack now.taken rest
     option-moves next now h = go next h.part
       where
         less : length rest < length text
@@ -192,7 +192,7 @@ module _ (s : Spec) (sound : IsSound s) (limits : IsWithinLimits s) (have : HasO
     firsts-out : (whole : Taken) (other : List ℕ) → Firsts whole other → First whole other
     firsts-out whole other h = record { object = h.object; labels = h.labels; own = h.own; rest = h.rest; is_text = h.is_text; split = h.split; later = expected-in s whole old.stack later h.rest (with_object old.taken h.object h.labels) h.later }
 
-    pub product-moves : (next : Option ExprId) (now : State) → text ≡ 40 ∷ rest → next ≡ Some first → now.taken ≡ old.taken → now.stack ≡ expected_parts later ++ Close ∷ old.stack → Moves s (Comes s (Some e) old.stack old.taken) text next now.stack now.taken rest
+    pub product-moves : (next : Option ExprId) (now : ReadingState) → text ≡ 40 ∷ rest → next ≡ Some first → now.taken ≡ old.taken → now.stack ≡ expected_parts later ++ Close ∷ old.stack → Moves s (Comes s (Some e) old.stack old.taken) text next now.stack now.taken rest
     product-moves next now split is_first taken stack =
         let less = shorter (40 ∷ []) text rest split (omega arith) in
         moves-by s Before text rest is_first taken stack (record {

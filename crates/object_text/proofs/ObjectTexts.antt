@@ -8,7 +8,7 @@ use Rattle.bz_model.specs.Spec.{Spec, Mode, Node, Range, node_at, range_at, node
 use Rattle.bz_model.specs.Object.{Object, Objects, none, more, count, Has, HaveEach, HaveAll, ClassHas}
 use Rattle.bz_model.specs.Object.Object.{Pick, Tuple, SeqOf, SetOf, CycOf}
 use Rattle.bz_model.specs.Measures.{size, sizes}
-use Rattle.bz_model.specs.ObjectText.{Arrangement, PartText, HasLabels, IsTextOf, text_by, texts_of_each, texts_of_all, class_text, spaced, least_label}
+use Rattle.bz_model.specs.ObjectText.{Arrangement, PartText, HasLabels, IsObjectText, text_by, texts_of_each, texts_of_all, class_text, spaced, least_label}
 use Rattle.bz_laws.proofs.Nodes.{known, unknown, ClassBelongs, belongs-has, each-belongs}
 use Rattle.bz_laws.proofs.Readings.{HasAllLabels, first-labels, other-labels, none-labels, part-labels, pick-labels}
 use Rattle.bz_laws.proofs.Samples.{AllByRecursion-append}
@@ -55,7 +55,7 @@ pub record TextBy (s : Spec) (node : Node) (range : Option Range) (text : List �
 -- Texts of objects of nodes, each with as many labels as it has atoms.
 pub data AreTexts (s : Spec) : List ℕ → List (List ℕ) → Objects → List ℕ → Type 0 where
   no_text : AreTexts s [] [] none []
-  one_more : {part : ℕ} {parts : List ℕ} {text : List ℕ} {texts : List (List ℕ)} {o : Object} {os : Objects} {l : List ℕ} → IsTextOf s part text o (take (size o) l) → AreTexts s parts texts os (drop (size o) l) → AreTexts s (part ∷ parts) (text ∷ texts) (more o os) l
+  one_more : {part : ℕ} {parts : List ℕ} {text : List ℕ} {texts : List (List ℕ)} {o : Object} {os : Objects} {l : List ℕ} → IsObjectText s part text o (take (size o) l) → AreTexts s parts texts os (drop (size o) l) → AreTexts s (part ∷ parts) (text ∷ texts) (more o os) l
 
 -- The texts with a space before each.
 abbrev pub spaces : List (List ℕ) → List ℕ
@@ -77,7 +77,7 @@ abbrev text_of : PartText → List ℕ
 text_of p = p.text
 
 module _ (s : Spec) where
-  pub known-text : (e : ℕ) (node : Node) → node_at s e ≡ Some node → (text : List ℕ) (o : Object) (l : List ℕ) → IsTextOf s e text o l → TextBy s node (range_at s e) text o l
+  pub known-text : (e : ℕ) (node : Node) → node_at s e ≡ Some node → (text : List ℕ) (o : Object) (l : List ℕ) → IsObjectText s e text o l → TextBy s node (range_at s e) text o l
   known-text e node at text o l h = record {
     height = h.belongs.0;
     has = known s (ClassHas s h.belongs.0) e at o h.belongs.1;
@@ -85,7 +85,7 @@ module _ (s : Spec) where
     spelled = h.spelled ∙ ap (λ n. text_by standing s (class_text standing s h.belongs.0) n o l) at;
   }
 
-  pub text-known : (e : ℕ) (node : Node) → node_at s e ≡ Some node → (text : List ℕ) (o : Object) (l : List ℕ) → TextBy s node (range_at s e) text o l → IsTextOf s e text o l
+  pub text-known : (e : ℕ) (node : Node) → node_at s e ≡ Some node → (text : List ℕ) (o : Object) (l : List ℕ) → TextBy s node (range_at s e) text o l → IsObjectText s e text o l
   text-known e node at text o l h = record {
     belongs = (h.height, unknown s (ClassHas s h.height) e at o h.has);
     labelled = h.labelled;
@@ -128,7 +128,7 @@ module _ (s : Spec) where
   have-all R part (more o os) w = (w.0, have-all R part os w.1)
 
   -- A class's text is that of its body.
-  pub class-in : (e c body : ℕ) → node_at s e ≡ Some (Node.Class c) → body_of s c ≡ Some body → (text : List ℕ) (o : Object) (l : List ℕ) → IsTextOf s body text o l → IsTextOf s e text o l
+  pub class-in : (e c body : ℕ) → node_at s e ≡ Some (Node.Class c) → body_of s c ≡ Some body → (text : List ℕ) (o : Object) (l : List ℕ) → IsObjectText s body text o l → IsObjectText s e text o l
   class-in e c body at b text o l h = text-known e (Node.Class c) at text o l (record {
     height = suc h.belongs.0;
     has = subst (λ n. Has s (ClassHas s h.belongs.0) (node_of s n) (range_of s n) o) (sym b) h.belongs.1;
@@ -136,10 +136,10 @@ module _ (s : Spec) where
     spelled = h.spelled ∙ ap (λ n. text_by standing s (class_text standing s h.belongs.0) (node_of s n) o l) (sym b);
   })
 
-  pub class-out : (e c body : ℕ) → node_at s e ≡ Some (Node.Class c) → body_of s c ≡ Some body → (text : List ℕ) (o : Object) (l : List ℕ) → IsTextOf s e text o l → IsTextOf s body text o l
+  pub class-out : (e c body : ℕ) → node_at s e ≡ Some (Node.Class c) → body_of s c ≡ Some body → (text : List ℕ) (o : Object) (l : List ℕ) → IsObjectText s e text o l → IsObjectText s body text o l
   class-out e c body at b text o l h = let k = known-text e (Node.Class c) at text o l h in go k.height k.has k.spelled
     where
-      go : (h' : ℕ) → ClassHas s h' c o → text ≡ class_text standing s h' c o l → IsTextOf s body text o l
+      go : (h' : ℕ) → ClassHas s h' c o → text ≡ class_text standing s h' c o l → IsObjectText s body text o l
       go zero w t = elim w [ ]
       go (suc h') w t = record {
         belongs = (h', subst (λ n. Has s (ClassHas s h') (node_of s n) (range_of s n) o) b w);
@@ -155,10 +155,10 @@ module _ (s : Spec) where
     pub own : List ℕ
     pub is_part : slice_get parts option ≡ Some part
     pub is_pick : o ≡ Pick option object
-    pub is_text : IsTextOf s part own object l
+    pub is_text : IsObjectText s part own object l
     pub spelled : text ≡ decimal option ++ 46 ∷ own
 
-  part-text : (part : Option ℕ) (h : ℕ) (o : Object) (l : List ℕ) → Has s (ClassHas s h) (node_of s part) (range_of s part) o → HasLabels s.mode o l → (p : ℕ) × (part ≡ Some p) × IsTextOf s p (text_by standing s (class_text standing s h) (node_of s part) o l) o l
+  part-text : (part : Option ℕ) (h : ℕ) (o : Object) (l : List ℕ) → Has s (ClassHas s h) (node_of s part) (range_of s part) o → HasLabels s.mode o l → (p : ℕ) × (part ≡ Some p) × IsObjectText s p (text_by standing s (class_text standing s h) (node_of s part) o l) o l
   part-text (Some p) h o l w x = (p, refl, record { belongs = (h, w); labelled = x; spelled = refl })
   part-text None h o l w x = elim w [ ]
 
@@ -168,7 +168,7 @@ module _ (s : Spec) where
       record { option = i; part = p.0; object = o; own = text_by standing s (class_text standing s h.height) (node_of s (slice_get parts i)) o l; is_part = p.1; is_pick = refl; is_text = p.2; spelled = h.spelled ∙ append_assoc (decimal i) (46 ∷ []) (text_by standing s (class_text standing s h.height) (node_of s (slice_get parts i)) o l) }
   option-out parts range text _ l h = elim h.has [ ]
 
-  pub option-in : (parts : List ℕ) (range : Option Range) (text : List ℕ) (i part : ℕ) (own : List ℕ) (o : Object) (l : List ℕ) → slice_get parts i ≡ Some part → IsTextOf s part own o l → text ≡ decimal i ++ 46 ∷ own → TextBy s (Node.Union parts) range text (Pick i o) l
+  pub option-in : (parts : List ℕ) (range : Option Range) (text : List ℕ) (i part : ℕ) (own : List ℕ) (o : Object) (l : List ℕ) → slice_get parts i ≡ Some part → IsObjectText s part own o l → text ≡ decimal i ++ 46 ∷ own → TextBy s (Node.Union parts) range text (Pick i o) l
   option-in parts range text i part own o l at h e = record {
     height = h.belongs.0;
     has = subst (λ n. Has s (ClassHas s h.belongs.0) (node_of s n) (range_of s n) o) (sym at) h.belongs.1;

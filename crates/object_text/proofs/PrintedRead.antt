@@ -1,7 +1,7 @@
 -- What was printed is read, in canonical order.
 use Rattle.std.proofs.Common.{◌≡◌, ℕ, List, refl, sym, ap, subst}
 use Rattle.bz_model.specs.Spec.{Spec}
-use Rattle.bz_model.specs.ObjectText.{HasLabels, AreLabelsOf, IsTextOf, object_text}
+use Rattle.bz_model.specs.ObjectText.{HasLabels, AreLabelsOf, IsObjectText, object_text}
 use Rattle.bz_laws.proofs.Items.{Item}
 use Rattle.bz_laws.proofs.Canonical.{ordered-canonical}
 use Rattle.object_store.specs.declared.token.Token.{Token}
@@ -17,7 +17,7 @@ pub printed-read : (s : Spec) (c : ℕ) (tokens : List Token) (of : IsOf s c tok
 printed-read s c tokens of labels x k text e =
     let a = is-arranged s of.body of.object labels of.belongs x in
     let same : (arranged of.object labels).labels ≡ (form of.object labels).labels = ap (λ (i : Item). i.labels) (form-same of.object labels) in
-    let read : IsTextOf s of.body text (arranged of.object labels).object (arranged of.object labels).labels = subst (λ t. IsTextOf s of.body t (arranged of.object labels).object (arranged of.object labels).labels) (sym e) a.is_text in
+    let read : IsObjectText s of.body text (arranged of.object labels).object (arranged of.object labels).labels = subst (λ t. IsObjectText s of.body t (arranged of.object labels).object (arranged of.object labels).labels) (sym e) a.is_text in
     record {
       body = of.body;
       is_body = of.is_body;

@@ -20,7 +20,7 @@ use Rattle.object_text.specs.declared.print_stack.Todo.{Todo}
 use Rattle.object_text.specs.declared.print_stack.Todo.TheVariants as todo
 use Rattle.object_text.specs.Todos.{joined_objects, spaced_objects}
 use Rattle.object_text.specs.Output.{Printed}
-use Rattle.object_text.specs.Printing.{PrintsObject, Prints, ArePrinted, Goes, Passes, nodes_of}
+use Rattle.object_text.specs.Printing.{PrintsObject, Prints, ArePrinted, Goes, PassesFreely, nodes_of}
 
 -- The nodes of joined objects are these.
 nodes-spaced : (es : List ExprId) (later : List Todo) → nodes_of (spaced_objects es ++ later) ≡ map number es ++ nodes_of later
@@ -128,16 +128,16 @@ label-read labels used None h = slice_get_past labels used h
 label-read labels used (Some x) h = slice_get-get_or labels used 0 h.0 ∙ ap Some (sym (h.1 0))
 
 -- What was done after what was done.
-pub passes-then : (old middle todos : List Todo) (before printed after : Printed) → Passes old before middle printed → Passes middle printed todos after → Passes old before todos after
+pub passes-then : (old middle todos : List Todo) (before printed after : Printed) → PassesFreely old before middle printed → PassesFreely middle printed todos after → PassesFreely old before todos after
 passes-then old middle todos before printed after h k = record {
   nodes = h.nodes ∙ k.nodes;
   goes = λ s. record { on = λ whole tokens labels p. (k.goes s).on whole tokens labels ((h.goes s).on whole tokens labels p) };
 }
 
 -- Where a list is given by an equation.
-pub passes-from : (old other todos : List Todo) (before printed : Printed) → other ≡ old → Passes old before todos printed → Passes other before todos printed
-passes-from old other todos before printed e h = subst (λ ds. Passes ds before todos printed) (sym e) h
+pub passes-from : (old other todos : List Todo) (before printed : Printed) → other ≡ old → PassesFreely old before todos printed → PassesFreely other before todos printed
+passes-from old other todos before printed e h = subst (λ ds. PassesFreely ds before todos printed) (sym e) h
 
 -- One thing that needs no token is done.
-pub passes-one : (one : Todo) (todos : List Todo) (before made printed : Printed) → printed ≡ made → nodes_of (one ∷ todos) ≡ nodes_of todos → ((s : Spec) → Goes s (one ∷ todos) before todos made) → Passes (one ∷ todos) before todos printed
+pub passes-one : (one : Todo) (todos : List Todo) (before made printed : Printed) → printed ≡ made → nodes_of (one ∷ todos) ≡ nodes_of todos → ((s : Spec) → Goes s (one ∷ todos) before todos made) → PassesFreely (one ∷ todos) before todos printed
 passes-one one todos before made printed e nodes goes = record { nodes = nodes; goes = λ s. goes-to s (one ∷ todos) todos before made printed e (goes s) }

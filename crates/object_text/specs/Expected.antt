@@ -4,7 +4,7 @@ use Rattle.std.specs.Prelude.{Some, None}
 use Rattle.std.specs.List.{AllByRecursion}
 use Rattle.bz_model.specs.Spec.{Spec, Node, Range, node_at, IsInRange, IsWithinHigh}
 use Rattle.bz_model.specs.Object.{Object, Belongs}
-use Rattle.bz_model.specs.ObjectText.{IsTextOf}
+use Rattle.bz_model.specs.ObjectText.{IsObjectText}
 use Rattle.class_system.specs.Views.{spec_range}
 use Rattle.class_system.specs.declared.ids.ExprId.{ExprId}
 use Rattle.object_text.specs.declared.parsed.Kind.{Kind}
@@ -45,7 +45,7 @@ pub record ReadsObject (s : Spec) (e : ℕ) (Later : List ℕ → Taken
   pub labels : List ℕ
   pub own : List ℕ
   pub rest : List ℕ
-  pub is_text : IsTextOf s e own object labels
+  pub is_text : IsObjectText s e own object labels
   pub split : text ≡ own ++ rest
   pub later : Later rest (with_object taken object labels)
 
@@ -125,12 +125,13 @@ pub record NoClass (s : Spec) (e : ℕ) : Type 0 where
 
 -- Two nodes have the same texts.
 pub record SameTexts (s : Spec) (e f : ℕ) : Type 0 where
-  pub to : (text : List ℕ) (o : Object) (l : List ℕ) → IsTextOf s e text o l → IsTextOf s f text o l
-  pub from : (text : List ℕ) (o : Object) (l : List ℕ) → IsTextOf s f text o l
-      → IsTextOf s e text o l
+  pub to : (text : List ℕ) (o : Object) (l : List ℕ) → IsObjectText s e text o l
+      → IsObjectText s f text o l
+  pub from : (text : List ℕ) (o : Object) (l : List ℕ) → IsObjectText s f text o l
+      → IsObjectText s e text o l
 
 -- The first node on the way through bodies of classes that is none of a class.
-pub record IsResolved (s : Spec) (e f : ℕ) : Type 0 where
+pub record ResolvesTo (s : Spec) (e f : ℕ) : Type 0 where
   pub below : f < length s.nodes
   pub no_class : NoClass s f
   pub same : SameTexts s e f

@@ -19,12 +19,13 @@ use Rattle.object_text.specs.Scanning.{IsOther, BeginsWithByte, DiffersFrom, Beg
 use Rattle.object_text.specs.Scanning.{HasNoNumber, IsLabel, HasNoLabel}
 
 -- What was read, and what is expected.
-pub record State : Type 0 where
+pub record ReadingState : Type 0 where
   pub taken : Taken
   pub stack : List Expected
 
 -- A neutral object was read.
-pub record IsNeutral (word text : List ℕ) (old : State) (next : Option ExprId) (now : State)
+pub record IsNeutral (word text : List ℕ) (old : ReadingState) (next : Option ExprId)
+    (now : ReadingState)
     (rest : List ℕ) : Type 0 where
   pub split : text ≡ leaf_text (codes "E") word ++ rest
   pub over : next ≡ None
@@ -39,8 +40,8 @@ pub data IsLabelIf : Mode → (text : List ℕ) → Taken → Taken → (rest : 
       → now ≡ with_label old label → IsLabelIf Labelled text old now rest
 
 -- An atom was read.
-pub record IsAtom (mode : Mode) (word text : List ℕ) (old : State) (next : Option ExprId)
-    (now : State) (rest : List ℕ) : Type 0 where
+pub record IsAtom (mode : Mode) (word text : List ℕ) (old : ReadingState) (next : Option ExprId)
+    (now : ReadingState) (rest : List ℕ) : Type 0 where
   pub behind : List ℕ
   pub split : text ≡ leaf_text (codes "Z") word ++ behind
   pub label : IsLabelIf mode behind (with_token old.taken token.Dot) now.taken rest
@@ -55,8 +56,9 @@ pub data IsNoAtom : Mode → (word text : List ℕ) → ℕ → Type 0 where
       ++ behind → HasNoLabel behind left → IsNoAtom Labelled word text left
 
 -- The option of a union and its full stop were read.
-pub record IsOption (parts : List ExprId) (text : List ℕ) (old : State) (next : Option ExprId)
-    (now : State) (rest : List ℕ) : Type 0 where
+pub record IsOption (parts : List ExprId) (text : List ℕ) (old : ReadingState)
+    (next : Option ExprId)
+    (now : ReadingState) (rest : List ℕ) : Type 0 where
   pub option : ℕ
   pub number : BeginsWithNumber 0 (length parts - 1) text option (46 ∷ rest)
   pub part : slice_get parts option ≡ next
@@ -72,8 +74,9 @@ pub data IsNoOption (parts : List ExprId) (text : List ℕ) (left : ℕ) : Type 
       → IsOther 46 behind → IsNoOption parts text left
 
 -- The beginning of a product was read.
-pub record IsProduct (parts : List ExprId) (text : List ℕ) (old : State) (next : Option ExprId)
-    (now : State) (rest : List ℕ) : Type 0 where
+pub record IsProduct (parts : List ExprId) (text : List ℕ) (old : ReadingState)
+    (next : Option ExprId)
+    (now : ReadingState) (rest : List ℕ) : Type 0 where
   pub first : ExprId
   pub later : List ExprId
   pub parts_are : parts ≡ first ∷ later
@@ -98,8 +101,8 @@ pub record MayGoOn (range : Range) (parts : ℕ) (text : List ℕ) : Type 0 wher
   pub space : BeginsWithByte 32 text
 
 -- The beginning of a list was read, or a list without parts.
-pub data IsList (kind : Kind) (part : ExprId) (range : Range) (text : List ℕ) (old : State)
-    (next : Option ExprId) (now : State) (rest : List ℕ) : Type 0 where
+pub data IsList (kind : Kind) (part : ExprId) (range : Range) (text : List ℕ) (old : ReadingState)
+    (next : Option ExprId) (now : ReadingState) (rest : List ℕ) : Type 0 where
   empty : IsInRange 0 (Some (spec_range range)) → text ≡ opener kind ∷ closer kind ∷ rest
       → next ≡ None → now.taken ≡ closed 0 (opened kind old.taken) → now.stack ≡ old.stack
       → IsList kind part range text old next now rest
@@ -109,7 +112,8 @@ pub data IsList (kind : Kind) (part : ExprId) (range : Range) (text : List ℕ) 
       ∷ old.stack → IsList kind part range text old next now rest
 
 -- Behind a part of a list its end was read, or a space before another part.
-pub data IsFurther (c : Counted) (text : List ℕ) (old : State) (next : Option ExprId) (now : State)
+pub data IsFurther (c : Counted) (text : List ℕ) (old : ReadingState) (next : Option ExprId)
+    (now : ReadingState)
     (rest : List ℕ) : Type 0 where
   ended : IsInRange (c.parts + 1) (Some (spec_range c.range)) → text ≡ closer c.kind ∷ rest
       → next ≡ None → now.taken ≡ closed (c.parts + 1) (parted old.taken) → now.stack ≡ old.stack

@@ -71,27 +71,27 @@ nodes_of (EndPart ∷ todos) = nodes_of todos
 nodes_of (Close form ∷ todos) = nodes_of todos
 
 -- What needs no token is done, and nothing else.
-pub record Passes (old : List Todo) (before : Printed) (todos : List Todo) (printed : Printed)
+pub record PassesFreely (old : List Todo) (before : Printed) (todos : List Todo) (printed : Printed)
     : Type 0 where
   pub nodes : nodes_of old ≡ nodes_of todos
   pub goes : (s : Spec) → Goes s old before todos printed
 
 -- All is done up to the next node, or to the end.
 abbrev pub IsNextNode : List Todo → Printed → List Todo → Printed → Option ExprId → Type 0
-IsNextNode old before todos printed None = Passes old before [] printed
-IsNextNode old before todos printed (Some e) = Passes old before (Node e ∷ todos) printed
+IsNextNode old before todos printed None = PassesFreely old before [] printed
+IsNextNode old before todos printed (Some e) = PassesFreely old before (Node e ∷ todos) printed
 
 -- One thing is done, and the others are left.
 pub record IsDone (todo : Todo) (rest : List Todo) (before : Printed) (todos : List Todo)
     (printed : Printed) : Type 0 where
   pub left : todos ≡ rest
-  pub passes : Passes (todo ∷ rest) before todos printed
+  pub passes : PassesFreely (todo ∷ rest) before todos printed
 
 -- One thing is done, or a node is to be printed now.
 abbrev pub IsBegun : Todo → List Todo → Printed → List Todo → Printed → Option ExprId → Type 0
 IsBegun todo rest before todos printed None = IsDone todo rest before todos printed
 IsBegun todo rest before todos printed (Some e) =
-    Passes (todo ∷ rest) before (Node e ∷ todos) printed
+    PassesFreely (todo ∷ rest) before (Node e ∷ todos) printed
 
 -- A class's body, or a product's parts, stand in its place.
 pub record Expanded (s : Spec) (e : ExprId) (old : List Todo) (before : Printed) (todos : List Todo)
@@ -124,7 +124,7 @@ IsFront s old before todos printed (Some e) = IsAtToken s e old before todos pri
 
 -- The token is the first of those that can be printed, and the label the first one left, if there
 -- is one.
-pub record IsNext (s : Spec) (e : ExprId) (token : Token) (label : Option ℕ) (todos : List Todo)
+pub record IsToPrint (s : Spec) (e : ExprId) (token : Token) (label : Option ℕ) (todos : List Todo)
     (printed : Printed) : Type 0 where
   pub rest : List Token
   pub labels : List ℕ

@@ -2,7 +2,7 @@
 use Rattle.std.specs.Prelude.{◌≡◌, ℕ, ◌+◌, ◌<◌, ◌≤◌, List, ◌++◌, length, take, Option, Some, None}
 use Rattle.bz_model.specs.Spec.{Spec, Mode, body_of}
 use Rattle.bz_model.specs.Object.{Object}
-use Rattle.bz_model.specs.ObjectText.{IsTextOf, IsCanonicalText}
+use Rattle.bz_model.specs.ObjectText.{IsObjectText, IsCanonicalText}
 use Rattle.object_store.specs.declared.token.Token.{Token}
 use Rattle.object_store.specs.Tokens.{tokens_of}
 use Rattle.object_text.specs.declared.fault.TextFault.{TextFault}
@@ -13,10 +13,10 @@ use Rattle.object_text.specs.declared.fault.TextFault.TheVariants as fault
 pub record IsForm (s : Spec) (e : ℕ) (text : List ℕ) : Type 0 where
   pub object : Object
   pub labels : List ℕ
-  pub is_text : IsTextOf s e text object labels
+  pub is_text : IsObjectText s e text object labels
 
 -- Some text of the form begins with these bytes.
-pub record Begins (s : Spec) (e : ℕ) (front : List ℕ) : Type 0 where
+pub record BeginsSomeText (s : Spec) (e : ℕ) (front : List ℕ) : Type 0 where
   pub more : List ℕ
   pub form : IsForm s e (front ++ more)
 
@@ -25,8 +25,8 @@ pub record Begins (s : Spec) (e : ℕ) (front : List ℕ) : Type 0 where
 -- are missing: some text of the form begins with the whole text, which isn't of the form itself.
 pub record IsWrongAt (s : Spec) (e : ℕ) (text : List ℕ) (place : ℕ) : Type 0 where
   pub within : place ≤ length text
-  pub before : Begins s e (take place text)
-  pub byte : place < length text → ¬ (Begins s e (take (place + 1) text))
+  pub before : BeginsSomeText s e (take place text)
+  pub byte : place < length text → ¬ (BeginsSomeText s e (take (place + 1) text))
   pub missing : place ≡ length text → ¬ (IsForm s e text)
 
 -- The text is of the form, and isn't the canonical text of the object with labels that it stands
@@ -34,7 +34,7 @@ pub record IsWrongAt (s : Spec) (e : ℕ) (text : List ℕ) (place : ℕ) : Type
 pub record IsNotCanonical (s : Spec) (e : ℕ) (text : List ℕ) : Type 0 where
   pub object : Object
   pub labels : List ℕ
-  pub is_text : IsTextOf s e text object labels
+  pub is_text : IsObjectText s e text object labels
   pub not_canonical : ¬ (IsCanonicalText s e text object labels)
 
 -- The labels that are told: a list in labelled mode, and none in unlabelled mode.

@@ -10,9 +10,9 @@ use Rattle.object_text.specs.declared.scan.Stop.{Stop}
 use Rattle.object_text.specs.declared.scan.Stop.TheVariants as stop
 use Rattle.object_text.specs.Taken.{Taken}
 use Rattle.object_text.specs.Reading.{told}
-use Rattle.object_text.specs.Pieces.{State}
+use Rattle.object_text.specs.Pieces.{ReadingState}
 
-abbrev pub state : code.Reader → State
+abbrev pub state : code.Reader → ReadingState
 state r = record { taken = r.taken; stack = r.stack }
 
 -- Sets and cycles stand in order, and the labels are 1 to their number, each once.
@@ -21,7 +21,7 @@ pub record IsOrderly (taken : Taken) : Type 0 where
   pub one_to : AreOneTo (length taken.labels) taken.labels
 
 -- What was read stands in order, and these are its tokens, and its labels in labelled mode.
-pub record IsFinished (mode : Mode) (taken : Taken) (shape : List Token)
+pub record IsReadWhole (mode : Mode) (taken : Taken) (shape : List Token)
     (labels_told : Option (List ℕ)) : Type 0 where
   pub orderly : IsOrderly taken
   pub tokens : shape ≡ taken.tokens

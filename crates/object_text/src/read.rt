@@ -3,7 +3,7 @@ ghost use Rattle.std.specs.Prelude.{◌≡◌, ◌≤◌, ◌<◌, ◌^◌, [], 
 ghost use Rattle.class_system.specs.Views.{spec_mode};
 ghost use Rattle.object_text.specs.Reading.{IsRead, TellsFault};
 ghost use Rattle.object_text.specs.Scanning.{StopsAt};
-ghost use Rattle.object_text.specs.States.{IsFinished, IsRefused, stop_fault};
+ghost use Rattle.object_text.specs.States.{IsReadWhole, IsRefused, stop_fault};
 
 use crate::fault::TextFault;
 use crate::parsed::Partial;
@@ -73,7 +73,7 @@ fn stop_fault(text: &[u8], stop: Stop) -> TextFault
 fn finish(alloc: Global, mode: Mode, taken: Partial) -> Result<ReadObject, TextFault>
     requires whole { taken.lists ≡ [] }
     ensures ok { IfOk result (λ object.
-        IsFinished (spec_mode mode) taken object.shape.items object.labels) }
+        IsReadWhole (spec_mode mode) taken object.shape.items object.labels) }
     ensures fault { IfErr result (IsRefused taken) }
 {
     if !taken.is_ordered() {

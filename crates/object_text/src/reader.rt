@@ -5,7 +5,7 @@ ghost use Rattle.bz_model.specs.ObjectText.{leaf_text};
 ghost use Rattle.object_text.specs.Scanning.{DiffersFrom, Faults, StopsAt};
 ghost use Rattle.object_text.specs.Taken.{nothing};
 ghost use Rattle.object_text.specs.Expected.{opener, closer, Comes, Moves, AllCanCome, IsNodeIf};
-ghost use Rattle.object_text.specs.Expected.{HasObjects, NoClass, IsResolved, IsOver};
+ghost use Rattle.object_text.specs.Expected.{HasObjects, NoClass, ResolvesTo, IsOver};
 ghost use Rattle.object_text.specs.Pieces.{IsNeutral, IsAtom, IsNoAtom, IsOption, IsNoOption};
 ghost use Rattle.object_text.specs.Pieces.{IsProduct, IsNoByte, IsList, IsFurther, IsNoFurther};
 ghost use Rattle.object_text.specs.States.{state};
@@ -304,7 +304,7 @@ impl Reader {
 fn resolved(system: &System, e: ExprId) -> ExprId
     requires in_range { e.0 < length system.now.nodes }
     requires objects { HasObjects system.now }
-    ensures resolved { IsResolved system.now e.0 result.0 }
+    ensures resolved { ResolvesTo system.now e.0 result.0 }
 {
     system.known();
     let mut e = e;

@@ -7,7 +7,7 @@ ghost use Rattle.bz_model.specs.ObjectText.{leaf_text};
 ghost use Rattle.object_store.specs.Walk.{HasToken};
 ghost use Rattle.object_text.specs.Output.{grown, opened, labelled_leaf};
 ghost use Rattle.object_text.specs.Printing.{Prints, ArePrinted, AreWholly, IsNextNode, IsBegun};
-ghost use Rattle.object_text.specs.Printing.{ExpandsIf, IsFront, IsNext, TakesToken};
+ghost use Rattle.object_text.specs.Printing.{ExpandsIf, IsFront, IsToPrint, TakesToken};
 
 use crate::output::{Form, Output};
 use crate::print_stack::{Todo, Todos};
@@ -128,7 +128,7 @@ fn print_token(
 ) -> Result<(), AllocError>
     requires unlabelled { system.now.mode ≡ Mode.Unlabelled → label ≡ None }
     requires has_token { HasToken system.now e.0 }
-    requires next { IsNext system.now e token label todos.old output.old }
+    requires next { IsToPrint system.now e token label todos.old output.old }
     ensures takes { OnOk result (
         TakesToken system.now e token label todos.old output.old todos.new output.new) }
 {

@@ -3,7 +3,7 @@ ghost use Rattle.std.specs.Prelude.{◌≡◌, ℕ, ◌+◌, ◌<◌, ◌≤◌,
 ghost use Rattle.std.specs.Prelude.{IfSome, IsNone};
 ghost use Rattle.bz_model.specs.Fraction.{ratio, IsFractionBits};
 ghost use Rattle.bz_model.specs.Spec.{Spec};
-ghost use Rattle.bz_model.specs.Oracle.{IsSound, AreCosts, cost_between};
+ghost use Rattle.bz_model.specs.Oracle.{IsSoundTable, AreCosts, cost_between};
 ghost use Rattle.bz_model.specs.declared.cell.Bounds.{Bounds};
 ghost use Rattle.rounded_map.specs.RoundedMap.{setting, values_up, IsPostFixed};
 ghost use Rattle.rounded_map.specs.Bounding.{AreBelow};

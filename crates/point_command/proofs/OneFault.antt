@@ -6,7 +6,7 @@ use Rattle.bz_model.specs.Spec.{Spec, Mode, body_of}
 use Rattle.class_system.proofs.OneLimit.{one_limit, no_limit}
 use Rattle.pointing.specs.Atoms.{HasAtom}
 use Rattle.pointing.specs.Calls.{IsRanged, LacksAtom, TellsFault}
-use Rattle.pointing.specs.PointedSpec.{IsPlain, pointed_spec}
+use Rattle.pointing.specs.PointedSpec.{CanBeMarked, pointed_spec}
 use Rattle.pointing.specs.declared.fault.PointFault.{PointFault}
 use Rattle.pointing.specs.declared.fault.PointFault.TheVariants as fault
 use Rattle.point_command.specs.PointCommand.{CanBePointed}
@@ -25,7 +25,7 @@ two-modes : (s : Spec) → s.mode ≡ Mode.Labelled → s.mode ≡ Mode.Unlabell
 two-modes s a b = let e : Mode.Labelled ≡ Mode.Unlabelled = sym a ∙ b in absurd (cc)
 
 -- plain ranges have no first one that isn't
-no-ranged : (s : Spec) (e : ℕ) → IsRanged s e → IsPlain s → ⊥
+no-ranged : (s : Spec) (e : ℕ) → IsRanged s e → CanBeMarked s → ⊥
 no-ranged s e h p = h.not_plain (p.ranges.at e h.node h.range h.is_node h.is_range)
 
 -- an object with an atom isn't without one

@@ -11,7 +11,7 @@ use Rattle.well_founded.specs.EmptyObjects.{answer_at}
 use Rattle.pointing.specs.Atoms.{AreAtomic, atomic_classes}
 use Rattle.pointing.specs.Calls.{TellsFault}
 use Rattle.pointing.specs.Correspondence.{IsPointable}
-use Rattle.pointing.specs.PointedSpec.{IsPlain, pointed_spec}
+use Rattle.pointing.specs.PointedSpec.{CanBeMarked, pointed_spec}
 use Rattle.pointing.specs.declared.fault.PointFault.{PointFault}
 use Rattle.call_stages.specs.Ends.{output, EndsBy}
 use Rattle.call_stages.specs.Outcomes.{Never, Says, IsOne}
@@ -35,7 +35,7 @@ can_be s able has right within =
     record { able = able; body = b.0; is_body = b.1; an_atom = right.right 0 b.0 b.1 has; within = within }
 
 -- the tables of a founded specification can be pointed where they are plain
-pub pointable : (s system : Spec) → system ≡ s → IsSound system → IsWithinLimits system → IsPlain s → ((e : ℕ) → e < length s.nodes → (o : Object) × Belongs s e o) → IsPointable s
+pub pointable : (s system : Spec) → system ≡ s → IsSound system → IsWithinLimits system → CanBeMarked s → ((e : ℕ) → e < length s.nodes → (o : Object) × Belongs s e o) → IsPointable s
 pointable s system same sound within is_plain inhabited = record {
   sound = subst IsSound same sound;
   few = (subst IsWithinLimits same within).classes;

@@ -7,7 +7,7 @@ use Rattle.object_store.specs.declared.visit.Visit.{Visit}
 use Rattle.object_store.specs.declared.visit.Visit.TheVariants as visit
 use Rattle.object_store.specs.Seen.{nodes_below, parts_at}
 use Rattle.object_store.specs.Tokens.{tokens_of, tokens_all, BelongEach}
-use Rattle.object_store.specs.Waiting.{joined, Waits, Shows, ShowsClass, ShowsTuple, ShowsLeaf, ShowsPick, ShowsList}
+use Rattle.object_store.specs.Waiting.{joined, AreWaiting, Shows, ShowsClass, ShowsTuple, ShowsLeaf, ShowsPick, ShowsList}
 use Rattle.pointing.specs.Writing.{token_at, ToCome, Copies}
 use Rattle.pointing.proofs.Searches.{as-many}
 
@@ -21,7 +21,7 @@ pub record Below (s : Spec) (e : ℕ) (es : List ℕ) (os : Objects) (v : Visit)
   pub put : fs ≡ nodes ++ es
   pub many : length nodes ≡ length (nodes_below s e v)
   pub each : length nodes ≡ count members
-  pub waits : Waits s fs (joined members others) us
+  pub waits : AreWaiting s fs (joined members others) us
   pub spelled : tokens_of object ≡ token_at v ++ tokens_all members
 
 module _ (s : Spec) (e : ℕ) (es : List ℕ) where
@@ -96,7 +96,7 @@ copies-all after (x ∷ nodes) es (more o os) others w e h =
 -- The first of some objects is written by its visit and by what stands below it.
 pub record CopiesOn (s : Spec) (v : Visit) (k n : ℕ) (after : ToCome) (fs : List ℕ) (us : List Token) (w : List Token) : Type 0 where
   pub objects : Objects
-  pub waits : Waits s fs objects us
+  pub waits : AreWaiting s fs objects us
   pub copies : Copies k (Copies n after) fs objects (w ++ token_at v)
 
 -- Copying the first of n + 1 waiting objects goes on, past its visit, with its token written and

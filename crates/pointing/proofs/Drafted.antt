@@ -15,7 +15,7 @@ use Rattle.pointing.specs.PointedSpec.{pointed_by, pointed_spec, pointed_names, 
 use Rattle.pointing.specs.LaidOut.{all_nodes, tops, laid_each, plain}
 use Rattle.pointing.specs.Building.{Layout, IsLayout}
 use Rattle.pointing.specs.Correspondence.{IsPointable}
-use Rattle.pointing.specs.Calls.{LacksAtom, BreaksLimit}
+use Rattle.pointing.specs.Calls.{LacksAtom, PointedBreaksLimit}
 use Rattle.pointing.proofs.TaskSteps.{joined-parts, copied-list}
 use Rattle.pointing.proofs.Rounds.{are-atomic}
 use Rattle.pointing.proofs.Onward.{none-found}
@@ -59,7 +59,7 @@ pub lacks-atom : (s : Spec) → IsPointable s → answer_at (atomic_classes s) 0
 lacks-atom s able e = record { is_plain = able.is_plain; none = λ body o at k. none-found s able 0 body o at e k }
 
 -- A limit is broken.
-pub breaks-limit : (s d : Spec) (fault : BuildFault) → IsPointable s → answer_at (atomic_classes s) 0 ≡ true → d ≡ pointed_spec s → fault ≢ limit.OutOfMemory → TellsLimit d fault → BreaksLimit s fault
+pub breaks-limit : (s d : Spec) (fault : BuildFault) → IsPointable s → answer_at (atomic_classes s) 0 ≡ true → d ≡ pointed_spec s → fault ≢ limit.OutOfMemory → TellsLimit d fault → PointedBreaksLimit s fault
 breaks-limit s d fault able e same other broken =
     let b = has_body s able.sound 0 able.sound.a_class in
     record { is_plain = able.is_plain; body = b.0; is_body = b.1; an_atom = (are-atomic s able.inhabited able.sound able.is_plain).right 0 b.0 b.1 e; no_memory_fault = other; broken = subst (λ z. TellsLimit z fault) same broken }

@@ -11,8 +11,8 @@ use Rattle.object_store.specs.declared.token.Token.{Token}
 use Rattle.object_store.specs.declared.visit.Visit.{Visit}
 use Rattle.object_store.specs.Seen.{parts_at}
 use Rattle.object_store.specs.Tokens.{BelongEach, AreOf}
-use Rattle.object_store.specs.Waiting.{joined, Waits, Shows, ShowsClass, ShowsTuple, ShowsLeaf, ShowsPick, ShowsList}
-use Rattle.object_store.specs.Walking.{Walking, IsVisit, IsEnd, HasNoObject}
+use Rattle.object_store.specs.Waiting.{joined, AreWaiting, Shows, ShowsClass, ShowsTuple, ShowsLeaf, ShowsPick, ShowsList}
+use Rattle.object_store.specs.Walking.{Walking, IsVisitOfWalk, IsEnd, HasNoObjects}
 use Rattle.object_store.proofs.Waiting.{asked, nothing-waits}
 use Rattle.pointing.specs.Ways.{here_or, way, way_among, place, places, finished, opened, Search, way_from, IsNearer, HasPassed}
 use Rattle.pointing.specs.declared.ways.Level.{Level}
@@ -158,7 +158,7 @@ module _ (s : Spec) (e : ℕ) (es : List ℕ) (os : Objects) (ts : List Token) (
       ∙ append-nil (places ls) ∙ ap places (sym l)
 
   -- an object with parts is begun
-  parts-passed : (members others : Objects) (parts : ℕ) (now : Search) → now.levels ≡ opened parts ls → now.before ≡ n → parts ≡ count members → sizes os ≡ sizes members + sizes others → way_from ls n os ≡ here_or (sizes members - n) (places ls ++ way_among 0 members n) (way_from (finished ls) (n - sizes members) others) → Waits s fs (joined members others) us → IsNearer s begun now os fs us
+  parts-passed : (members others : Objects) (parts : ℕ) (now : Search) → now.levels ≡ opened parts ls → now.before ≡ n → parts ≡ count members → sizes os ≡ sizes members + sizes others → way_from ls n os ≡ here_or (sizes members - n) (places ls ++ way_among 0 members n) (way_from (finished ls) (n - sizes members) others) → AreWaiting s fs (joined members others) us → IsNearer s begun now os fs us
   parts-passed members others parts now l b many sized same_way waits =
       record {
         objects = joined members others;
@@ -182,13 +182,13 @@ module _ (s : Spec) (e : ℕ) (es : List ℕ) (os : Objects) (ts : List Token) (
 -- What a search has come to in a walk over an object.
 pub record IsSearching (s : Spec) (o : Object) (atom : ℕ) (walk : Walking) (now : Search) : Type 0 where
   pub objects : Objects
-  pub waits : Waits s walk.waiting objects walk.left
+  pub waits : AreWaiting s walk.waiting objects walk.left
   pub within : now.before < sizes objects
   pub same : way_from now.levels now.before objects ≡ way o atom
 
 -- A search without levels, with an object that has the atom waiting, is a search for that atom in
 -- the object.
-pub search-start : (s : Spec) (o : Object) (atom : ℕ) (walk : Walking) (now : Search) → now.levels ≡ [] → now.before ≡ atom → atom < size o → Waits s walk.waiting (more o none) walk.left → IsSearching s o atom walk now
+pub search-start : (s : Spec) (o : Object) (atom : ℕ) (walk : Walking) (now : Search) → now.levels ≡ [] → now.before ≡ atom → atom < size o → AreWaiting s walk.waiting (more o none) walk.left → IsSearching s o atom walk now
 search-start s o atom walk now l b lt waits = record {
   objects = more o none;
   waits = waits;
@@ -197,27 +197,27 @@ search-start s o atom walk now l b lt waits = record {
 }
 
 -- Where a search passes a visit without finding the atom, it goes on as a search for the same atom.
-pub search-on : (s : Spec) (o : Object) (atom : ℕ) (walk next : Walking) (e : ℕ) (v : Visit) (before now : Search) → walk.system ≡ s → IsVisit walk next e v → HasPassed s e v before now false → IsSearching s o atom walk before → IsSearching s o atom next now
+pub search-on : (s : Spec) (o : Object) (atom : ℕ) (walk next : Walking) (e : ℕ) (v : Visit) (before now : Search) → walk.system ≡ s → IsVisitOfWalk walk next e v → HasPassed s e v before now false → IsSearching s o atom walk before → IsSearching s o atom next now
 search-on s o atom walk next e v before now system k passed h =
-    let shown : Shows walk.system e k.others h.objects walk.left v next.waiting next.left = k.shows h.objects (subst (λ z. Waits z walk.waiting h.objects walk.left) (sym system) h.waits) in
+    let shown : Shows walk.system e k.others h.objects walk.left v next.waiting next.left = k.shows h.objects (subst (λ z. AreWaiting z walk.waiting h.objects walk.left) (sym system) h.waits) in
     let g = passed.on k.others h.objects walk.left next.waiting next.left (subst (λ z. Shows z e k.others h.objects walk.left v next.waiting next.left) system shown) h.within in
     record { objects = g.objects; waits = g.waits; within = g.within; same = sym g.same ∙ h.same }
 
 -- Where a search passes a visit and finds the atom there, the places at its levels are the way to
 -- the atom.
-pub search-found : (s : Spec) (o : Object) (atom : ℕ) (walk next : Walking) (e : ℕ) (v : Visit) (before now : Search) → walk.system ≡ s → IsVisit walk next e v → HasPassed s e v before now true → IsSearching s o atom walk before → places now.levels ≡ way o atom
+pub search-found : (s : Spec) (o : Object) (atom : ℕ) (walk next : Walking) (e : ℕ) (v : Visit) (before now : Search) → walk.system ≡ s → IsVisitOfWalk walk next e v → HasPassed s e v before now true → IsSearching s o atom walk before → places now.levels ≡ way o atom
 search-found s o atom walk next e v before now system k passed h =
-    let shown : Shows walk.system e k.others h.objects walk.left v next.waiting next.left = k.shows h.objects (subst (λ z. Waits z walk.waiting h.objects walk.left) (sym system) h.waits) in
+    let shown : Shows walk.system e k.others h.objects walk.left v next.waiting next.left = k.shows h.objects (subst (λ z. AreWaiting z walk.waiting h.objects walk.left) (sym system) h.waits) in
     sym (passed.on k.others h.objects walk.left next.waiting next.left (subst (λ z. Shows z e k.others h.objects walk.left v next.waiting next.left) system shown) h.within) ∙ h.same
 
 -- A walk doesn't come to its end while a search in it is going on, as the atom that is searched for
 -- still waits.
 pub never-ends : (s : Spec) (o : Object) (atom : ℕ) (walk next : Walking) (now : Search) → IsEnd walk next → IsSearching s o atom walk now → ⊥
 never-ends s o atom walk next now k h =
-    let nothing = nothing-waits s h.objects walk.left (subst (λ es. Waits s es h.objects walk.left) k.nothing h.waits) in
+    let nothing = nothing-waits s h.objects walk.left (subst (λ es. AreWaiting s es h.objects walk.left) k.nothing h.waits) in
     let none_there : sizes h.objects ≡ 0 = ap sizes nothing.0 in
     let within = h.within in absurd (omega arith)
 
 -- A walk in which a search is going on doesn't come to tokens of no object.
-pub never-without : (s : Spec) (o : Object) (atom : ℕ) (walk next : Walking) (now : Search) → walk.system ≡ s → HasNoObject walk next → IsSearching s o atom walk now → ⊥
+pub never-without : (s : Spec) (o : Object) (atom : ℕ) (walk next : Walking) (now : Search) → walk.system ≡ s → HasNoObjects walk next → IsSearching s o atom walk now → ⊥
 never-without s o atom walk next now system k h = k.never (subst (λ z. AreOf z walk.waiting walk.left) (sym system) (asked s walk.waiting h.objects walk.left h.waits))

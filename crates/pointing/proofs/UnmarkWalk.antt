@@ -7,11 +7,11 @@ use Rattle.class_system.specs.declared.ids.ExprId.{ExprId}
 use Rattle.object_store.specs.declared.token.Token.{Token}
 use Rattle.object_store.specs.declared.visit.Visit.{Visit}
 use Rattle.object_store.specs.Tokens.{tokens_of, IsOf, AreOf, size_of}
-use Rattle.object_store.specs.Waiting.{Waits, Shows}
-use Rattle.object_store.specs.Walking.{Walking, IsVisit, IsEnd, HasNoObject}
+use Rattle.object_store.specs.Waiting.{AreWaiting, Shows}
+use Rattle.object_store.specs.Walking.{Walking, IsVisitOfWalk, IsEnd, HasNoObjects}
 use Rattle.object_store.proofs.Waiting.{nothing-waits}
 use Rattle.pointing.specs.Atoms.{is_atomic_node}
-use Rattle.pointing.specs.Calls.{AreMarked}
+use Rattle.pointing.specs.Calls.{AreMarkedAt}
 use Rattle.pointing.specs.Marking.{Marks}
 use Rattle.pointing.specs.PointedSpec.{pointed_spec}
 use Rattle.pointing.specs.Unmarking.{Unmarks, Reads, Unmarking, ReadsOn, with_dues, IsSome, SameReading, LeadsTo, ReadsTo, HasRead}
@@ -23,46 +23,46 @@ use Rattle.pointing.proofs.Marked.{same-body}
 pub record IsUnmarking (s p : Spec) (tokens : List Token) (walk : Walking) (now : Unmarking) : Type 0 where
   pub system : walk.system ≡ p
   pub asked : AreOf p walk.waiting walk.left
-  pub on : (plain : List Token) (atom : ℕ) → AreMarked s plain atom tokens → ReadsTo s p plain atom now walk.waiting walk.left
+  pub on : (plain : List Token) (atom : ℕ) → AreMarkedAt s plain atom tokens → ReadsTo s p plain atom now walk.waiting walk.left
 
 -- A walk that starts with the tokens of a pointed object, its marked body due and nothing written
 -- reads the object that it came from.
-pub unmarking-start : (s p : Spec) (tokens : List Token) (walk : Walking) (now : Unmarking) (body : ExprId) → p ≡ pointed_spec s → body_of s 0 ≡ Some body.0 → walk.system ≡ p → IsOf p 0 tokens → AreOf p walk.waiting walk.left ↔ IsOf p 0 tokens → ((of : IsOf p 0 tokens) → (walk.waiting ≡ of.body ∷ []) × Waits p walk.waiting (more of.object none) walk.left) → now.dues ≡ due.Marked body ∷ [] → now.written ≡ [] → IsUnmarking s p tokens walk now
+pub unmarking-start : (s p : Spec) (tokens : List Token) (walk : Walking) (now : Unmarking) (body : ExprId) → p ≡ pointed_spec s → body_of s 0 ≡ Some body.0 → walk.system ≡ p → IsOf p 0 tokens → AreOf p walk.waiting walk.left ↔ IsOf p 0 tokens → ((of : IsOf p 0 tokens) → (walk.waiting ≡ of.body ∷ []) × AreWaiting p walk.waiting (more of.object none) walk.left) → now.dues ≡ due.Marked body ∷ [] → now.written ≡ [] → IsUnmarking s p tokens walk now
 unmarking-start s p tokens walk now body is at system of asked waits a c = record {
   system = system;
   asked = asked.1 of;
   on = λ plain atom are.
-      let w = (subst (λ z. (of : IsOf z 0 tokens) → (walk.waiting ≡ of.body ∷ []) × Waits z walk.waiting (more of.object none) walk.left) is waits) are.to in
+      let w = (subst (λ z. (of : IsOf z 0 tokens) → (walk.waiting ≡ of.body ∷ []) × AreWaiting z walk.waiting (more of.object none) walk.left) is waits) are.to in
       let marks : Marks s (is_atomic_node s) body.0 are.from.object atom are.to.object = subst (λ z. Marks s (is_atomic_node s) z are.from.object atom are.to.object) (same-body s (is_atomic_node s) 0 are.from.body body.0 are.from.is_body at) are.marks in
       let number_is : size_of [] + atom ≡ atom = (let f : size_of [] ≡ 0 = refl in omega arith) in
       let first : Unmarks s body.0 (Reads s plain atom []) are.to.object none [] = record { atom = atom; object = are.from.object; marks = marks; rest = (refl, are.from.spelled, number_is) } in
       record {
         objects = more are.to.object none;
-        waits = subst (λ z. Waits z walk.waiting (more are.to.object none) walk.left) (sym is) w.1;
+        waits = subst (λ z. AreWaiting z walk.waiting (more are.to.object none) walk.left) (sym is) w.1;
         reads = subst (λ z. Reads s plain atom z now.told (more are.to.object none) now.written) (sym a) (subst (λ z. Reads s plain atom (due.Marked body ∷ []) now.told (more are.to.object none) z) (sym c) first);
       };
 }
 
 -- Where the visit of a node was read, a walk over a marked object that reads what it came from goes
 -- on as such a walk.
-pub unmarking-on : (s p : Spec) (tokens : List Token) (walk next : Walking) (e : ℕ) (v : Visit) (before now : Unmarking) → IsVisit walk next e v → HasRead s p e v before now → IsUnmarking s p tokens walk before → IsUnmarking s p tokens next now
+pub unmarking-on : (s p : Spec) (tokens : List Token) (walk next : Walking) (e : ℕ) (v : Visit) (before now : Unmarking) → IsVisitOfWalk walk next e v → HasRead s p e v before now → IsUnmarking s p tokens walk before → IsUnmarking s p tokens next now
 unmarking-on s p tokens walk next e v before now k read h = record {
   system = k.system ∙ h.system;
   asked = subst (λ z. AreOf z next.waiting next.left) h.system (k.same.0 (subst (λ z. AreOf z walk.waiting walk.left) (sym h.system) h.asked));
   on = λ plain atom are.
       let c = h.on plain atom are in
-      let shown : Shows walk.system e k.others c.objects walk.left v next.waiting next.left = k.shows c.objects (subst (λ z. Waits z walk.waiting c.objects walk.left) (sym h.system) c.waits) in
+      let shown : Shows walk.system e k.others c.objects walk.left v next.waiting next.left = k.shows c.objects (subst (λ z. AreWaiting z walk.waiting c.objects walk.left) (sym h.system) c.waits) in
       read.on plain atom k.others c.objects walk.left next.waiting next.left (subst (λ z. Shows z e k.others c.objects walk.left v next.waiting next.left) h.system shown) c.reads;
 }
 
-pub unmarking-never : (s p : Spec) (tokens : List Token) (walk next : Walking) (now : Unmarking) → HasNoObject walk next → IsUnmarking s p tokens walk now → ⊥
+pub unmarking-never : (s p : Spec) (tokens : List Token) (walk next : Walking) (now : Unmarking) → HasNoObjects walk next → IsUnmarking s p tokens walk now → ⊥
 unmarking-never s p tokens walk next now k h = k.never (subst (λ z. AreOf z walk.waiting walk.left) (sym h.system) h.asked)
 
 -- At the end nothing is left to be read.
-pub unmarking-end : (s p : Spec) (tokens : List Token) (walk next : Walking) (now : Unmarking) (plain : List Token) (atom : ℕ) → AreMarked s plain atom tokens → IsEnd walk next → IsUnmarking s p tokens walk now → ReadsOn s plain atom now none
+pub unmarking-end : (s p : Spec) (tokens : List Token) (walk next : Walking) (now : Unmarking) (plain : List Token) (atom : ℕ) → AreMarkedAt s plain atom tokens → IsEnd walk next → IsUnmarking s p tokens walk now → ReadsOn s plain atom now none
 unmarking-end s p tokens walk next now plain atom are k h =
     let c = h.on plain atom are in
-    let nothing = nothing-waits p c.objects walk.left (subst (λ z. Waits p z c.objects walk.left) k.nothing c.waits) in
+    let nothing = nothing-waits p c.objects walk.left (subst (λ z. AreWaiting p z c.objects walk.left) k.nothing c.waits) in
     subst (ReadsOn s plain atom now) nothing.0 c.reads
 
 -- Where no object waits, nothing is due.

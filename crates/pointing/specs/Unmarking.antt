@@ -10,7 +10,7 @@ use Rattle.object_store.specs.declared.token.Token.{Token}
 use Rattle.object_store.specs.declared.token.Token.TheVariants as token
 use Rattle.object_store.specs.declared.visit.Visit.{Visit}
 use Rattle.object_store.specs.Tokens.{tokens_of, tokens_all, size_of}
-use Rattle.object_store.specs.Waiting.{Waits, Shows}
+use Rattle.object_store.specs.Waiting.{AreWaiting, Shows}
 use Rattle.well_founded.specs.EmptyObjects.{answer_at}
 use Rattle.pointing.specs.Atoms.{is_atomic_node}
 use Rattle.pointing.specs.Marking.{Marks, MarksOne, Splits, choices}
@@ -135,7 +135,7 @@ pub record LeadsTo (s : Spec) (e now : ℕ) (old new : List Token) : Type 0 wher
 pub record ReadsTo (s p : Spec) (whole : List Token) (atom : ℕ) (now : Unmarking) (fs : List ℕ)
     (us : List Token) : Type 0 where
   pub objects : Objects
-  pub waits : Waits p fs objects us
+  pub waits : AreWaiting p fs objects us
   pub reads : ReadsOn s whole atom now objects
 
 -- The visit of a node of p was read, for whatever whole and atom.

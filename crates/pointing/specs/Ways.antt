@@ -8,7 +8,7 @@ use Rattle.bz_model.specs.Object.Object.{Unit_, Dot, Pick, Tuple, SeqOf, SetOf, 
 use Rattle.bz_model.specs.Measures.{size, sizes}
 use Rattle.object_store.specs.declared.token.Token.{Token}
 use Rattle.object_store.specs.declared.visit.Visit.{Visit}
-use Rattle.object_store.specs.Waiting.{Waits, Shows}
+use Rattle.object_store.specs.Waiting.{AreWaiting, Shows}
 use Rattle.pointing.specs.declared.ways.Level.{Level}
 
 -- The first of two lists where the number is above 0, else the second.
@@ -75,7 +75,7 @@ way_from levels n (more o os) =
 pub record IsNearer (s : Spec) (before now : Search) (os : Objects) (fs : List ℕ)
     (us : List Token) : Type 0 where
   pub objects : Objects
-  pub waits : Waits s fs objects us
+  pub waits : AreWaiting s fs objects us
   pub within : now.before < sizes objects
   pub same : way_from before.levels before.before os ≡ way_from now.levels now.before objects
 

@@ -7,7 +7,7 @@ use Rattle.object_store.specs.declared.token.Token.TheVariants as token
 use Rattle.object_store.specs.declared.visit.Visit.{Visit}
 use Rattle.object_store.specs.declared.visit.Visit.TheVariants as visit
 use Rattle.object_store.specs.Tokens.{tokens_of}
-use Rattle.object_store.specs.Waiting.{Waits, Shows}
+use Rattle.object_store.specs.Waiting.{AreWaiting, Shows}
 use Rattle.pointing.specs.Atoms.{is_atomic_node}
 use Rattle.pointing.specs.Marking.{Marks}
 use Rattle.pointing.specs.Ways.{way}
@@ -95,7 +95,7 @@ pub record SameWriting (before now : Writing) : Type 0 where
 pub record ComesTo (s : Spec) (whole : List Token) (now : Writing) (fs : List ℕ)
     (us : List Token) : Type 0 where
   pub objects : Objects
-  pub waits : Waits s fs objects us
+  pub waits : AreWaiting s fs objects us
   pub writes : WritesOn s whole now fs objects
 
 -- The visit of a node was written.

@@ -12,7 +12,7 @@ ghost use Rattle.object_store.specs.Tokens.{IsOf};
 ghost use Rattle.object_store.specs.declared.token.Token as model;
 ghost use Rattle.object_store.specs.declared.visit.Visit.TheVariants.{Product, Seq};
 ghost use Rattle.pointing.specs.Atoms.{atomic_nodes, is_atomic_node};
-ghost use Rattle.pointing.specs.Calls.{AreMarked};
+ghost use Rattle.pointing.specs.Calls.{AreMarkedAt};
 ghost use Rattle.pointing.specs.Marking.{choices, choice_at};
 ghost use Rattle.pointing.specs.Ways.{way};
 ghost use Rattle.pointing.specs.Writing.{token_at, pick_of, WritesOn, IsDue, SameWriting};
@@ -44,7 +44,7 @@ pub(crate) fn with_mark(
     requires atomic { atomic.now ≡ atomic_nodes system.now }
     requires is_of { IsOf system.now 0 shape.now.items }
     ensures marked { IfOk result (λ m. (tokens : List model.Token) (atom : ℕ)
-        → (are : AreMarked system.now shape.now.items atom tokens)
+        → (are : AreMarkedAt system.now shape.now.items atom tokens)
         → places.now ≡ way are.from.object atom → m.items ≡ tokens) }
 {
     system.known();

@@ -4,9 +4,9 @@ ghost use Rattle.bz_model.specs.Spec as model;
 ghost use Rattle.class_system.specs.Limits.{IsWithinLimits};
 ghost use Rattle.object_store.specs.Tokens.{size_of, IsOf};
 ghost use Rattle.pointing.specs.Atoms.{is_atomic};
-ghost use Rattle.pointing.specs.Calls.{AreMarked, IsFirstRanged, IsPointingOf, TellsFault};
+ghost use Rattle.pointing.specs.Calls.{AreMarkedAt, IsFirstRanged, IsPointingOf, TellsFault};
 ghost use Rattle.pointing.specs.Forms.{all_forms};
-ghost use Rattle.pointing.specs.PointedSpec.{IsPlain, pointed_by, pointed_spec};
+ghost use Rattle.pointing.specs.PointedSpec.{CanBeMarked, pointed_by, pointed_spec};
 
 use crate::atoms::{atomic_classes, atomic_nodes, is_marked};
 use crate::building::lay_out;
@@ -56,7 +56,7 @@ pub struct Marked {
 pub fn point(alloc: Global, founded: &Founded) -> Result<Pointed, PointFault>
     ensures system { IfOk result (λ p. p.system ≡ pointed_spec founded.now) }
     ensures pointing { IfOk result (IsPointingOf founded.now) }
-    ensures plain { OnOk result (IsPlain founded.now) }
+    ensures plain { OnOk result (CanBeMarked founded.now) }
     ensures limits { OnOk result (IsWithinLimits (pointed_spec founded.now)) }
     ensures fault { IfErr result (TellsFault founded.now) }
 {
@@ -101,7 +101,7 @@ impl Pointed {
         requires same { IsPointingOf founded.now self.now }
         requires is_of { IsOf founded.now 0 shape.now.items }
         requires there { atom < size_of shape.now.items }
-        ensures marked { IfOk result (λ m. AreMarked founded.now shape.now.items atom m.items) }
+        ensures marked { IfOk result (λ m. AreMarkedAt founded.now shape.now.items atom m.items) }
         ensures size { IfOk result (λ m. size_of m.items ≡ size_of shape.now.items) }
     {
         founded.known();
@@ -121,7 +121,7 @@ impl Pointed {
         requires same { IsPointingOf founded.now self.now }
         requires is_of { IsOf self.now.system 0 shape.now.items }
         requires few { length shape.now.items < 2 ^ 32 }
-        ensures marked { IfOk result (λ r. AreMarked founded.now r.shape.items r.atom
+        ensures marked { IfOk result (λ r. AreMarkedAt founded.now r.shape.items r.atom
             shape.now.items) }
         ensures size { IfOk result (λ r. size_of r.shape.items ≡ size_of shape.now.items) }
         ensures there { IfOk result (λ r. r.atom < size_of r.shape.items) }
@@ -139,7 +139,7 @@ impl Pointed {
 fn first_ranged(system: &System) -> Option<ExprId>
     requires unlabelled { system.now.mode ≡ model.Mode.Unlabelled }
     ensures found { IfSome result (λ e. IsFirstRanged system.now e.0) }
-    ensures none { IfNone result (IsPlain system.now) }
+    ensures none { IfNone result (CanBeMarked system.now) }
 {
     system.known();
     for e in 0..system.node_count() {

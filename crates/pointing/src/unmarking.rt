@@ -11,7 +11,7 @@ ghost use Rattle.object_store.specs.Tokens.{IsOf, size_of};
 ghost use Rattle.object_store.specs.declared.token.Token as model;
 ghost use Rattle.object_store.specs.declared.visit.Visit.TheVariants.{Atom, Union, Product};
 ghost use Rattle.pointing.specs.Atoms.{atomic_nodes};
-ghost use Rattle.pointing.specs.Calls.{AreMarked};
+ghost use Rattle.pointing.specs.Calls.{AreMarkedAt};
 ghost use Rattle.pointing.specs.Correspondence.{IsPointable};
 ghost use Rattle.pointing.specs.PointedSpec.{pointed_spec};
 ghost use Rattle.pointing.specs.Writing.{token_at};
@@ -49,7 +49,7 @@ pub(crate) fn without_mark(
     requires pointed { pointed.now ≡ pointed_spec system.now }
     requires is_of { IsOf pointed.now 0 shape.now.items }
     ensures unmarked { IfOk result (λ r. (plain : List model.Token) (atom : ℕ)
-        → AreMarked system.now plain atom shape.now.items
+        → AreMarkedAt system.now plain atom shape.now.items
         → (r.0.items ≡ plain) × (r.1 ≡ atom)) }
 {
     system.known();

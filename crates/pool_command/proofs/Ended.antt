@@ -9,11 +9,11 @@ use Rattle.size_window.specs.declared.ending.Ending.{Ending as Told}
 use Rattle.size_window.specs.declared.ending.Ending.TheVariants as told
 use Rattle.size_window.specs.declared.ending.Straddle.TheVariants as straddle
 use Rattle.size_window.specs.declared.turned.Turned.TheVariants as answer
-use Rattle.size_window.specs.RunByBits.{State}
+use Rattle.size_window.specs.RunByBits.{RunState}
 use Rattle.size_window.specs.Drawing.{AreLimits, ending_of}
 use Rattle.size_window.specs.Turn.{TellsOpen, entry_of, turns_of}
 use Rattle.session_pool.specs.Member.{MemberState}
-use Rattle.session_pool.specs.Interleaving.{Setting, setting, EndedRightly}
+use Rattle.session_pool.specs.Interleaving.{Shared, setting, EndedRightly}
 use Rattle.call_stages.specs.Lines.{open_line}
 use Rattle.call_stages.specs.Stages.{files}
 use Rattle.sample_command.specs.Drawn.{Lists, closing_lines, open_lines}
@@ -41,7 +41,7 @@ open-told table told.TurnLimit h = refl
 open-told table told.ReadFault h = refl
 
 -- what the drawings of a pool over a base share
-abbrev pub shared_of : PoolSetting → (contents : List ℕ → Option (List ℕ)) → Setting
+abbrev pub shared_of : PoolSetting → (contents : List ℕ → Option (List ℕ)) → Shared
 shared_of p contents = setting p.setting.spec (ratio p.setting.num p.setting.den) p.setting.bits (table_of p) contents
 
 -- a drawing is asked as often as its closing states
@@ -101,4 +101,4 @@ module _ (p : PoolSetting) (contents : List ℕ → Option (List ℕ)) (begun co
     closing-same = ap (closing_by m) is ∙ closing-is p.setting.spec (ratio p.setting.num p.setting.den) p.setting.bits (table_of p) p.limits (met (TapeSource.Named name) contents met-between.before met-between.now) chosen m.drawing m.tape.used most over-name.0 e m.drawing.kept m.drawing.thrown m.tape.used m.drawing.turns at-end-of refl refl refl refl
 
     pub asks-same : asks_to_end (ending_of e) over-name.0.course.state.turns ≡ asked_until m.drawing m.drawing.ending
-    asks-same = asks-are e over-name.0.course.state.turns ∙ ap (λ (st : State). st.turns + (1 - turns_of e)) over-name.0.drawing.state ∙ sym (ap (asked_until m.drawing) is)
+    asks-same = asks-are e over-name.0.course.state.turns ∙ ap (λ (st : RunState). st.turns + (1 - turns_of e)) over-name.0.drawing.state ∙ sym (ap (asked_until m.drawing) is)

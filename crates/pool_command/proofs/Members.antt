@@ -18,7 +18,7 @@ use Rattle.size_window.specs.Turn.{HasLabels, IfKept, entry_of, told_entry, turn
 use Rattle.session_pool.specs.declared.pooled.Pooled.{Pooled}
 use Rattle.session_pool.specs.Member.{MemberState, bits_to_nodes}
 use Rattle.session_pool.specs.Turn.{IsMemberTurn, kept_in}
-use Rattle.session_pool.specs.Interleaving.{Setting}
+use Rattle.session_pool.specs.Interleaving.{Shared}
 use Rattle.sample_command.specs.UnderWay.{IsCourseSoFar, has_failed}
 use Rattle.sample_command.proofs.OneTurn.{TellsTurn, so-far-on, entries-on, same-fault}
 use Rattle.pool_command.specs.UnderWay.{AreMoments, IsMemberUnderWay, IsCounted, asked_until}
@@ -62,10 +62,10 @@ pub moments-longer : (source : TapeSource) (failed : Bool) (begun counts later :
 moments-longer source failed begun counts later grew p = record { before = p.before; now = p.now; since = p.since; until = λ name. let up = p.until name in let more = grew name in omega (arith, up, more); reads = p.reads }
 
 -- A drawing under way stays so at later counts of failed reads, where no count is less than before.
-pub member-longer : (w : Setting) (limits : Limits) (begun counts later : List ℕ → ℕ) (m : MemberState) (most : ℕ) → ((name : List ℕ) → counts name ≤ later name) → IsMemberUnderWay w limits begun counts m most → IsMemberUnderWay w limits begun later m most
+pub member-longer : (w : Shared) (limits : Limits) (begun counts later : List ℕ → ℕ) (m : MemberState) (most : ℕ) → ((name : List ℕ) → counts name ≤ later name) → IsMemberUnderWay w limits begun counts m most → IsMemberUnderWay w limits begun later m most
 member-longer w limits begun counts later m most grew p = record { so_far = p.so_far; entries = p.entries; labels = p.labels; moments = moments-longer m.tape.source (has_failed m.drawing.ending) begun counts later grew p.moments }
 
-module _ (w : Setting) (before now : List ℕ → ℕ) (m later : MemberState) (pooled : Pooled) (h : IsMemberTurn w.spec w.x w.F w.table w.contents before now m pooled later) where
+module _ (w : Shared) (before now : List ℕ → ℕ) (m later : MemberState) (pooled : Pooled) (h : IsMemberTurn w.spec w.x w.F w.table w.contents before now m pooled later) where
   -- how a turn of a drawing that goes on is counted
   pub counted-on : m.drawing.ending ≡ None → IsCounted m.drawing.turns later.drawing.turns (asked_until later.drawing later.drawing.ending) later.drawing.ending
   counted-on going = go later.drawing.ending refl

@@ -14,7 +14,7 @@ use Rattle.session_pool.specs.Member.{MemberState}
 use Rattle.session_pool.specs.Pool.{PoolBelongs, ending_at, ending_of_member}
 use Rattle.session_pool.specs.Interleaving.{times, WasAsked}
 use Rattle.pool_command.specs.Schedule.{named, all_asked, ends_in}
-use Rattle.pool_command.specs.UnderWay.{Moment, Beginning, IsSoFar, IsUnderWay, IsBroken, IsAsked, IsFinished, IsCounted, asked_by, asked_of_member, asked_until, turns_at, turns_of_member, ended_now}
+use Rattle.pool_command.specs.UnderWay.{Moment, Beginning, IsSoFar, IsPoolRunning, IsBrokenPool, IsAsked, IsFinished, IsCounted, asked_by, asked_of_member, asked_until, turns_at, turns_of_member, ended_now}
 use Rattle.pool_command.proofs.Ends.{differs-is, times-both, times-replicated, order-stays, order-grows}
 use Rattle.pool_command.proofs.SoFar.{none-asked}
 use Rattle.pool_command.proofs.TurnsLeft.{turns_left, left_of_member, left_until}
@@ -59,7 +59,7 @@ some-is : (o : Option Told) (e : Told) → o ≡ Some e → IsSome o
 some-is o e is = subst IsSome (sym is) refl
 
 -- a drawing was asked once more
-module _ (b : Beginning) (asked : List ℕ) (old new : Moment) (order : List ℕ) (number : ℕ) (p : IsUnderWay b asked old order) (h : IsAsked old.pool number new.pool) (q : IsSoFar b (asked ++ number ∷ []) new) (within : number < length old.pool) where
+module _ (b : Beginning) (asked : List ℕ) (old new : Moment) (order : List ℕ) (number : ℕ) (p : IsPoolRunning b asked old order) (h : IsAsked old.pool number new.pool) (q : IsSoFar b (asked ++ number ∷ []) new) (within : number < length old.pool) where
   going-same : ending_at old.pool number ≡ None → ending_at new.pool number ≡ None → (i : ℕ) → asked_by new.pool i ≡ asked_by old.pool i
   going-same was is i = go (eqb_tells i number)
     where
@@ -68,7 +68,7 @@ module _ (b : Beginning) (asked : List ℕ) (old new : Moment) (order : List ℕ
       go (inr k) = ap asked_of_member (h.others i k.1)
 
   -- it had ended, or goes on
-  pub order-same : false ≡ ended_now (ending_at old.pool number) (ending_at new.pool number) → IsUnderWay b (asked ++ number ∷ []) new order
+  pub order-same : false ≡ ended_now (ending_at old.pool number) (ending_at new.pool number) → IsPoolRunning b (asked ++ number ∷ []) new order
   order-same is = record { so_far = q; order_is = p.order_is ∙ sym (go (ending_at old.pool number) (ending_at new.pool number) refl refl is) }
     where
       go : (o l : Option Told) → ending_at old.pool number ≡ o → ending_at new.pool number ≡ l → false ≡ ended_now o l → ends_in (asked_by new.pool) [] (asked ++ number ∷ []) ≡ ends_in (asked_by old.pool) [] asked
@@ -77,7 +77,7 @@ module _ (b : Beginning) (asked : List ℕ) (old new : Moment) (order : List ℕ
       go None (Some e) was now k = absurd (cc)
 
   -- it ended
-  pub order-more : true ≡ ended_now (ending_at old.pool number) (ending_at new.pool number) → IsUnderWay b (asked ++ number ∷ []) new (order ++ number ∷ [])
+  pub order-more : true ≡ ended_now (ending_at old.pool number) (ending_at new.pool number) → IsPoolRunning b (asked ++ number ∷ []) new (order ++ number ∷ [])
   order-more is = record { so_far = q; order_is = ap (λ o. o ++ number ∷ []) p.order_is ∙ sym (go (ending_at old.pool number) (ending_at new.pool number) refl refl is) }
     where
       go : (o l : Option Told) → ending_at old.pool number ≡ o → ending_at new.pool number ≡ l → true ≡ ended_now o l → ends_in (asked_by new.pool) [] (asked ++ number ∷ []) ≡ ends_in (asked_by old.pool) [] asked ++ number ∷ []
@@ -99,7 +99,7 @@ module _ (b : Beginning) (asked : List ℕ) (old new : Moment) (order : List ℕ
           ∙ ap (λ t. t + 1) (turns-asked b asked old p.so_far number was within)
 
 -- a pool that is under way can be broken off
-pub broken-by : (b : Beginning) (asked : List ℕ) (n : Moment) → IsSoFar b asked n → IsBroken b n
+pub broken-by : (b : Beginning) (asked : List ℕ) (n : Moment) → IsSoFar b asked n → IsBrokenPool b n
 broken-by b asked n p = record { asked = asked; so_far = p }
 
 -- a number asked once more
@@ -112,18 +112,18 @@ asked-more asked n x = append_assoc asked (replicate n x) (x ∷ []) ∙ ap (λ 
 
 -- What is known of a drawing that is asked until it ends: how often it was asked; if it has ended, as often as that took.
 abbrev pub Finishing : (b : Beginning) (asked : List ℕ) (n : Moment) (order : List ℕ) (number : ℕ) → Type 0
-Finishing b asked n order number = (more : ℕ) × IsUnderWay b (asked ++ replicate more number) n order × (IsSome (ending_at n.pool number) → asked_by n.pool number - times number asked ≡ more)
+Finishing b asked n order number = (more : ℕ) × IsPoolRunning b (asked ++ replicate more number) n order × (IsSome (ending_at n.pool number) → asked_by n.pool number - times number asked ≡ more)
 
 -- A drawing of a pool under way is one asked until it ends, with no further turn asked yet.
-pub finish-start : (b : Beginning) (asked : List ℕ) (n : Moment) (order : List ℕ) (number : ℕ) → IsUnderWay b asked n order → Finishing b asked n order number
-finish-start b asked n order number p = (0, subst (λ a. IsUnderWay b a n order) (sym (append-nil asked)) p, λ some. let few = ended-asked b asked n p.so_far number in omega (arith, few))
+pub finish-start : (b : Beginning) (asked : List ℕ) (n : Moment) (order : List ℕ) (number : ℕ) → IsPoolRunning b asked n order → Finishing b asked n order number
+finish-start b asked n order number p = (0, subst (λ a. IsPoolRunning b a n order) (sym (append-nil asked)) p, λ some. let few = ended-asked b asked n p.so_far number in omega (arith, few))
 
 -- A drawing that is being asked until it ends, and goes on, is so still after it is asked once
 -- more, with that turn counted.
-pub finish-more : (b : Beginning) (asked : List ℕ) (old new : Moment) (order later : List ℕ) (number : ℕ) → (f : Finishing b asked old order number) → IsAsked old.pool number new.pool → IsUnderWay b ((asked ++ replicate f.0 number) ++ number ∷ []) new later → number < length old.pool → ending_at old.pool number ≡ None → Finishing b asked new later number
+pub finish-more : (b : Beginning) (asked : List ℕ) (old new : Moment) (order later : List ℕ) (number : ℕ) → (f : Finishing b asked old order number) → IsAsked old.pool number new.pool → IsPoolRunning b ((asked ++ replicate f.0 number) ++ number ∷ []) new later → number < length old.pool → ending_at old.pool number ≡ None → Finishing b asked new later number
 finish-more b asked old new order later number f h q within going = (
   suc f.0,
-  subst (λ a. IsUnderWay b a new later) (asked-more asked f.0 number) q,
+  subst (λ a. IsPoolRunning b a new later) (asked-more asked f.0 number) q,
   λ some.
       let last = asked-at-end b (asked ++ replicate f.0 number) old new order number f.1 h q.so_far within going some in
       let both = times-both number asked (replicate f.0 number) in
@@ -133,8 +133,8 @@ finish-more b asked old new order later number f h q within going = (
 
 -- Once the drawing that is asked until it ends has ended, the pool is under way with that drawing
 -- asked, in all, as often as its ending took.
-pub finish-end : (b : Beginning) (asked : List ℕ) (n : Moment) (order : List ℕ) (number : ℕ) → Finishing b asked n order number → IsSome (ending_at n.pool number) → IsUnderWay b (asked ++ replicate (asked_by n.pool number - times number asked) number) n order
-finish-end b asked n order number f some = subst (λ k. IsUnderWay b (asked ++ replicate k number) n order) (sym (f.2 some)) f.1
+pub finish-end : (b : Beginning) (asked : List ℕ) (n : Moment) (order : List ℕ) (number : ℕ) → Finishing b asked n order number → IsSome (ending_at n.pool number) → IsPoolRunning b (asked ++ replicate (asked_by n.pool number - times number asked) number) n order
+finish-end b asked n order number f some = subst (λ k. IsPoolRunning b (asked ++ replicate k number) n order) (sym (f.2 some)) f.1
 
 -- other drawings that are asked don't count for this one
 times-none : (number other n : ℕ) → number ≢ other → times number (replicate n other) ≡ 0
@@ -172,9 +172,9 @@ unfolding all_asked
 asked-none asks asked = refl
 
 -- one more drawing was asked until it ended
-pub all-more : (b : Beginning) (asked : List ℕ) (pool : List MemberState) (new : Moment) (later : List ℕ) (number : ℕ) → IsFinished pool number new.pool → IsUnderWay b (all_asked (asked_by pool) asked number ++ replicate (asked_by new.pool number - times number (all_asked (asked_by pool) asked number)) number) new later → IsUnderWay b (all_asked (asked_by new.pool) asked (number + 1)) new later
+pub all-more : (b : Beginning) (asked : List ℕ) (pool : List MemberState) (new : Moment) (later : List ℕ) (number : ℕ) → IsFinished pool number new.pool → IsPoolRunning b (all_asked (asked_by pool) asked number ++ replicate (asked_by new.pool number - times number (all_asked (asked_by pool) asked number)) number) new later → IsPoolRunning b (all_asked (asked_by new.pool) asked (number + 1)) new later
 all-more b asked pool new later number h q =
-    subst (λ a. IsUnderWay b a new later)
+    subst (λ a. IsPoolRunning b a new later)
     (ap (λ k. all_asked (asked_by pool) asked number ++ replicate (asked_by new.pool number - k) number) (times-before (asked_by pool) asked number number (omega arith))
     ∙ ap (λ front. front ++ replicate (asked_by new.pool number - times number asked) number) (sym (asked-alike (asked_by pool) (asked_by new.pool) asked number (λ i few. ap asked_of_member (h.others i (λ same. omega (arith, few, same))))))
     ∙ sym (asked-next (asked_by new.pool) asked number)
@@ -231,7 +231,7 @@ fewer-left s x pool later number belongs h going within = go (slice_get pool num
             ends (Some e) c = omega (arith, few)
 
 -- nothing was asked yet
-pub starts-under-way : (b : Beginning) (n : Moment) (order : List ℕ) → IsSoFar b [] n → order ≡ [] → IsUnderWay b [] n order
+pub starts-under-way : (b : Beginning) (n : Moment) (order : List ℕ) → IsSoFar b [] n → order ≡ [] → IsPoolRunning b [] n order
 unfolding ends_in
 starts-under-way b n order p none = record { so_far = p; order_is = none }
 

@@ -15,7 +15,7 @@ use Rattle.size_window.specs.RunByBits as run
 use Rattle.size_window.specs.Follows.{IsMadeOfItsCells}
 use Rattle.size_window.specs.Turn.{entry_of}
 use Rattle.session_pool.specs.Member.{MemberState}
-use Rattle.session_pool.specs.Interleaving.{Setting}
+use Rattle.session_pool.specs.Interleaving.{Shared}
 use Rattle.size_window.specs.RunByBits.{Limits}
 use Rattle.pool_command.specs.UnderWay.{IsMemberUnderWay}
 use Rattle.pool_command.specs.Pages.{CanPrint}
@@ -36,7 +36,7 @@ all-of s x room (e ∷ entries) h zero d lt = entry-is-of s x room (entry_of e) 
 all-of s x room (e ∷ entries) h (suc k) d lt = all-of s x room entries h.1 k d (omega (arith, lt))
 
 -- the entries of a drawing can be printed
-pub can-print : (w : Setting) (limits : Limits) (begun counts : List ℕ → ℕ) (m : MemberState) (most : ℕ) → IsMemberUnderWay w limits begun counts m most → CanPrint w.spec m
+pub can-print : (w : Shared) (limits : Limits) (begun counts : List ℕ → ℕ) (m : MemberState) (most : ℕ) → IsMemberUnderWay w limits begun counts m most → CanPrint w.spec m
 can-print w limits begun counts m most h = record {
   are_of = all-of w.spec w.x limits.max m.entries (subst (AllByRecursion (IsMadeOfItsCells w.spec w.x limits.max)) h.entries h.so_far.drawing.trace.goes.follows.own);
   labels = h.labels;

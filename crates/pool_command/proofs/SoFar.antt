@@ -21,7 +21,7 @@ use Rattle.session_pool.specs.declared.pooled.Pooled.TheVariants as pooled
 use Rattle.session_pool.specs.Member.{MemberState, bits_to_nodes}
 use Rattle.session_pool.specs.Pool.{LeavesTapeOf, bits_between, bits_to_nodes_at, ending_at, ending_of_member}
 use Rattle.session_pool.specs.Turn.{IsPoolTurn, answer_of}
-use Rattle.session_pool.specs.Interleaving.{Setting, setting, IsPoolAfter}
+use Rattle.session_pool.specs.Interleaving.{Shared, setting, IsPoolAfter}
 use Rattle.session_pool.proofs.Replaced.{replaced-here, replaced-elsewhere}
 use Rattle.sample_command.proofs.Turns.{raised-for}
 use Rattle.pool_command.specs.PoolCommand.{greatest_below}
@@ -81,7 +81,7 @@ raising-few first before now old new rises six so_few few =
     let mono = are_costs.rising old new rises six in
     omega (arith, so_few, few, low, high, mono)
 
-module _ (w : Setting) (before now : List ℕ → ℕ) (pool later : List MemberState) (number : ℕ) (pooled : Pooled) (h : IsPoolTurn w.spec w.x w.F w.table w.contents before now pool number pooled later) where
+module _ (w : Shared) (before now : List ℕ → ℕ) (pool later : List MemberState) (number : ℕ) (pooled : Pooled) (h : IsPoolTurn w.spec w.x w.F w.table w.contents before now pool number pooled later) where
   -- the drawing that was asked, and every other one
   later-here : slice_get later number ≡ Some h.new_member
   later-here = ap (λ ms. slice_get ms number) h.others ∙ replaced-here pool number h.old_member h.new_member h.at
@@ -143,12 +143,12 @@ pub same-shared : (s t : Spec) (x y : Fraction) (F : ℕ) (table other : (level 
 same-shared s t x y F table other contents others es ex et ec = ap (λ z. setting z x F table contents) es ∙ ap (λ z. setting t z F table contents) ex ∙ ap (λ z. setting t y F z contents) et ∙ ap (λ z. setting t y F other z) ec
 
 -- the same, of what the drawings share as the code has it
-pub so-far-by : (b : Beginning) (asked : List ℕ) (old new : Moment) (number : ℕ) (pooled : Pooled) (w : Setting) → w ≡ b.shared → IsSoFar b asked old → IsPoolTurn w.spec w.x w.F w.table w.contents old.counts new.counts old.pool number pooled new.pool → TurnsContinue → IsSound w.spec → new.shared ≡ old.shared → ((limits : Limits) (sources : List TapeSource) (begun : List ℕ → ℕ) (turns : List ℕ) → IsPoolAfter w limits sources begun old.counts turns old.pool → IsPoolAfter w limits sources begun new.counts (turns ++ number ∷ []) new.pool) → new.cost ≡ old.cost → new.raised ≤ 6 → old.raised ≤ new.raised → new.raised ≡ max old.raised (level_for (bits_to_nodes_at number old.pool new.pool)) → new.ticks ≤ old.ticks + cost_between old.cost old.raised new.raised → number < length old.pool → length new.pool ≡ length old.pool → ((name : List ℕ) → old.counts name ≤ new.counts name) → IsSoFar b (asked ++ number ∷ []) new
+pub so-far-by : (b : Beginning) (asked : List ℕ) (old new : Moment) (number : ℕ) (pooled : Pooled) (w : Shared) → w ≡ b.shared → IsSoFar b asked old → IsPoolTurn w.spec w.x w.F w.table w.contents old.counts new.counts old.pool number pooled new.pool → TurnsContinue → IsSound w.spec → new.shared ≡ old.shared → ((limits : Limits) (sources : List TapeSource) (begun : List ℕ → ℕ) (turns : List ℕ) → IsPoolAfter w limits sources begun old.counts turns old.pool → IsPoolAfter w limits sources begun new.counts (turns ++ number ∷ []) new.pool) → new.cost ≡ old.cost → new.raised ≤ 6 → old.raised ≤ new.raised → new.raised ≡ max old.raised (level_for (bits_to_nodes_at number old.pool new.pool)) → new.ticks ≤ old.ticks + cost_between old.cost old.raised new.raised → number < length old.pool → length new.pool ≡ length old.pool → ((name : List ℕ) → old.counts name ≤ new.counts name) → IsSoFar b (asked ++ number ∷ []) new
 so-far-by b asked old new number pooled w is p h law sound same alone cost levels rises raised ticks within number_is grew =
     so-far-on b asked old new number pooled p
-    (subst (λ (z : Setting). IsPoolTurn z.spec z.x z.F z.table z.contents old.counts new.counts old.pool number pooled new.pool) is h)
+    (subst (λ (z : Shared). IsPoolTurn z.spec z.x z.F z.table z.contents old.counts new.counts old.pool number pooled new.pool) is h)
     law
-    (subst (λ (z : Setting). IsSound z.spec) is sound)
+    (subst (λ (z : Shared). IsSound z.spec) is sound)
     same
     (subst (λ z. IsPoolAfter z b.limits b.sources b.counts new.counts (asked ++ number ∷ []) new.pool) is (alone b.limits b.sources b.counts asked (subst (λ z. IsPoolAfter z b.limits b.sources b.counts old.counts asked old.pool) (sym is) p.after)))
     cost levels rises raised ticks within number_is grew
@@ -175,7 +175,7 @@ pub contents-kept : {S : Type 0} (contents : S → List ℕ → Option (List ℕ
 contents-kept contents counts before now o later m n at later_at left = (subst (λ z. LeavesTapeOf contents counts before now (Some m) z) later_at (subst (λ z. LeavesTapeOf contents counts before now z later) at left)).content
 
 -- After a turn of a pool the drawing of the turn's number is the new one.
-pub later-at : (w : Setting) (before now : List ℕ → ℕ) (pool later : List MemberState) (number : ℕ) (pooled : Pooled) (h : IsPoolTurn w.spec w.x w.F w.table w.contents before now pool number pooled later) → slice_get later number ≡ Some h.new_member
+pub later-at : (w : Shared) (before now : List ℕ → ℕ) (pool later : List MemberState) (number : ℕ) (pooled : Pooled) (h : IsPoolTurn w.spec w.x w.F w.table w.contents before now pool number pooled later) → slice_get later number ≡ Some h.new_member
 later-at w before now pool later number pooled h = ap (λ ms. slice_get ms number) h.others ∙ replaced-here pool number h.old_member h.new_member h.at
 
 -- An answer that a drawing goes on is not one that memory ran out.

@@ -8,17 +8,17 @@ use Rattle.bit_tape.proofs.NewTapes.{belongs_new}
 use Rattle.bz_model.specs.Fraction.{ratio}
 use Rattle.kleene_lower.specs.Lower.{zeros}
 use Rattle.oracle_memo.specs.Memos.{Memory}
-use Rattle.rounded_map.specs.RoundedMap.{Setting as Rounded}
+use Rattle.rounded_map.specs.RoundedMap.{Shared as Rounded}
 use Rattle.rounded_map.specs.RoundedMap as rounded
 use Rattle.choice_draw.specs.Decision.{level_for}
 use Rattle.oracle_memo.specs.Levels.{level_bounds_from, costs}
 use Rattle.size_window.specs.declared.ending.Ending.{Ending as Told}
-use Rattle.size_window.specs.RunByBits.{Limits, State, at_start}
+use Rattle.size_window.specs.RunByBits.{Limits, RunState, at_start}
 use Rattle.size_window.specs.Drawing.{ending_of}
 use Rattle.size_window.specs.Turn.{HasLabels, entry_of}
 use Rattle.size_window.specs.Trace.{HasTrace, TracesStart}
 use Rattle.session_pool.specs.Member.{MemberState, IsNewMember}
-use Rattle.session_pool.specs.Interleaving.{Setting, setting, IsPoolAfter}
+use Rattle.session_pool.specs.Interleaving.{Shared, setting, IsPoolAfter}
 use Rattle.session_pool.specs.Pool.{IsNewPool, tapes_of}
 use Rattle.sample_command.specs.UnderWay.{has_failed}
 use Rattle.pool_command.specs.PoolCommand.{greatest_below, pool_of}
@@ -31,9 +31,9 @@ not-ended None e = refl
 not-ended (Some ending) e = absurd (cc)
 
 -- a new drawing is under way
-pub new-under-way : TracesStart → (w : Setting) (limits : Limits) (counts : List ℕ → ℕ) (m : MemberState) → IsNewMember limits m.tape m → m.tape.used ≡ 0 → IsMemberUnderWay w limits counts counts m 0
+pub new-under-way : TracesStart → (w : Shared) (limits : Limits) (counts : List ℕ → ℕ) (m : MemberState) → IsNewMember limits m.tape m → m.tape.used ≡ 0 → IsMemberUnderWay w limits counts counts m 0
 new-under-way starts w limits counts m new unused =
-    let going : m.drawing.ending ≡ None = not-ended m.drawing.ending (ap (λ (st : State). st.ending) new.state) in
+    let going : m.drawing.ending ≡ None = not-ended m.drawing.ending (ap (λ (st : RunState). st.ending) new.state) in
     record {
       so_far = record { turns = 0; course = at_start; drawing = started };
       entries = sym (ap (map entry_of) new.entries);
@@ -90,7 +90,7 @@ members-unused (m ∷ pool) (n ∷ names) same zero d lt = let here : m.tape ≡
 members-unused (m ∷ pool) (n ∷ names) same (suc k) d lt = members-unused pool names (let rest : tapes_of pool ≡ map tape_over names = cc in rest) k d (omega (arith, lt))
 
 -- a pool by a memo of which no level is raised
-pub memo-starts : TracesStart → (t : Rounded) (base : List ℕ) (limits : Limits) (contents : List ℕ → Option (List ℕ)) (names : List (List ℕ)) (counts : List ℕ → ℕ) (ticks now : ℕ) (m : Memory) (tapes : List TapeState) (pool : List MemberState) → m ≡ record { spec = t.spec; num = t.num; den = t.den; start = zeros t; base = base; raised = 0 } → tapes ≡ map tape_over names → IsNewPool limits tapes pool → ((w : Setting) (c : List ℕ → ℕ) → IsPoolAfter w limits (map (λ (tape : TapeState). tape.source) tapes) c c [] pool) → now ≤ ticks → IsSoFar (beginning (shared_of (pool_of t base limits) contents) limits (map TapeSource.Named names) counts ticks) [] (moment (setting m.spec (ratio m.num m.den) t.bits (level_bounds_from (rounded.setting m.spec m.num m.den t.bits) m.start m.base) contents) counts costs m.raised now pool)
+pub memo-starts : TracesStart → (t : Rounded) (base : List ℕ) (limits : Limits) (contents : List ℕ → Option (List ℕ)) (names : List (List ℕ)) (counts : List ℕ → ℕ) (ticks now : ℕ) (m : Memory) (tapes : List TapeState) (pool : List MemberState) → m ≡ record { spec = t.spec; num = t.num; den = t.den; start = zeros t; base = base; raised = 0 } → tapes ≡ map tape_over names → IsNewPool limits tapes pool → ((w : Shared) (c : List ℕ → ℕ) → IsPoolAfter w limits (map (λ (tape : TapeState). tape.source) tapes) c c [] pool) → now ≤ ticks → IsSoFar (beginning (shared_of (pool_of t base limits) contents) limits (map TapeSource.Named names) counts ticks) [] (moment (setting m.spec (ratio m.num m.den) t.bits (level_bounds_from (rounded.setting m.spec m.num m.den t.bits) m.start m.base) contents) counts costs m.raised now pool)
 memo-starts law t base limits contents names counts ticks now m tapes pool made tapes_are new alone few =
     subst (λ (k : Memory). IsSoFar (beginning (shared_of (pool_of t base limits) contents) limits (map TapeSource.Named names) counts ticks) [] (moment (setting k.spec (ratio k.num k.den) t.bits (level_bounds_from (rounded.setting k.spec k.num k.den t.bits) k.start k.base) contents) counts costs k.raised now pool)) (sym made)
     (starts-so-far law (beginning (shared_of (pool_of t base limits) contents) limits (map TapeSource.Named names) counts ticks) now pool new.each (members-unused pool names (new.same_tapes ∙ tapes_are))

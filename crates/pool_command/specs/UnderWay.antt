@@ -10,7 +10,7 @@ use Rattle.class_system.specs.Sound.{IsSound}
 use Rattle.oracle_memo.specs.Levels.{cost_at, costs}
 use Rattle.session_pool.specs.Member.{MemberState}
 use Rattle.session_pool.specs.Pool.{PoolBelongs, TapesBelong, tapes_of, ending_at}
-use Rattle.session_pool.specs.Interleaving.{Setting, IsPoolAfter}
+use Rattle.session_pool.specs.Interleaving.{Shared, IsPoolAfter}
 use Rattle.size_window.specs.declared.ending.Ending.{Ending}
 use Rattle.size_window.specs.RunByBits.{Limits}
 use Rattle.size_window.specs.Drawing.{DrawingState}
@@ -57,7 +57,7 @@ pub record AreMoments (source : TapeSource) (failed : Bool)
 
 -- A drawing is under way or has ended: it has a course so far, whose entries are those that were
 -- kept, each with labels as the mode wants them.
-pub record IsMemberUnderWay (w : Setting) (limits : Limits) (begun counts : List ℕ → ℕ)
+pub record IsMemberUnderWay (w : Shared) (limits : Limits) (begun counts : List ℕ → ℕ)
     (m : MemberState) (most : ℕ) : Type 0 where
   pub so_far : IsCourseSoFar w.spec w.x w.F w.table limits (bits_of m.tape.source w.contents)
       m.drawing m.tape.used most
@@ -68,14 +68,14 @@ pub record IsMemberUnderWay (w : Setting) (limits : Limits) (begun counts : List
 -- A moment of a pool: what its drawings share, the counts of failed reads, what raising a level
 -- costs, how far the levels are raised, the steps taken, and its drawings.
 pub record Moment : Type 0 where
-  pub shared : Setting
+  pub shared : Shared
   pub counts : List ℕ → ℕ
   pub cost : List ℕ
   pub raised : ℕ
   pub ticks : ℕ
   pub pool : List MemberState
 
-abbrev pub moment : (shared : Setting) (counts : List ℕ → ℕ) (cost : List ℕ) (raised ticks : ℕ)
+abbrev pub moment : (shared : Shared) (counts : List ℕ → ℕ) (cost : List ℕ) (raised ticks : ℕ)
     (pool : List MemberState) → Moment
 moment shared counts cost raised ticks pool = record {
   shared = shared;
@@ -89,13 +89,13 @@ moment shared counts cost raised ticks pool = record {
 -- How a pool began: what its drawings share, their limits, where the bits of their tapes come from,
 -- the counts of failed reads and the steps taken.
 pub record Beginning : Type 0 where
-  pub shared : Setting
+  pub shared : Shared
   pub limits : Limits
   pub sources : List TapeSource
   pub counts : List ℕ → ℕ
   pub ticks : ℕ
 
-abbrev pub beginning : (shared : Setting) (limits : Limits) (sources : List TapeSource)
+abbrev pub beginning : (shared : Shared) (limits : Limits) (sources : List TapeSource)
     (counts : List ℕ → ℕ) (ticks : ℕ) → Beginning
 beginning shared limits sources counts ticks = record {
   shared = shared;
@@ -119,12 +119,13 @@ pub record IsSoFar (b : Beginning) (asked : List ℕ) (n : Moment) : Type 0 wher
   pub few : n.ticks ≤ b.ticks + cost_at n.raised
 
 -- So far the drawings ended in this order.
-pub record IsUnderWay (b : Beginning) (asked : List ℕ) (n : Moment) (order : List ℕ) : Type 0 where
+pub record IsPoolRunning (b : Beginning) (asked : List ℕ) (n : Moment)
+    (order : List ℕ) : Type 0 where
   pub so_far : IsSoFar b asked n
   pub order_is : order ≡ ends_in (asked_by n.pool) [] asked
 
 -- A pool was broken off, after some drawings were asked for turns.
-pub record IsBroken (b : Beginning) (n : Moment) : Type 0 where
+pub record IsBrokenPool (b : Beginning) (n : Moment) : Type 0 where
   pub asked : List ℕ
   pub so_far : IsSoFar b asked n
 
@@ -166,5 +167,5 @@ pub record IsFinished (pool : List MemberState) (number : ℕ)
 -- first, until each had ended.
 pub record IsEnded (b : Beginning) (schedule : List ℕ) (count : ℕ) (n : Moment)
     (order : List ℕ) : Type 0 where
-  pub under_way : IsUnderWay b (all_asked (asked_by n.pool) (named count schedule) count) n order
+  pub under_way : IsPoolRunning b (all_asked (asked_by n.pool) (named count schedule) count) n order
   pub ended : (number : ℕ) → number < count → IsSome (ending_at n.pool number)

@@ -7,7 +7,8 @@ ghost use Rattle.session_pool.specs.Interleaving.{setting, times};
 ghost use Rattle.session_pool.specs.Pool.{ending_at};
 ghost use Rattle.pool_command.specs.Schedule.{all_asked, named};
 ghost use Rattle.pool_command.specs.UnderWay.{asked_by, ended_now, moment, Beginning, IsSoFar};
-ghost use Rattle.pool_command.specs.UnderWay.{IsUnderWay, IsBroken, IsEnded, CanAsk, IsAsked};
+ghost use Rattle.pool_command.specs.UnderWay.{IsPoolRunning, IsBrokenPool, IsEnded, CanAsk};
+ghost use Rattle.pool_command.specs.UnderWay.{IsAsked};
 ghost use Rattle.pool_command.specs.UnderWay.{IsFinished};
 
 use bit_tape::tape::Tape;
@@ -53,7 +54,8 @@ pub(crate) fn take_turns<const F: u32, O: Oracle<F>, S: Shelf, L: Ledger>(
         → IsSoFar b [] (moment (setting (O.spec oracle.old) (O.x oracle.old) F (O.table oracle.old)
         (S.content shelf.old))
         (S.faults shelf.old) (O.cost oracle.old) (O.raised oracle.old) steps.old pool.old)
-        → IsBroken b (moment (setting (O.spec oracle.new) (O.x oracle.new) F (O.table oracle.new)
+        → IsBrokenPool b (moment (setting (O.spec oracle.new) (O.x oracle.new) F
+        (O.table oracle.new)
         (S.content shelf.new))
         (S.faults shelf.new) (O.cost oracle.new) (O.raised oracle.new) steps.new pool.new)) }
     ensures can { CanAsk founded.now (O.spec oracle.new) (O.x oracle.new) (S.content shelf.new)
@@ -85,21 +87,22 @@ fn follow<const F: u32, O: Oracle<F>, S: Shelf, L: Ledger>(
     requires can { CanAsk founded.now (O.spec oracle.old) (O.x oracle.old) (S.content shelf.old)
         count pool.old }
     ensures under_way { OnOk result ((b : Beginning) (asked : List ℕ)
-        → IsUnderWay b asked (moment
+        → IsPoolRunning b asked (moment
         (setting (O.spec oracle.old) (O.x oracle.old) F (O.table oracle.old) (S.content shelf.old))
         (S.faults shelf.old) (O.cost oracle.old) (O.raised oracle.old) steps.old pool.old)
         order.old.items
-        → IsUnderWay b (asked ++ named count schedule.now)
+        → IsPoolRunning b (asked ++ named count schedule.now)
         (moment (setting (O.spec oracle.new) (O.x oracle.new) F (O.table oracle.new)
         (S.content shelf.new))
         (S.faults shelf.new) (O.cost oracle.new) (O.raised oracle.new) steps.new pool.new)
         order.new.items) }
     ensures broken { OnErr result ((b : Beginning) (asked : List ℕ)
-        → IsUnderWay b asked (moment
+        → IsPoolRunning b asked (moment
         (setting (O.spec oracle.old) (O.x oracle.old) F (O.table oracle.old) (S.content shelf.old))
         (S.faults shelf.old) (O.cost oracle.old) (O.raised oracle.old) steps.old pool.old)
         order.old.items
-        → IsBroken b (moment (setting (O.spec oracle.new) (O.x oracle.new) F (O.table oracle.new)
+        → IsBrokenPool b (moment (setting (O.spec oracle.new) (O.x oracle.new) F
+        (O.table oracle.new)
         (S.content shelf.new))
         (S.faults shelf.new) (O.cost oracle.new) (O.raised oracle.new) steps.new pool.new)) }
     ensures can { CanAsk founded.now (O.spec oracle.new) (O.x oracle.new) (S.content shelf.new)
@@ -128,11 +131,11 @@ fn finish_all<const F: u32, O: Oracle<F>, S: Shelf, L: Ledger>(
     requires can { CanAsk founded.now (O.spec oracle.old) (O.x oracle.old) (S.content shelf.old)
         count pool.old }
     ensures under_way { OnOk result ((b : Beginning) (asked : List ℕ)
-        → IsUnderWay b asked (moment
+        → IsPoolRunning b asked (moment
         (setting (O.spec oracle.old) (O.x oracle.old) F (O.table oracle.old) (S.content shelf.old))
         (S.faults shelf.old) (O.cost oracle.old) (O.raised oracle.old) steps.old pool.old)
         order.old.items
-        → IsUnderWay b (all_asked (asked_by pool.new) asked count)
+        → IsPoolRunning b (all_asked (asked_by pool.new) asked count)
         (moment (setting (O.spec oracle.new) (O.x oracle.new) F (O.table oracle.new)
         (S.content shelf.new))
         (S.faults shelf.new) (O.cost oracle.new) (O.raised oracle.new) steps.new pool.new)
@@ -140,11 +143,12 @@ fn finish_all<const F: u32, O: Oracle<F>, S: Shelf, L: Ledger>(
     ensures ended { OnOk result ((number : ℕ) → number < count
         → IsSome (ending_at pool.new number)) }
     ensures broken { OnErr result ((b : Beginning) (asked : List ℕ)
-        → IsUnderWay b asked (moment
+        → IsPoolRunning b asked (moment
         (setting (O.spec oracle.old) (O.x oracle.old) F (O.table oracle.old) (S.content shelf.old))
         (S.faults shelf.old) (O.cost oracle.old) (O.raised oracle.old) steps.old pool.old)
         order.old.items
-        → IsBroken b (moment (setting (O.spec oracle.new) (O.x oracle.new) F (O.table oracle.new)
+        → IsBrokenPool b (moment (setting (O.spec oracle.new) (O.x oracle.new) F
+        (O.table oracle.new)
         (S.content shelf.new))
         (S.faults shelf.new) (O.cost oracle.new) (O.raised oracle.new) steps.new pool.new)) }
     ensures can { CanAsk founded.now (O.spec oracle.new) (O.x oracle.new) (S.content shelf.new)
@@ -174,22 +178,24 @@ fn finish<const F: u32, O: Oracle<F>, S: Shelf, L: Ledger>(
     requires can { CanAsk founded.now (O.spec oracle.old) (O.x oracle.old) (S.content shelf.old)
         count pool.old }
     ensures under_way { OnOk result ((b : Beginning) (asked : List ℕ)
-        → IsUnderWay b asked (moment
+        → IsPoolRunning b asked (moment
         (setting (O.spec oracle.old) (O.x oracle.old) F (O.table oracle.old) (S.content shelf.old))
         (S.faults shelf.old) (O.cost oracle.old) (O.raised oracle.old) steps.old pool.old)
         order.old.items
-        → IsUnderWay b (asked ++ replicate (asked_by pool.new number - times number asked) number)
+        → IsPoolRunning b (asked ++ replicate
+        (asked_by pool.new number - times number asked) number)
         (moment (setting (O.spec oracle.new) (O.x oracle.new) F (O.table oracle.new)
         (S.content shelf.new))
         (S.faults shelf.new) (O.cost oracle.new) (O.raised oracle.new) steps.new pool.new)
         order.new.items) }
     ensures finished { OnOk result (IsFinished pool.old number pool.new) }
     ensures broken { OnErr result ((b : Beginning) (asked : List ℕ)
-        → IsUnderWay b asked (moment
+        → IsPoolRunning b asked (moment
         (setting (O.spec oracle.old) (O.x oracle.old) F (O.table oracle.old) (S.content shelf.old))
         (S.faults shelf.old) (O.cost oracle.old) (O.raised oracle.old) steps.old pool.old)
         order.old.items
-        → IsBroken b (moment (setting (O.spec oracle.new) (O.x oracle.new) F (O.table oracle.new)
+        → IsBrokenPool b (moment (setting (O.spec oracle.new) (O.x oracle.new) F
+        (O.table oracle.new)
         (S.content shelf.new))
         (S.faults shelf.new) (O.cost oracle.new) (O.raised oracle.new) steps.new pool.new)) }
     ensures can { CanAsk founded.now (O.spec oracle.new) (O.x oracle.new) (S.content shelf.new)
@@ -219,22 +225,23 @@ fn ask<const F: u32, O: Oracle<F>, S: Shelf, L: Ledger>(
     requires can { CanAsk founded.now (O.spec oracle.old) (O.x oracle.old) (S.content shelf.old)
         count pool.old }
     ensures under_way { OnOk result ((b : Beginning) (asked : List ℕ)
-        → IsUnderWay b asked (moment
+        → IsPoolRunning b asked (moment
         (setting (O.spec oracle.old) (O.x oracle.old) F (O.table oracle.old) (S.content shelf.old))
         (S.faults shelf.old) (O.cost oracle.old) (O.raised oracle.old) steps.old pool.old)
         order.old.items
-        → IsUnderWay b (asked ++ number ∷ [])
+        → IsPoolRunning b (asked ++ number ∷ [])
         (moment (setting (O.spec oracle.new) (O.x oracle.new) F (O.table oracle.new)
         (S.content shelf.new))
         (S.faults shelf.new) (O.cost oracle.new) (O.raised oracle.new) steps.new pool.new)
         order.new.items) }
     ensures asked { OnOk result (IsAsked pool.old number pool.new) }
     ensures broken { OnErr result ((b : Beginning) (asked : List ℕ)
-        → IsUnderWay b asked (moment
+        → IsPoolRunning b asked (moment
         (setting (O.spec oracle.old) (O.x oracle.old) F (O.table oracle.old) (S.content shelf.old))
         (S.faults shelf.old) (O.cost oracle.old) (O.raised oracle.old) steps.old pool.old)
         order.old.items
-        → IsBroken b (moment (setting (O.spec oracle.new) (O.x oracle.new) F (O.table oracle.new)
+        → IsBrokenPool b (moment (setting (O.spec oracle.new) (O.x oracle.new) F
+        (O.table oracle.new)
         (S.content shelf.new))
         (S.faults shelf.new) (O.cost oracle.new) (O.raised oracle.new) steps.new pool.new)) }
     ensures can { CanAsk founded.now (O.spec oracle.new) (O.x oracle.new) (S.content shelf.new)

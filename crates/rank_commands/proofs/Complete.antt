@@ -10,7 +10,7 @@ use Rattle.object_store.specs.declared.token.Token.{Token}
 use Rattle.object_store.proofs.Sizes.{size_of-tokens}
 use Rattle.object_text.specs.Reading.{IsRead}
 use Rattle.rank_tables.specs.RankOrder.{IsCount, IsRank, IsRanked}
-use Rattle.rank_tables.specs.Refusals.{IsFirstRanged, HasPlainRanges, IsTooMany, HasSmallCounts}
+use Rattle.rank_tables.specs.Refusals.{IsFirstNotPlain, HasPlainRanges, IsTooMany, HasSmallCounts}
 use Rattle.rank_tables.specs.Shapes.{IsRankOf}
 use Rattle.call_stages.specs.Stages.{Files, HasSpecification}
 use Rattle.call_stages.specs.Stages as reading
@@ -85,7 +85,7 @@ labelled_refused f s status text ticks mode memory (fits.of_unrank n r h) = labe
 labelled_refused f s status text ticks mode memory (fits.of_rank object h) = labelled-only s (ObjectRead f s object (ObjectRanked s)) status text ticks memory mode h
 
 -- so is a range that isn't plain
-pub range_refused : (f : Files) (s : Spec) (e : ℕ) (status : Status) (text : List ℕ) (ticks : ℕ) → s.mode ≡ Mode.Unlabelled → IsFirstRanged s e → status ≢ Status.OutOfMemory → ComesOf f s status text ticks → (status ≡ Status.RankRefused) × (text ≡ range_line e)
+pub range_refused : (f : Files) (s : Spec) (e : ℕ) (status : Status) (text : List ℕ) (ticks : ℕ) → s.mode ≡ Mode.Unlabelled → IsFirstNotPlain s e → status ≢ Status.OutOfMemory → ComesOf f s status text ticks → (status ≡ Status.RankRefused) × (text ≡ range_line e)
 range_refused f s e status text ticks mode first memory (fits.of_count most h) = ranged-only s (Counted s most (CountsPrinted s most)) status text ticks memory e mode first h
 range_refused f s e status text ticks mode first memory (fits.of_unrank n r h) = ranged-only s (Counted s n (ObjectOfRank s n r)) status text ticks memory e mode first h
 range_refused f s e status text ticks mode first memory (fits.of_rank object h) = ranged-only s (ObjectRead f s object (ObjectRanked s)) status text ticks memory e mode first h

@@ -4,7 +4,7 @@ use Rattle.std.proofs.Math.Decide.{dec_le}
 use Rattle.bz_model.specs.Spec.{Spec, Mode}
 use Rattle.object_store.specs.declared.token.Token.{Token}
 use Rattle.object_store.specs.Tokens.{size_of}
-use Rattle.rank_tables.specs.Refusals.{IsFirstRanged, HasPlainRanges, IsTooMany, HasSmallCounts}
+use Rattle.rank_tables.specs.Refusals.{IsFirstNotPlain, HasPlainRanges, IsTooMany, HasSmallCounts}
 use Rattle.rank_tables.proofs.Refused.{small-not_many, small-not_refused}
 use Rattle.call_stages.specs.Outcomes.{Outcome, Says, IsOne}
 use Rattle.call_stages.specs.declared.status.Status.{Status}
@@ -12,7 +12,7 @@ use Rattle.rank_commands.specs.RankStages.{labelled_line, range_line, too_many_l
 use Rattle.rank_commands.specs.RankStages as stages
 
 -- the first node whose range isn't plain is one node
-one-ranged : (s : Spec) (d e : ℕ) → IsFirstRanged s d → IsFirstRanged s e → d ≡ e
+one-ranged : (s : Spec) (d e : ℕ) → IsFirstNotPlain s d → IsFirstNotPlain s e → d ≡ e
 one-ranged s d e h k = go (dec_le d e) (dec_le e d)
   where
     go : Dec (d ≤ e) → Dec (e ≤ d) → d ≡ e
@@ -44,7 +44,7 @@ one-count-line s most d m e n h k =
     ap (λ z. too_many_line z m) node ∙ ap (λ z. too_many_line e z) size
 
 -- plain ranges have no first that isn't
-pub plain-not-ranged : (s : Spec) (e : ℕ) → HasPlainRanges s → ¬ (IsFirstRanged s e)
+pub plain-not-ranged : (s : Spec) (e : ℕ) → HasPlainRanges s → ¬ (IsFirstNotPlain s e)
 plain-not-ranged s e plain first = first.ranged.ranged (plain.plain e first.ranged.node first.ranged.is_node)
 
 module _ (s : Spec) (next : Outcome) (status : Status) (text : List ℕ) (ticks : ℕ) (memory : status ≢ Status.OutOfMemory) where
@@ -56,7 +56,7 @@ module _ (s : Spec) (next : Outcome) (status : Status) (text : List ℕ) (ticks 
   labelled-only mode (stages.plain unlabelled plain p) = absurd (cc)
 
   -- one with a range that isn't plain
-  pub ranged-only : (e : ℕ) → s.mode ≡ Mode.Unlabelled → IsFirstRanged s e → Rankable s next status text ticks → (status ≡ Status.RankRefused) × (text ≡ range_line e)
+  pub ranged-only : (e : ℕ) → s.mode ≡ Mode.Unlabelled → IsFirstNotPlain s e → Rankable s next status text ticks → (status ≡ Status.RankRefused) × (text ≡ range_line e)
   ranged-only e mode first (stages.labelled labelled says) = absurd (cc)
   ranged-only e mode first (stages.ranged d unlabelled other says) = (says.status_is, says.text_is ∙ ap range_line (one-ranged s d e other first))
   ranged-only e mode first (stages.no_memory says) = absurd (memory says.status_is)

@@ -3,7 +3,7 @@ use Rattle.std.specs.Prelude.{◌≡◌, ℕ, ◌<◌, ◌≤◌, List, [], ◌+
 use Rattle.bz_model.specs.Spec.{Spec, Mode}
 use Rattle.object_store.specs.declared.token.Token.{Token}
 use Rattle.object_store.specs.Tokens.{size_of}
-use Rattle.rank_tables.specs.Refusals.{IsFirstRanged, HasPlainRanges, IsTooMany, HasSmallCounts}
+use Rattle.rank_tables.specs.Refusals.{IsFirstNotPlain, HasPlainRanges, IsTooMany, HasSmallCounts}
 use Rattle.call_stages.specs.Lines.{feed}
 use Rattle.call_stages.specs.Outcomes.{Outcome, Says}
 use Rattle.call_stages.specs.declared.status.Status.{Status}
@@ -31,7 +31,7 @@ pub data Rankable (s : Spec) (next : Outcome) (status : Status) (text : List ℕ
   where
     labelled : s.mode ≡ Mode.Labelled → Says Status.RankRefused labelled_line 0 status text ticks
         → Rankable s next status text ticks
-    ranged : (e : ℕ) → s.mode ≡ Mode.Unlabelled → IsFirstRanged s e
+    ranged : (e : ℕ) → s.mode ≡ Mode.Unlabelled → IsFirstNotPlain s e
         → Says Status.RankRefused (range_line e) 0 status text ticks
         → Rankable s next status text ticks
     no_memory : Says Status.OutOfMemory [] 0 status text ticks → Rankable s next status text ticks

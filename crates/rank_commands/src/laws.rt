@@ -7,7 +7,7 @@ ghost use Rattle.bz_model.specs.Measures.{size};
 ghost use Rattle.object_store.specs.Tokens.{size_of};
 ghost use Rattle.object_store.specs.declared.token.Token.{Token};
 ghost use Rattle.rank_tables.specs.RankOrder.{IsCount, IsRank, IsRanked};
-ghost use Rattle.rank_tables.specs.Refusals.{IsFirstRanged, HasPlainRanges, IsTooMany};
+ghost use Rattle.rank_tables.specs.Refusals.{IsFirstNotPlain, HasPlainRanges, IsTooMany};
 ghost use Rattle.call_stages.specs.Outcomes.{IsOne};
 ghost use Rattle.call_stages.specs.Stages.{Files, IsCalm, HasSpecification};
 ghost use Rattle.call_stages.specs.declared.status.Status.{Status};
@@ -54,7 +54,7 @@ pub fn what_cannot_be_ranked_is_refused()
         → s.mode ≡ Mode.Labelled → status ≢ Status.OutOfMemory → ComesOf f s status text ticks
         → (status ≡ Status.RankRefused) × (text ≡ labelled_line) }
     ensures ranged { (f : Files) (s : Spec) (e : ℕ) (status : Status) (text : List ℕ) (ticks : ℕ)
-        → s.mode ≡ Mode.Unlabelled → IsFirstRanged s e → status ≢ Status.OutOfMemory
+        → s.mode ≡ Mode.Unlabelled → IsFirstNotPlain s e → status ≢ Status.OutOfMemory
         → ComesOf f s status text ticks → (status ≡ Status.RankRefused) × (text ≡ range_line e) }
 {}
 

@@ -16,7 +16,7 @@ use Rattle.rank_tables.specs.RankOrder.{IsSized, IsCount, IsRanked}
 use Rattle.rank_tables.specs.Shapes.{IsRankOf}
 use Rattle.rank_tables.specs.TableRule.{IsRankable}
 use Rattle.rank_tables.specs.Tables.{AreKnown, AreCounts, IsNumberOf}
-use Rattle.rank_tables.specs.Unranking.{IsCounted, IsTask, Fulfils}
+use Rattle.rank_tables.specs.Unranking.{AreCountedGrids, IsTask, Fulfils}
 use Rattle.rank_tables.specs.declared.tasks.Task.{Task}
 use Rattle.rank_tables.specs.Capped.{Tells}
 use Rattle.rank_tables.specs.Places.{IsPlace}
@@ -43,7 +43,7 @@ module _ (s : Spec) (sound : IsSound s) (founded : IsWellFounded s) (most : ℕ)
   can : IsRankable s
   can = rankable s sound founded table.unlabelled table.plain
 
-  pub counted-table : AreKnown counts → tails.nodes ≡ counts.nodes → tails.sizes ≡ counts.sizes → IsCounted s counts tails
+  pub counted-table : AreKnown counts → tails.nodes ≡ counts.nodes → tails.sizes ≡ counts.sizes → AreCountedGrids s counts tails
   counted-table known nodes sizes = record {
     each_node = table.each_node;
     tail_nodes = nodes;

@@ -16,7 +16,7 @@ use Rattle.rank_tables.specs.Places.{IsPlace}
 use Rattle.rank_tables.specs.Places as place
 use Rattle.rank_tables.specs.TableRule.{one_at}
 use Rattle.rank_tables.specs.Grids.{Cells, number_at}
-use Rattle.rank_tables.specs.Unranking.{IsCounted, IsFound, AreTupleTasks, AreListTasks, Fulfils, FulfilEach, IsTask, IsReplaced, told_of, node_of_task}
+use Rattle.rank_tables.specs.Unranking.{AreCountedGrids, IsFound, AreTupleTasks, AreListTasks, Fulfils, FulfilEach, IsTask, IsReplaced, told_of, node_of_task}
 use Rattle.rank_tables.specs.Unranking.FulfilEach.{done, next}
 use Rattle.rank_tables.specs.Visits.{TellPlaces, AreTasks}
 use Rattle.rank_tables.specs.declared.tasks.Task.{Task}
@@ -188,7 +188,7 @@ pub under_way-end : (s : Spec) (bound : ℕ) (t : ℕ → ℕ → ℕ) (root : T
 under_way-end s bound t root tasks tokens is h = subst (Fulfils s t root) (append-nil tokens) (h.makes [] (subst (λ z. FulfilEach s t z []) (sym is) done))
 
 -- The part in which a union's task lies.
-pub union-found : (s : Spec) (counts tails : Cells) (task : Task) (parts options : List ExprId) (found : Found) → IsCounted s counts tails → IsTask (length s.nodes) counts.sizes (number_at counts) task → node_at s task.node.0 ≡ Some (Node.Union (map number parts)) → options ≡ parts
+pub union-found : (s : Spec) (counts tails : Cells) (task : Task) (parts options : List ExprId) (found : Found) → AreCountedGrids s counts tails → IsTask (length s.nodes) counts.sizes (number_at counts) task → node_at s task.node.0 ≡ Some (Node.Union (map number parts)) → options ≡ parts
     → (task.number < sum_by (λ p. number_at counts p task.size) (map number options) → IsFound (λ p. number_at counts p task.size) (map number options) task.number found)
     → IsFound (λ p. number_at counts p task.size) (map number parts) task.number found
 union-found s counts tails task parts options found counted can at same h =

@@ -7,7 +7,7 @@ use Rattle.bz_model.specs.Spec.{Spec, Node, node_at, body_of}
 use Rattle.bz_model.specs.Object.{Object}
 use Rattle.bz_model.specs.Totals.{IsSample}
 use Rattle.bz_laws.specs.Sound.{IsLaidOut}
-use Rattle.rank_tables.specs.Capped.{Tells, IsSameUpTo, AreRows, AreReached, IsOfClass, IsSettled}
+use Rattle.rank_tables.specs.Capped.{Tells, IsSameUpTo, AreRows, AreCounted, IsOfClass, IsSettled}
 use Rattle.rank_tables.specs.Filling.{class_number, IsPass, ChangesSize}
 use Rattle.rank_tables.specs.Grids.{Cells, cell, number_of, number_at}
 use Rattle.rank_tables.specs.TableRule.{rule, entry_of, entries, IsRankable}
@@ -98,7 +98,7 @@ module _ (s : Spec) (laid_out : IsLaidOut s) (rankable : IsRankable s) (n : ℕ)
   number_by c m le (inl lt) = (below m lt).reached.number c m (omega arith)
   number_by c m le (inr ge) = here.number c
 
-  are_reached : AreReached s cap n entry
+  are_reached : AreCounted s cap n entry
   are_reached = record { list = λ c m. list_by c m (cases_lt m n); sample = λ c m le. sample_by c m le (cases_lt m n); number = λ c m le. number_by c m le (cases_lt m n) }
 
   row_by : (e m : ℕ) (node : Node) → m ≤ n → node_at s e ≡ Some node → (m < n) ⊎ (n ≤ m) → IsSameUpTo cap (rule entry (number_at rows) e node m) (number_at rows e m)
@@ -116,7 +116,7 @@ module _ (s : Spec) (laid_out : IsLaidOut s) (rankable : IsRankable s) (n : ℕ)
   are_rows = record { rows = λ e m node le at. row_by e m node le at (cases_lt m n) }
 
   -- the bodies' numbers are reached
-  pub next-reached : AreReached s cap n (entries s (number_at rows))
+  pub next-reached : AreCounted s cap n (entries s (number_at rows))
   next-reached = entries-reached s cap n laid_out rankable entry (number_at rows) are_reached are_rows
 
   -- the classes take the bodies' numbers

@@ -6,8 +6,8 @@ use Rattle.bz_model.specs.Object.{Object, Objects, none, more, count}
 use Rattle.class_system.specs.Sound.{IsSound}
 use Rattle.class_system.specs.declared.ids.ExprId.{ExprId}
 use Rattle.object_store.specs.Tokens.{BelongEach, IsOf}
-use Rattle.object_store.specs.Waiting.{Waits, Shows, ShowsClass, ShowsTuple, ShowsLeaf, ShowsPick, ShowsList, joined}
-use Rattle.object_store.specs.Walking.{Walking, IsVisit, IsEnd}
+use Rattle.object_store.specs.Waiting.{AreWaiting, Shows, ShowsClass, ShowsTuple, ShowsLeaf, ShowsPick, ShowsList, joined}
+use Rattle.object_store.specs.Walking.{Walking, IsVisitOfWalk, IsEnd}
 use Rattle.object_store.specs.declared.token.Token.{Token}
 use Rattle.object_store.specs.declared.visit.Visit as seen
 use Rattle.object_store.specs.declared.visit.Visit.TheVariants as seen_at
@@ -21,11 +21,11 @@ use Rattle.rank_tables.proofs.Rankable.{two-modes}
 pub record IsWalked (s : Spec) (body : ℕ) (o : Object) (walk : Walking) (steps : List Step) : Type 0 where
   pub system : walk.system ≡ s
   pub objects : Objects
-  pub waits : Waits s walk.waiting objects walk.left
+  pub waits : AreWaiting s walk.waiting objects walk.left
   pub whole : (vs : List Visit) → AreVisits s walk.waiting objects vs → AreVisits s (body ∷ []) (more o none) (map visit_of steps ++ vs)
 
 -- A walk that starts with an object's body waiting and no steps taken is a walk over that object.
-pub walked-start : (s : Spec) (body : ℕ) (o : Object) (walk : Walking) → walk.system ≡ s → walk.waiting ≡ body ∷ [] → Waits s walk.waiting (more o none) walk.left → IsWalked s body o walk []
+pub walked-start : (s : Spec) (body : ℕ) (o : Object) (walk : Walking) → walk.system ≡ s → walk.waiting ≡ body ∷ [] → AreWaiting s walk.waiting (more o none) walk.left → IsWalked s body o walk []
 walked-start s body o walk system waiting waits = record { system = system; objects = more o none; waits = waits; whole = λ vs h. subst (λ es. AreVisits s es (more o none) vs) waiting h }
 
 as-many : (s : Spec) (es : List ℕ) (os : Objects) → BelongEach s es os → length es ≡ count os
@@ -36,7 +36,7 @@ as-many s _ _ h = elim h [ ]
 -- What waits after a visit, and how its visits go on.
 record GoesOn (s : Spec) (e : ℕ) (es : List ℕ) (os : Objects) (new : List Visit) (fs : List ℕ) (us : List Token) : Type 0 where
   objects : Objects
-  waits : Waits s fs objects us
+  waits : AreWaiting s fs objects us
   on : (vs : List Visit) → AreVisits s fs objects vs → AreVisits s (e ∷ es) os (new ++ vs)
 
 module _ (s : Spec) (sound : IsSound s) (unlabelled : s.mode ≡ Mode.Unlabelled) where
@@ -74,9 +74,9 @@ module _ (s : Spec) (sound : IsSound s) (unlabelled : s.mode ≡ Mode.Unlabelled
   map-append (x ∷ xs) ys = ap (λ z. visit_of x ∷ z) (map-append xs ys)
 
   -- one visit more
-  pub walked-on : (body : ℕ) (o : Object) (before now : Walking) (e : ExprId) (v : seen.Visit) (steps new : List Step) → IsVisit before now e.0 v → new ≡ steps ++ step_at e v → IsWalked s body o before steps → IsWalked s body o now new
+  pub walked-on : (body : ℕ) (o : Object) (before now : Walking) (e : ExprId) (v : seen.Visit) (steps new : List Step) → IsVisitOfWalk before now e.0 v → new ≡ steps ++ step_at e v → IsWalked s body o before steps → IsWalked s body o now new
   walked-on body o before now e v steps new k put from =
-      let shown : Shows before.system e.0 k.others from.objects before.left v now.waiting now.left = k.shows from.objects (subst (λ z. Waits z before.waiting from.objects before.left) (sym from.system) from.waits) in
+      let shown : Shows before.system e.0 k.others from.objects before.left v now.waiting now.left = k.shows from.objects (subst (λ z. AreWaiting z before.waiting from.objects before.left) (sym from.system) from.waits) in
       let g = goes-on e v k.others from.objects before.left now.waiting now.left (subst (λ z. Shows z e.0 k.others from.objects before.left v now.waiting now.left) from.system shown) in
       record {
         system = k.system ∙ from.system;
@@ -93,5 +93,5 @@ pub walked-end : (s : Spec) (tokens : List Token) (shape : IsOf s 0 tokens) (bef
 walked-end s tokens shape before now steps k from = record {
   shape = shape;
   visits = subst (AreVisits s (shape.body ∷ []) (more shape.object none)) (append-nil (map visit_of steps))
-      (from.whole [] (subst (λ es. AreVisits s es from.objects []) (sym k.nothing) (subst (λ os. AreVisits s [] os []) (sym (nothing-waits s from.objects before.left (subst (λ es. Waits s es from.objects before.left) k.nothing from.waits)).0) AreVisits.done)));
+      (from.whole [] (subst (λ es. AreVisits s es from.objects []) (sym k.nothing) (subst (λ os. AreVisits s [] os []) (sym (nothing-waits s from.objects before.left (subst (λ es. AreWaiting s es from.objects before.left) k.nothing from.waits)).0) AreVisits.done)));
 }

@@ -31,7 +31,7 @@ abbrev pub IsOfClass : Spec → ℕ → ℕ → Object → Type 0
 IsOfClass s c n o = ((h : ℕ) × ClassHas s h c o) × (size o ≡ n)
 
 -- The numbers of the classes are reached: each by a list of distinct objects of the class and size.
-pub record AreReached (s : Spec) (cap most : ℕ) (entry : ℕ → ℕ → ℕ) : Type 0 where
+pub record AreCounted (s : Spec) (cap most : ℕ) (entry : ℕ → ℕ → ℕ) : Type 0 where
   pub list : ℕ → ℕ → List Object
   pub sample : (c n : ℕ) → n ≤ most → IsSample (IsOfClass s c n) (list c n)
   pub number : (c n : ℕ) → n ≤ most → IsSameUpTo cap (length (list c n)) (entry c n)
@@ -50,5 +50,5 @@ Tells (Some k) x = k ≡ x
 -- A pass that changed nothing: its rows are those of the rule up to the cap, from numbers of the
 -- classes that are reached and that the rows give again.
 pub record IsSettled (s : Spec) (cap most : ℕ) (t : ℕ → ℕ → ℕ) : Type 0 where
-  pub reached : AreReached s cap most (entries s t)
+  pub reached : AreCounted s cap most (entries s t)
   pub rows : AreRows s cap most (entries s t) t

@@ -4,7 +4,7 @@ use Rattle.bz_model.specs.Spec.{Spec, Mode, body_of}
 use Rattle.rank_tables.specs.RankOrder.{IsCount}
 use Rattle.rank_tables.specs.Filling.{HasTails}
 use Rattle.rank_tables.specs.Grids.{Cells, cell, number_at}
-use Rattle.rank_tables.specs.Refusals.{IsFirstRanged, HasPlainRanges, IsTooMany}
+use Rattle.rank_tables.specs.Refusals.{IsFirstNotPlain, HasPlainRanges, IsTooMany}
 use Rattle.rank_tables.specs.TableRule.{IsTable}
 use Rattle.rank_tables.specs.declared.rank_tables.RankFault.{RankFault}
 use Rattle.rank_tables.specs.declared.rank_tables.RankFault.TheVariants.{Labelled, Ranged, TooMany}
@@ -41,7 +41,7 @@ pub record AreCounts (s : Spec) (most : ℕ) (table : Table) : Type 0 where
 -- else the first size and node with too many objects.
 abbrev pub TellsFault : Spec → ℕ → RankFault → Type 0
 TellsFault s most Labelled = s.mode ≡ Mode.Labelled
-TellsFault s most (Ranged e) = (s.mode ≡ Mode.Unlabelled) × IsFirstRanged s e.0
+TellsFault s most (Ranged e) = (s.mode ≡ Mode.Unlabelled) × IsFirstNotPlain s e.0
 TellsFault s most (TooMany e n) = (s.mode ≡ Mode.Unlabelled) × HasPlainRanges s
     × IsTooMany s most e.0 n
 TellsFault s most OutOfMemory = Unit {0}

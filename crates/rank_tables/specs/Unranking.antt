@@ -18,7 +18,7 @@ use Rattle.rank_tables.specs.declared.tasks.Task.{Task}
 
 -- Both grids have a row for each node, the numbers obey the table rule, the part of a sequence has
 -- none at size 0, and the tails are those of the products.
-pub record IsCounted (s : Spec) (counts tails : Cells) : Type 0 where
+pub record AreCountedGrids (s : Spec) (counts tails : Cells) : Type 0 where
   pub each_node : counts.nodes ≡ length s.nodes
   pub tail_nodes : tails.nodes ≡ counts.nodes
   pub tail_sizes : tails.sizes ≡ counts.sizes

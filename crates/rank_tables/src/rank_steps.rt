@@ -13,7 +13,7 @@ ghost use Rattle.rank_tables.specs.Grids.{number_at, TellRow, AreSuffixes};
 ghost use Rattle.rank_tables.specs.RankSteps.{visit_of, step_at, AreStepsOf, IsTold, TellStack};
 ghost use Rattle.rank_tables.specs.RankSteps.{IsFirstTold, IsJoined};
 ghost use Rattle.rank_tables.specs.TableRule.{sum_below};
-ghost use Rattle.rank_tables.specs.Unranking.{IsCounted};
+ghost use Rattle.rank_tables.specs.Unranking.{AreCountedGrids};
 ghost use Rattle.rank_tables.specs.Visits.{Visit as model_visit};
 ghost use Rattle.rank_tables.specs.Visits.{Told, whole_size, tuple_place, list_place, visited};
 ghost use Rattle.rank_tables.specs.Visits.{all_visited};
@@ -85,7 +85,7 @@ pub fn first_placed(
     tails: &Grid,
     steps: &[Step],
 ) -> Result<Placed, AllocError>
-    requires counted { IsCounted system.now counts.now tails.now }
+    requires counted { AreCountedGrids system.now counts.now tails.now }
     ensures first { IfOk result (λ p. IsFirstTold p (all_visited system.now (number_at counts.now)
         (map visit_of steps.now))) }
 {
@@ -108,7 +108,7 @@ fn take_step(
     step: Step,
     stack: &mut PlacesStack,
 ) -> Result<(), AllocError>
-    requires counted { IsCounted system.now counts.now tails.now }
+    requires counted { AreCountedGrids system.now counts.now tails.now }
     ensures taken { OnOk result ((told : List Told) → TellStack stack.old told → TellStack stack.new
         (visited system.now (number_at counts.now) (visit_of step) told)) }
 {
@@ -170,7 +170,7 @@ fn take_tuple(
     e: ExprId,
     stack: &mut PlacesStack,
 ) -> Result<(), AllocError>
-    requires counted { IsCounted system.now counts.now tails.now }
+    requires counted { AreCountedGrids system.now counts.now tails.now }
     ensures taken { OnOk result ((told : List Told) → TellStack stack.old told → TellStack stack.new
         (visited system.now (number_at counts.now) (model_visit.Tupled e.0) told)) }
 {

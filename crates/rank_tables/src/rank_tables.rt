@@ -6,7 +6,7 @@ ghost use Rattle.bz_model.specs.Spec as model;
 ghost use Rattle.bz_model.specs.WellFounded.{IsWellFounded};
 ghost use Rattle.object_store.specs.Tokens.{size_of, IsOf};
 ghost use Rattle.rank_tables.specs.RankOrder.{IsCount};
-ghost use Rattle.rank_tables.specs.Refusals.{IsFirstRanged, HasPlainRanges, HasSmallCounts};
+ghost use Rattle.rank_tables.specs.Refusals.{IsFirstNotPlain, HasPlainRanges, HasSmallCounts};
 ghost use Rattle.rank_tables.specs.Shapes.{IsRankOf};
 ghost use Rattle.rank_tables.specs.Tables.{AreCounts, TellsFault, IsNumberOf, told};
 
@@ -153,7 +153,7 @@ impl RankTables {
 
 /// The first node whose range isn't the plain one.
 fn first_ranged(system: &System) -> Option<ExprId>
-    ensures found { IfSome result (λ e. IsFirstRanged system.now e.0) }
+    ensures found { IfSome result (λ e. IsFirstNotPlain system.now e.0) }
     ensures none { IfNone result (HasPlainRanges system.now) }
 {
     system.known();

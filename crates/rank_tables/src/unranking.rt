@@ -11,7 +11,7 @@ ghost use Rattle.class_system.specs.Views.{number};
 ghost use Rattle.rank_tables.specs.Grids.{number_at, AreSuffixes};
 ghost use Rattle.rank_tables.specs.TableRule.{one_at, sum_below, tuples};
 ghost use Rattle.rank_tables.specs.Unranking.{AreTupleTasks, AreListTasks, Fulfils, IsTask};
-ghost use Rattle.rank_tables.specs.Unranking.{IsReplaced, IsCounted};
+ghost use Rattle.rank_tables.specs.Unranking.{IsReplaced, AreCountedGrids};
 
 use crate::grid::Grid;
 use crate::splits::{find_part, split_number};
@@ -32,7 +32,7 @@ pub fn made(
     task: Task,
 ) -> Result<Shape, AllocError>
     requires unlabelled { system.now.mode ≡ model.Mode.Unlabelled }
-    requires counted { IsCounted system.now counts.now tails.now }
+    requires counted { AreCountedGrids system.now counts.now tails.now }
     requires task { IsTask (length system.now.nodes) counts.now.sizes (number_at counts.now) task }
     ensures fulfils { IfOk result (λ shape. Fulfils system.now (number_at counts.now) task
         shape.items) }
@@ -61,7 +61,7 @@ fn replace(
     shape: &mut Shape,
 ) -> Result<(), AllocError>
     requires unlabelled { system.now.mode ≡ model.Mode.Unlabelled }
-    requires counted { IsCounted system.now counts.now tails.now }
+    requires counted { AreCountedGrids system.now counts.now tails.now }
     requires task { IsTask (length system.now.nodes) counts.now.sizes (number_at counts.now) task }
     ensures replaced { OnOk result (IsReplaced system.now counts.now.sizes (number_at counts.now)
         task tasks.old tasks.new shape.old.items shape.new.items) }

@@ -11,7 +11,7 @@ use Rattle.class_system.specs.Sound.{IsSound}
 use Rattle.shape_sampler.specs.Answer.{ChoosesBy}
 use Rattle.size_window.specs.declared.ending.Ending.{Ending as Told}
 use Rattle.size_window.specs.declared.ending.Ending.TheVariants as told
-use Rattle.size_window.specs.RunByBits.{Limits, State, Ending, start, at_start}
+use Rattle.size_window.specs.RunByBits.{Limits, RunState, Ending, start, at_start}
 use Rattle.size_window.specs.Drawing.{AreLimits, DrawingState, DrawingBelongs, state_of, ending_of}
 use Rattle.size_window.specs.Ideally.{chooser_of}
 use Rattle.size_window.specs.Trace.{EndsAt, TracesStart}
@@ -46,7 +46,7 @@ starts s x sound contents limits d tape used at same belongs ahead = record {
   sound = sound;
   belongs = belongs;
   within = same;
-  goes_on = not-ended d.ending (ap (λ (st : State). st.ending) at);
+  goes_on = not-ended d.ending (ap (λ (st : RunState). st.ending) at);
   ahead = ahead;
   so_far = record { course = at_start; state = sym at ∙ ap (state_of d) (sym used); goes = goes-start s x limits };
 }
@@ -96,10 +96,10 @@ same-closing o p word k l m n u v r q a b c d e = cc
 
 module _ (s : Spec) (x : Fraction) (F : ℕ) (table : (level node : ℕ) → Bounds) (limits : Limits) (t : TapeMet) (chosen : Chosen s F table) (d : DrawingState) (used most : ℕ) (h : IsCourseSoFar s x F table limits (bits_of t.source t.contents) d used most) where
   ending-is : h.course.state.ending ≡ option_map ending_of d.ending
-  ending-is = ap (λ (st : State). st.ending) h.drawing.state
+  ending-is = ap (λ (st : RunState). st.ending) h.drawing.state
 
   used-is : h.course.state.attempt.used ≡ used
-  used-is = ap (λ (st : State). st.attempt.used) h.drawing.state ∙ attempt-used d.waiting d.session used
+  used-is = ap (λ (st : RunState). st.attempt.used) h.drawing.state ∙ attempt-used d.waiting d.session used
 
   -- a course so far is one of which memory may run out, or a write fail
   pub course-of : CountsFault (has_failed d.ending) t.source t.before t.now → IsCourse s x F table limits t h.course most
@@ -126,8 +126,8 @@ module _ (s : Spec) (x : Fraction) (F : ℕ) (table : (level node : ℕ) → Bou
       record {
         course = course-of reads;
         ended = ended;
-        kept = λ is. ap (λ (st : State). st.kept) at ∙ end.kept (done-told e is);
-        out_of_turns = λ is. ap (λ (st : State). st.turns) at ∙ end.out_of_turns (limit-told e is);
+        kept = λ is. ap (λ (st : RunState). st.kept) at ∙ end.kept (done-told e is);
+        out_of_turns = λ is. ap (λ (st : RunState). st.turns) at ∙ end.out_of_turns (limit-told e is);
         used_up = λ is. all-used laws s x F table limits sound chosen are h.turns most h.course (ended ∙ ap Some is) t.source t.contents h.drawing.trace;
       }
 
@@ -136,9 +136,9 @@ module _ (s : Spec) (x : Fraction) (F : ℕ) (table : (level node : ℕ) → Bou
   closing-is e kept thrown bits turns end is_kept is_thrown are_bits are_turns =
       let at = h.drawing.state in
       let c = h.course in
-      let kept_at : c.state.kept ≡ d.kept = ap (λ (st : State). st.kept) at in
-      let thrown_at : c.state.thrown ≡ d.thrown = ap (λ (st : State). st.thrown) at in
-      let turns_at : c.state.turns ≡ d.turns = ap (λ (st : State). st.turns) at in
+      let kept_at : c.state.kept ≡ d.kept = ap (λ (st : RunState). st.kept) at in
+      let thrown_at : c.state.thrown ≡ d.thrown = ap (λ (st : RunState). st.thrown) at in
+      let turns_at : c.state.turns ≡ d.turns = ap (λ (st : RunState). st.turns) at in
       same-closing (told_open e) (open_lines table (ending_of e)) (ending_word (ending_of e)) kept c.state.kept thrown c.state.thrown bits c.state.attempt.used turns c.state.turns end.open_is (is_kept ∙ sym kept_at) (is_thrown ∙ sym thrown_at) (are_bits ∙ sym used-is) (are_turns ∙ sym turns_at)
 
 -- a drawing that is under way, of which a prefix was written, may be broken off

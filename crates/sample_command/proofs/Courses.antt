@@ -3,9 +3,9 @@ use Rattle.std.proofs.Common.{◌≡◌, ℕ, zero, suc, ◌+◌, ◌-◌, ◌�
 use Rattle.std.specs.Prelude.{Option, Some, None}
 use Rattle.std.proofs.Math.Decide.{dec_le}
 use Rattle.bz_model.specs.declared.cell.Cell.{Cell}
-use Rattle.size_window.specs.RunByBits.{Sampling, State, Entry, Course, Ending, quiet, turn_unless, followed_by, one_turn_on, after}
+use Rattle.size_window.specs.RunByBits.{Sampling, RunState, Entry, Course, Ending, quiet, turn_unless, followed_by, one_turn_on, after}
 
-abbrev made : State → List Entry → List Cell → Course
+abbrev made : RunState → List Entry → List Cell → Course
 made st entries cells = record { state = st; entries = entries; cells = cells }
 
 -- a quiet turn changes no course

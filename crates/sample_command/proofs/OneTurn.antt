@@ -14,7 +14,7 @@ use Rattle.size_window.specs.declared.turned.Turned.{Turned as Answer}
 use Rattle.size_window.specs.declared.turned.Turned.TheVariants as answer
 use Rattle.size_window.specs.RunByBits.{Limits, Entry, Course, followed_by}
 use Rattle.size_window.specs.Drawing.{MadeShape, DrawingState, DrawingBelongs, Waits, state_of, ending_of}
-use Rattle.size_window.specs.Follows.{Goes}
+use Rattle.size_window.specs.Follows.{GoesIdeally}
 use Rattle.size_window.specs.Trace.{TurnsContinue}
 use Rattle.size_window.specs.Turn.{IsTurn, IsCounted, told_entry, turns_by, turns_of, ending_by, TellsOpen, is_fault, node_bits, most_bits}
 use Rattle.size_window.proofs.Going.{ideal-fits}
@@ -43,8 +43,8 @@ lists-on s entries lines more None l none = subst (λ es. Lists s es (lines ++ m
 lists-on s entries lines more (Some e) l of = drawn.one_more entries e lines more l of refl refl
 
 module _ (s : Spec) (x : Fraction) (F : ℕ) (table : (level node : ℕ) → Bounds) (limits : Limits) (told : Option (ℕ → Option Bool)) (d now : DrawingState) (start used : ℕ) (a : Answer) (h : TellsTurn s x F table limits told d now start used a) where
-  goes-within : (c : Course) → c.state ≡ state_of d start → Goes s x limits c → Goes s x limits (followed_by c h.turn.turned)
-  goes-within c at g = subst (λ l. Goes s x l (followed_by c h.turn.turned)) h.within (h.turn.goes c at (subst (λ l. Goes s x l c) (sym h.within) g))
+  goes-within : (c : Course) → c.state ≡ state_of d start → GoesIdeally s x limits c → GoesIdeally s x limits (followed_by c h.turn.turned)
+  goes-within c at g = subst (λ l. GoesIdeally s x l (followed_by c h.turn.turned)) h.within (h.turn.goes c at (subst (λ l. GoesIdeally s x l c) (sym h.within) g))
 
   pub course-on : HasCourse s x limits d start → HasCourse s x limits now used
   course-on c = record { course = followed_by c.course h.turn.turned; state = h.turn.state; goes = goes-within c.course c.state c.goes }

@@ -13,7 +13,7 @@ use Rattle.size_window.specs.declared.ending.Ending.TheVariants.{ReadFault}
 use Rattle.size_window.specs.declared.ending.Straddle.TheVariants as straddle
 use Rattle.size_window.specs.RunByBits.{Limits, Course, Entry}
 use Rattle.size_window.specs.Drawing.{DrawingState, DrawingBelongs, state_of, ending_of}
-use Rattle.size_window.specs.Follows.{Goes}
+use Rattle.size_window.specs.Follows.{GoesIdeally}
 use Rattle.size_window.specs.Trace.{HasTrace}
 use Rattle.sample_command.specs.Drawn.{TapeMet, Lists, open_lines}
 use Rattle.call_stages.specs.Ends.{IsHeld}
@@ -48,7 +48,7 @@ pub record HasCourse (s : Spec) (x : Fraction) (limits : Limits) (d : DrawingSta
     : Type 0 where
   pub course : Course
   pub state : course.state ≡ state_of d used
-  pub goes : Goes s x limits course
+  pub goes : GoesIdeally s x limits course
 
 -- A drawing from a sound specification over a tape can make a turn.
 pub record CanTurn (s : Spec) (x : Fraction) (contents : List ℕ

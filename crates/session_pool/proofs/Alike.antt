@@ -8,12 +8,12 @@ use Rattle.shape_sampler.specs.Visit.{Chooser}
 use Rattle.size_window.specs.declared.ending.Ending.{Ending as Told}
 use Rattle.size_window.specs.declared.ending.Ending.TheVariants as told
 use Rattle.size_window.specs.RunByBits as run
-use Rattle.size_window.specs.RunByBits.{Limits, State, Course, after}
+use Rattle.size_window.specs.RunByBits.{Limits, RunState, Course, after}
 use Rattle.size_window.specs.Drawing.{ending_of}
 use Rattle.size_window.specs.Trace.{atoms_in, IsTrace, HasEnded, ToldTracesAreCourses, EndedTracesAreOne}
 use Rattle.session_pool.specs.Member.{MemberState}
 use Rattle.session_pool.specs.Pool.{sources_of}
-use Rattle.session_pool.specs.Interleaving.{Setting, IsMemberAfter, AreAlikeWhere, times, AreAlike}
+use Rattle.session_pool.specs.Interleaving.{Shared, IsMemberAfter, AreAlikeWhere, times, AreAlikeMembers}
 
 -- sources in one list of sources are the same
 same-source : (sources : List TapeSource) (pool other : List MemberState) → sources_of pool ≡ sources → sources_of other ≡ sources → (number : ℕ) (m n : MemberState) → slice_get pool number ≡ Some m → slice_get other number ≡ Some n → m.tape.source ≡ n.tape.source
@@ -33,7 +33,7 @@ failed-told (Some told.TurnLimit) e = absurd (cc)
 failed-told (Some told.ReadFault) e = refl
 
 -- drawings with the same course are alike
-alike-by : (w : Setting) (limits : Limits) (begun counts begun_then counts_then : List ℕ → ℕ) (turns others : ℕ) (m n : MemberState) (p : IsMemberAfter w limits begun counts turns m) (q : IsMemberAfter w limits begun_then counts_then others n) → p.course ≡ q.course → AreAlike m n
+alike-by : (w : Shared) (limits : Limits) (begun counts begun_then counts_then : List ℕ → ℕ) (turns others : ℕ) (m n : MemberState) (p : IsMemberAfter w limits begun counts turns m) (q : IsMemberAfter w limits begun_then counts_then others n) → p.course ≡ q.course → AreAlikeMembers m n
 alike-by w limits begun counts begun_then counts_then turns others m n p q same = record {
   state = sym p.trace.state ∙ (ap (λ (c : Course). c.state) same ∙ q.trace.state);
   atoms = p.trace.atoms ∙ ap (λ (c : Course). atoms_in c.entries) same ∙ sym q.trace.atoms;
@@ -41,14 +41,14 @@ alike-by w limits begun counts begun_then counts_then turns others m n p q same 
 }
 
 -- a drawing over a told tape that no failed read ended, with the trace of its course
-record IsUndisturbed (w : Setting) (limits : Limits) (tape : ℕ → Option Bool) (turns : ℕ) (m : MemberState) (most : ℕ) (c : Course) : Type 0 where
+record IsUndisturbed (w : Shared) (limits : Limits) (tape : ℕ → Option Bool) (turns : ℕ) (m : MemberState) (most : ℕ) (c : Course) : Type 0 where
   pub trace : IsTrace w.spec w.x w.F w.table limits (Some tape) turns most c
   pub never : c.state.ending ≢ Some run.Ending.ReadFault
   pub ending : c.state.ending ≡ option_map ending_of m.drawing.ending
 
-undisturbed : (w : Setting) (limits : Limits) (begun counts : List ℕ → ℕ) (turns : ℕ) (m : MemberState) (p : IsMemberAfter w limits begun counts turns m) → m.drawing.ending ≢ Some told.ReadFault → (tape : ℕ → Option Bool) → bits_of m.tape.source w.contents ≡ Some tape → IsUndisturbed w limits tape turns m p.most p.course
+undisturbed : (w : Shared) (limits : Limits) (begun counts : List ℕ → ℕ) (turns : ℕ) (m : MemberState) (p : IsMemberAfter w limits begun counts turns m) → m.drawing.ending ≢ Some told.ReadFault → (tape : ℕ → Option Bool) → bits_of m.tape.source w.contents ≡ Some tape → IsUndisturbed w limits tape turns m p.most p.course
 undisturbed w limits begun counts turns m p never tape is =
-    let ending : p.course.state.ending ≡ option_map ending_of m.drawing.ending = ap (λ (st : State). st.ending) p.trace.state in
+    let ending : p.course.state.ending ≡ option_map ending_of m.drawing.ending = ap (λ (st : RunState). st.ending) p.trace.state in
     record {
       trace = subst (λ o. IsTrace w.spec w.x w.F w.table limits o turns p.most p.course) is p.trace.trace;
       never = λ failed. never (failed-told m.drawing.ending (sym ending ∙ failed));
@@ -60,17 +60,17 @@ ended-some : (o : Option Told) → is_some o ≡ true → is_some (option_map en
 ended-some None e = e
 ended-some (Some ending) e = refl
 
-has-ended : (w : Setting) (limits : Limits) (tape : ℕ → Option Bool) (turns : ℕ) (m : MemberState) (most : ℕ) (c : Course) → IsUndisturbed w limits tape turns m most c → IsSome m.drawing.ending → HasEnded c
+has-ended : (w : Shared) (limits : Limits) (tape : ℕ → Option Bool) (turns : ℕ) (m : MemberState) (most : ℕ) (c : Course) → IsUndisturbed w limits tape turns m most c → IsSome m.drawing.ending → HasEnded c
 has-ended w limits tape turns m most c h some = record { ended = ap (λ (o : Option run.Ending). is_some o) h.ending ∙ ended-some m.drawing.ending some; undisturbed = h.never }
 
 -- What makes the courses of two such drawings the same.
 abbrev Suffices : ((times other_times : ℕ) → MemberState → MemberState → Type 0) → Type 0
-Suffices Premise = (w : Setting) (limits : Limits) (tape : ℕ → Option Bool) (k : Chooser) → ChoosesBy w.spec w.F w.table k → (i j : ℕ) (m n : MemberState) (most other_most : ℕ) (c d : Course) → IsUndisturbed w limits tape i m most c → IsUndisturbed w limits tape j n other_most d → Premise i j m n → c ≡ d
+Suffices Premise = (w : Shared) (limits : Limits) (tape : ℕ → Option Bool) (k : Chooser) → ChoosesBy w.spec w.F w.table k → (i j : ℕ) (m n : MemberState) (most other_most : ℕ) (c d : Course) → IsUndisturbed w limits tape i m most c → IsUndisturbed w limits tape j n other_most d → Premise i j m n → c ≡ d
 
 alike-where : (Premise : (times other_times : ℕ) → MemberState → MemberState → Type 0) → Suffices Premise → AreAlikeWhere Premise
 alike-where Premise suffices w limits sources c chooses begun counts turns pool p begun_then counts_then others other q number m n at at_other told never never_then premise = go (bits_of m.tape.source w.contents) refl told
   where
-    go : (o : Option (ℕ → Option Bool)) → bits_of m.tape.source w.contents ≡ o → is_some o ≡ true → AreAlike m n
+    go : (o : Option (ℕ → Option Bool)) → bits_of m.tape.source w.contents ≡ o → is_some o ≡ true → AreAlikeMembers m n
     go None is e = absurd (cc)
     go (Some tape) is e =
         let one = p.each number m at in

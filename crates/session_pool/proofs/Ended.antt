@@ -13,7 +13,7 @@ use Rattle.size_window.specs.declared.ending.Ending.TheVariants as told
 use Rattle.size_window.specs.declared.turned.Turned.TheVariants as turned
 use Rattle.size_window.specs.RunByBits.{quiet, turn_unless}
 use Rattle.size_window.specs.Drawing.{DrawingState, state_of, ending_of}
-use Rattle.size_window.specs.Follows.{Goes}
+use Rattle.size_window.specs.Follows.{GoesIdeally}
 use Rattle.size_window.proofs.ToldTraces.{quiet-on}
 use Rattle.size_window.specs.Turn.{IsTurn, IsCounted, is_fault, EndsThere, turns_by, told_fault}
 use Rattle.session_pool.specs.declared.pooled.Pooled.TheVariants as pooled
@@ -43,7 +43,7 @@ ended-turn s x F table bits d used ending is = record {
   state = refl;
   entry = refl;
   rests = λ other also. record { told = ap turned.Finished (same_Some ending other (sym is ∙ also)); same = refl; unused = refl };
-  goes = λ c at goes. subst (Goes s x d.limits) (sym (quiet-on c (state_of d used) at)) goes;
+  goes = λ c at goes. subst (GoesIdeally s x d.limits) (sym (quiet-on c (state_of d used) at)) goes;
   given = [];
   gave = gave-none bits used;
   ended = on_any bits (λ tape. ended-ends d.ending ending used tape is);

@@ -17,7 +17,7 @@ use Rattle.session_pool.specs.declared.pooled.Pooled.{Pooled}
 use Rattle.session_pool.specs.Member.{MemberState}
 use Rattle.session_pool.specs.Turn.{IsMemberTurn}
 use Rattle.session_pool.proofs.Ended.{ended-no_fault}
-use Rattle.session_pool.specs.Interleaving.{Setting, has_failed, failures, ended_failing, all_failures, RoseBy}
+use Rattle.session_pool.specs.Interleaving.{Shared, has_failed, failures, ended_failing, all_failures, RoseBy}
 
 -- 1 where a test passes
 abbrev pub one-if : Bool → ℕ
@@ -81,7 +81,7 @@ rises : (begun before now old new most : ℕ) → before ≤ now → min (begun 
 rises begun before now old new most up rose (inl same) = omega (arith, up, rose, same)
 rises begun before now old new most up rose (inr h) = let more = h.0 in let once = h.1 in omega (arith, up, rose, more, once)
 
-module _ (w : Setting) (before now : List ℕ → ℕ) (m later : MemberState) (answer : Pooled) (h : IsMemberTurn w.spec w.x w.F w.table w.contents before now m answer later) (name : List ℕ) where
+module _ (w : Shared) (before now : List ℕ → ℕ) (m later : MemberState) (answer : Pooled) (h : IsMemberTurn w.spec w.x w.F w.table w.contents before now m answer later) (name : List ℕ) where
   marks-then : (o : Option Told) → m.drawing.ending ≡ o → Marks (before name) (now name) (mark name m.tape.source m.drawing.ending) (mark name later.tape.source later.drawing.ending)
   marks-then None is =
       subst (λ source. Marks (before name) (now name) (mark name m.tape.source m.drawing.ending) (mark name source later.drawing.ending)) (sym h.source)
@@ -132,7 +132,7 @@ answer-ends source before now name (turned.Finished (told.Undecided straddle)) h
 answer-ends source before now name (turned.Finished told.TurnLimit) h = let c = count-stays source before now name h in omega (arith, c)
 answer-ends source before now name (turned.Finished told.ReadFault) h = let c = count-once source before now name h in omega (arith, c)
 
-module _ (w : Setting) (before now : List ℕ → ℕ) (m later : MemberState) (answer : Pooled) (h : IsMemberTurn w.spec w.x w.F w.table w.contents before now m answer later) (name : List ℕ) where
+module _ (w : Shared) (before now : List ℕ → ℕ) (m later : MemberState) (answer : Pooled) (h : IsMemberTurn w.spec w.x w.F w.table w.contents before now m answer later) (name : List ℕ) where
   ends-then : (o : Option Told) → m.drawing.ending ≡ o → now name + end_mark m.drawing.ending ≤ before name + end_mark later.drawing.ending
   ends-then None is =
       subst (λ o. now name + end_mark o ≤ before name + end_mark later.drawing.ending) (sym is)

@@ -8,13 +8,13 @@ use Rattle.std.proofs.lemmas.List.Sums.{sum_by-le}
 use Rattle.std.proofs.lemmas.Option.{slice_get_within, get_or_from_slice_get, slice_get-map}
 use Rattle.bit_tape.specs.Tape.{TapeState, bits_of}
 use Rattle.size_window.specs.declared.ending.Ending.{Ending as Told}
-use Rattle.size_window.specs.RunByBits.{Limits, State, at_start}
+use Rattle.size_window.specs.RunByBits.{Limits, RunState, at_start}
 use Rattle.size_window.specs.Drawing.{ending_of}
 use Rattle.size_window.specs.Turn.{entry_of}
 use Rattle.size_window.specs.Trace.{HasTrace, TracesStart}
 use Rattle.session_pool.specs.Member.{MemberState, IsNewMember}
 use Rattle.session_pool.specs.Pool.{tapes_of, sources_of}
-use Rattle.session_pool.specs.Interleaving.{Setting, IsMemberAfter, IsPoolAfter, WasAsked, EndedRightly, failures}
+use Rattle.session_pool.specs.Interleaving.{Shared, IsMemberAfter, IsPoolAfter, WasAsked, EndedRightly, failures}
 use Rattle.session_pool.proofs.Failures.{mark, going-mark}
 
 -- one more tape, and one more member over it
@@ -32,10 +32,10 @@ not-ended None e = refl
 not-ended (Some ending) e = absurd (cc)
 
 new-going : (limits : Limits) (tape : TapeState) (m : MemberState) → IsNewMember limits tape m → m.drawing.ending ≡ None
-new-going limits tape m new = not-ended m.drawing.ending (ap (λ (st : State). st.ending) new.state)
+new-going limits tape m new = not-ended m.drawing.ending (ap (λ (st : RunState). st.ending) new.state)
 
 -- it stands where no turn leaves it
-new-member : TracesStart → (w : Setting) (limits : Limits) (counts : List ℕ → ℕ) (m : MemberState) → IsNewMember limits m.tape m → m.tape.used ≡ 0 → IsMemberAfter w limits counts counts 0 m
+new-member : TracesStart → (w : Shared) (limits : Limits) (counts : List ℕ → ℕ) (m : MemberState) → IsNewMember limits m.tape m → m.tape.used ≡ 0 → IsMemberAfter w limits counts counts 0 m
 new-member starts w limits counts m new unused =
     let going = new-going limits m.tape m new in
     record {
@@ -43,7 +43,7 @@ new-member starts w limits counts m new unused =
       course = at_start;
       trace = subst (λ used. HasTrace w.spec w.x w.F w.table limits (bits_of m.tape.source w.contents) 0 m.drawing used 0 at_start) (sym unused) (starts w.spec w.x w.F w.table limits (bits_of m.tape.source w.contents) m.drawing new.state new.same_limits new.atoms);
       entries = sym (ap (map entry_of) new.entries);
-      asked = subst (WasAsked 0 m.drawing) (sym going) (ap (λ (st : State). st.turns) new.state);
+      asked = subst (WasAsked 0 m.drawing) (sym going) (ap (λ (st : RunState). st.turns) new.state);
       ended = subst (λ o. IfSome o (EndedRightly w limits m.tape.source counts counts m.drawing)) (sym going) tt;
     }
 
@@ -62,7 +62,7 @@ none-failed limits pool name each =
     omega (arith, few)
 
 -- a new pool stands where no turn leaves it
-pub new-pool : TracesStart → (w : Setting) (limits : Limits) (counts : List ℕ → ℕ) (tapes : List TapeState) (pool : List MemberState) → tapes_of pool ≡ tapes → All (λ m. IsNewMember limits m.tape m) pool → All (λ tape. tape.used ≡ 0) tapes → IsPoolAfter w limits (map (λ (t : TapeState). t.source) tapes) counts counts [] pool
+pub new-pool : TracesStart → (w : Shared) (limits : Limits) (counts : List ℕ → ℕ) (tapes : List TapeState) (pool : List MemberState) → tapes_of pool ≡ tapes → All (λ m. IsNewMember limits m.tape m) pool → All (λ tape. tape.used ≡ 0) tapes → IsPoolAfter w limits (map (λ (t : TapeState). t.source) tapes) counts counts [] pool
 new-pool starts w limits counts tapes pool same each unused = record {
   same_sources = sources-are pool ∙ ap (map (λ (t : TapeState). t.source)) same;
   each = λ number m at.

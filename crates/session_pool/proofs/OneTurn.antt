@@ -14,7 +14,7 @@ use Rattle.size_window.specs.Trace.{HasTrace, TurnsContinueOf}
 use Rattle.session_pool.specs.declared.pooled.Pooled.{Pooled}
 use Rattle.session_pool.specs.Member.{MemberState}
 use Rattle.session_pool.specs.Turn.{IsMemberTurn, AnswersRightly, kept_in}
-use Rattle.session_pool.specs.Interleaving.{Setting, IsMemberAfter, WasAsked, EndedRightly}
+use Rattle.session_pool.specs.Interleaving.{Shared, IsMemberAfter, WasAsked, EndedRightly}
 use Rattle.session_pool.proofs.Failures.{fault-counted}
 
 -- a read that failed in a while failed in every longer while
@@ -47,7 +47,7 @@ asked-on n d later turned.OutOfMemory made at counted = absurd (made refl)
 asked-again : (n : ℕ) (d : DrawingState) (ending : Told) → WasAsked n d (Some ending) → WasAsked (suc n) d (Some ending)
 asked-again n d ending asked = omega (arith, asked)
 
-module _ (w : Setting) (limits : Limits) (begun before now : List ℕ → ℕ) (rose : (name : List ℕ) → begun name ≤ before name) (grew : (name : List ℕ) → before name ≤ now name) where
+module _ (w : Shared) (limits : Limits) (begun before now : List ℕ → ℕ) (rose : (name : List ℕ) → begun name ≤ before name) (grew : (name : List ℕ) → before name ≤ now name) where
   -- what was right of an end stays right
   pub still-rightly : (source : TapeSource) (d : DrawingState) (ending : Told) → EndedRightly w limits source begun before d ending → EndedRightly w limits source begun now d ending
   still-rightly source d ending h = record {
@@ -72,7 +72,7 @@ module _ (w : Setting) (limits : Limits) (begun before now : List ℕ → ℕ) (
     ended = still-ended m.tape.source m.drawing m.drawing.ending h.ended;
   }
 
-module _ (w : Setting) (limits : Limits) (begun before now : List ℕ → ℕ) (rose : (name : List ℕ) → begun name ≤ before name) (grew : (name : List ℕ) → before name ≤ now name) (m later : MemberState) (answer : Pooled) (h : IsMemberTurn w.spec w.x w.F w.table w.contents before now m answer later) (n : ℕ) (p : IsMemberAfter w limits begun before n m) (continues : TurnsContinueOf w.spec) where
+module _ (w : Shared) (limits : Limits) (begun before now : List ℕ → ℕ) (rose : (name : List ℕ) → begun name ≤ before name) (grew : (name : List ℕ) → before name ≤ now name) (m later : MemberState) (answer : Pooled) (h : IsMemberTurn w.spec w.x w.F w.table w.contents before now m answer later) (n : ℕ) (p : IsMemberAfter w limits begun before n m) (continues : TurnsContinueOf w.spec) where
   entries-now : p.course.entries ++ option_to_list h.turn.turned.entry ≡ map entry_of later.entries
   entries-now =
       let old : p.course.entries ++ option_to_list h.turn.turned.entry ≡ map entry_of m.entries ++ option_to_list h.turn.turned.entry = ap (λ es. es ++ option_to_list h.turn.turned.entry) p.entries in

@@ -12,7 +12,7 @@ use Rattle.session_pool.specs.declared.pooled.Pooled.{Pooled}
 use Rattle.session_pool.specs.Member.{MemberState}
 use Rattle.session_pool.specs.Pool.{sources_of}
 use Rattle.session_pool.specs.Turn.{IsPoolTurn}
-use Rattle.session_pool.specs.Interleaving.{Setting, IsMemberAfter, IsPoolAfter, times}
+use Rattle.session_pool.specs.Interleaving.{Shared, IsMemberAfter, IsPoolAfter, times}
 use Rattle.session_pool.proofs.Replaced.{replaced-here, replaced-elsewhere}
 use Rattle.session_pool.proofs.OneTurn.{member-rests, member-turns}
 use Rattle.session_pool.proofs.Failures.{failures-on, only-on}
@@ -31,7 +31,7 @@ once-more number turns t is = let more = times-on number turns t in let one : on
 as-often : (number : ℕ) (turns : List ℕ) (t : ℕ) → nat_eq number t ≡ false → times number (turns ++ t ∷ []) ≡ times number turns
 as-often number turns t is = let more = times-on number turns t in let none : one-if (nat_eq number t) ≡ 0 = ap one-if is in omega (arith, more, none)
 
-module _ (w : Setting) (limits : Limits) (sources : List TapeSource) (begun before now : List ℕ → ℕ) (grew : (name : List ℕ) → before name ≤ now name) (pool later : List MemberState) (number : ℕ) (answer : Pooled) (h : IsPoolTurn w.spec w.x w.F w.table w.contents before now pool number answer later) (turns : List ℕ) (p : IsPoolAfter w limits sources begun before turns pool) (continues : TurnsContinueOf w.spec) where
+module _ (w : Shared) (limits : Limits) (sources : List TapeSource) (begun before now : List ℕ → ℕ) (grew : (name : List ℕ) → before name ≤ now name) (pool later : List MemberState) (number : ℕ) (answer : Pooled) (h : IsPoolTurn w.spec w.x w.F w.table w.contents before now pool number answer later) (turns : List ℕ) (p : IsPoolAfter w limits sources begun before turns pool) (continues : TurnsContinueOf w.spec) where
   replaced : List MemberState
   replaced = slice_set pool number h.new_member
 

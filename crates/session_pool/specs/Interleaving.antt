@@ -21,7 +21,7 @@ use Rattle.session_pool.specs.Pool.{sources_of}
 
 -- What the drawings of a pool share: the specification, x, a table of bounds of its nodes in units
 -- of 2^-F, and the contents of the files where they are told.
-pub record Setting : Type 0 where
+pub record Shared : Type 0 where
   pub spec : Spec
   pub x : Fraction
   pub F : ℕ
@@ -30,7 +30,7 @@ pub record Setting : Type 0 where
 
 -- The setting of these.
 abbrev pub setting : Spec → Fraction → (F : ℕ) → (table : (level node : ℕ) → Bounds)
-    → (contents : List ℕ → Option (List ℕ)) → Setting
+    → (contents : List ℕ → Option (List ℕ)) → Shared
 setting s x F table contents = record { spec = s; x = x; F = F; table = table; contents = contents }
 
 -- How often a drawing's number stands in a list of turns.
@@ -47,7 +47,7 @@ WasAsked turns d (Some ending) = d.turns + (1 - turns_of ending) ≤ turns
 -- only where so many turns were counted and fewer objects are kept, and a failed read only where
 -- the count of its tape's name rose. Of a node whose number was left open the bounds of level 6 are
 -- told.
-pub record EndedRightly (w : Setting) (limits : Limits) (source : TapeSource) (begun counts : List ℕ
+pub record EndedRightly (w : Shared) (limits : Limits) (source : TapeSource) (begun counts : List ℕ
     → ℕ) (d : DrawingState) (ending : Ending) : Type 0 where
   pub kept : ending ≡ Done → d.kept ≡ limits.count
   pub out_of_turns : ending ≡ TurnLimit → (d.kept ≢ limits.count) × (d.turns ≡ limits.turns)
@@ -57,7 +57,7 @@ pub record EndedRightly (w : Setting) (limits : Limits) (source : TapeSource) (b
 -- A drawing of a pool after so many turns of its own: it has the trace of a drawing alone that was
 -- asked for so many turns over the bits that its tape was given, and the trace's entries are those
 -- that the drawing kept.
-pub record IsMemberAfter (w : Setting) (limits : Limits) (begun counts : List ℕ → ℕ) (turns : ℕ)
+pub record IsMemberAfter (w : Shared) (limits : Limits) (begun counts : List ℕ → ℕ) (turns : ℕ)
     (m : MemberState) : Type 0 where
   pub most : ℕ
   pub course : Course
@@ -93,7 +93,7 @@ RoseBy number before now = min (before + number) (2 ^ 64 - 1) ≤ now
 -- stand alone after as many turns as the list names it. The counts of failed reads never fell since
 -- the beginning; for each name that count rose at least as often as drawings over its tape ended
 -- with a failed read, and no count rose more often than drawings ended so.
-pub record IsPoolAfter (w : Setting) (limits : Limits) (sources : List TapeSource)
+pub record IsPoolAfter (w : Shared) (limits : Limits) (sources : List TapeSource)
     (begun counts : List ℕ → ℕ) (turns : List ℕ) (pool : List MemberState) : Type 0 where
   pub same_sources : sources_of pool ≡ sources
   pub each : (number : ℕ) (m : MemberState) → slice_get pool number ≡ Some m
@@ -104,7 +104,7 @@ pub record IsPoolAfter (w : Setting) (limits : Limits) (sources : List TapeSourc
 
 -- Two drawings are alike: they have one state, with as many bits used, kept the same objects in the
 -- same order, and counted as many atoms.
-pub record AreAlike (m other : MemberState) : Type 0 where
+pub record AreAlikeMembers (m other : MemberState) : Type 0 where
   pub state : state_of m.drawing m.tape.used ≡ state_of other.drawing other.tape.used
   pub atoms : m.drawing.atoms ≡ other.drawing.atoms
   pub entries : map entry_of m.entries ≡ map entry_of other.entries
@@ -115,7 +115,7 @@ pub record AreAlike (m other : MemberState) : Type 0 where
 abbrev pub AreAlikeWhere : (Premise : (times other_times : ℕ) → MemberState → MemberState → Type 0)
     → Type 0
 AreAlikeWhere Premise =
-    (w : Setting) (limits : Limits) (sources : List TapeSource) (c : Chooser)
+    (w : Shared) (limits : Limits) (sources : List TapeSource) (c : Chooser)
     → ChoosesBy w.spec w.F w.table c
     → (begun counts : List ℕ → ℕ) (turns : List ℕ) (pool : List MemberState)
     → IsPoolAfter w limits sources begun counts turns pool
@@ -124,4 +124,4 @@ AreAlikeWhere Premise =
     → (number : ℕ) (m n : MemberState) → slice_get pool number ≡ Some m
     → slice_get other number ≡ Some n → IsSome (bits_of m.tape.source w.contents)
     → m.drawing.ending ≢ Some ReadFault → n.drawing.ending ≢ Some ReadFault
-    → Premise (times number turns) (times number others) m n → AreAlike m n
+    → Premise (times number turns) (times number others) m n → AreAlikeMembers m n

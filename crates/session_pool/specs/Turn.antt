@@ -10,7 +10,7 @@ use Rattle.size_window.specs.declared.ending.Ending.TheVariants.{Done, TurnLimit
 use Rattle.size_window.specs.declared.turned.Entry.{Entry}
 use Rattle.size_window.specs.declared.turned.Turned.{Turned}
 use Rattle.size_window.specs.declared.turned.Turned.TheVariants as turned
-use Rattle.size_window.specs.Turn.{IsTurn, IsCounted, is_fault, IfKept, IsNext, HasLabels}
+use Rattle.size_window.specs.Turn.{IsTurn, IsCounted, is_fault, IfKept, IsNextKept, HasLabels}
 use Rattle.size_window.specs.Turn.{most_bits, TellsOpen}
 use Rattle.session_pool.specs.declared.pooled.Pooled.{Pooled}
 use Rattle.session_pool.specs.declared.pooled.Pooled.TheVariants.{Going, Finished}
@@ -49,7 +49,7 @@ pub record IsMemberTurn (s : Spec) (x : Fraction) (F : ℕ) (table : (level node
       later.drawing later.tape.used
   pub again : IfSome m.drawing.ending (λ ending. (told ≡ turned.Finished ending) × (later ≡ m))
   pub counted : IsCounted m.drawing told later.drawing
-  pub next : IfKept told (IsNext m.drawing.limits m.drawing.kept later.tape.used)
+  pub next : IfKept told (IsNextKept m.drawing.limits m.drawing.kept later.tape.used)
   pub rightly : m.drawing.ending ≡ None → AnswersRightly table m told
   pub labels : IfKept told (HasLabels s.mode)
   pub entries : later.entries ≡ m.entries ++ kept_in told

@@ -12,7 +12,7 @@ ghost use Rattle.session_pool.specs.Member.{counts_of};
 ghost use Rattle.session_pool.specs.Pool.{IsNewPool, PoolBelongs, TapesBelong, LeavesTapeOf};
 ghost use Rattle.session_pool.specs.Pool.{tapes_of, sources_of, bits_to_nodes_at, ending_at};
 ghost use Rattle.session_pool.specs.Turn.{IsPoolTurn, answer_of};
-ghost use Rattle.session_pool.specs.Interleaving.{Setting, setting, IsPoolAfter};
+ghost use Rattle.session_pool.specs.Interleaving.{Shared, setting, IsPoolAfter};
 
 use crate::member::Member;
 use crate::pooled::{Pooled, Pooling};
@@ -60,7 +60,7 @@ impl Pool {
         requires unused { All (λ tape. tape.used ≡ 0) tapes.items }
         ensures new { IfOk result (IsNewPool (limits_of limits) tapes.items) }
         ensures belongs { IfOk result (λ p. (x : Fraction) → PoolBelongs founded.now x p) }
-        ensures alone { IfOk result (λ p. (w : Setting) (counts : List ℕ → ℕ)
+        ensures alone { IfOk result (λ p. (w : Shared) (counts : List ℕ → ℕ)
             → IsPoolAfter w (limits_of limits) (map (λ tape. tape.source) tapes.items)
             counts counts [] p) }
     {

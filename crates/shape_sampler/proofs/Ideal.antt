@@ -16,7 +16,7 @@ use Rattle.object_store.specs.Walk.{AllBelow}
 use Rattle.object_store.proofs.InRange.{body-below, union-parts, product-parts, replicate-below}
 use Rattle.choice_draw.specs.IdealOfCell.{IsIdealOfCell, IsOverOfCell}
 use Rattle.shape_sampler.specs.Visit.{Attempt, Visited, leaf_visited, atom_visited, with_pending, with_token, with_cell, given_up}
-use Rattle.shape_sampler.specs.Belonging.{Belonging, GoesOn, IsIdealShape, IsIdealOver}
+use Rattle.shape_sampler.specs.Belonging.{Belonging, Continues, IsIdealShape, IsIdealOver}
 use Rattle.shape_sampler.proofs.Visits.{goes-on, is-over, empty-turns, atom-turns, atom-over, class-turns, product-turns, union-turns, counted-turns, counted-over}
 use Rattle.shape_sampler.proofs.Shapes.{ideal-shape}
 
@@ -28,33 +28,33 @@ IsIdealVisit s x whole _ = Unit {0}
 
 module _ (s : Spec) (x : Fraction) (whole : ℕ) where
   -- an attempt that goes on as ideal making does
-  pub went : (a : Attempt) → AllBelow (length s.nodes) a.pending → GoesOn s x whole a.tokens a.cells a.room a.pending → IsIdealVisit s x whole (Visited.Went a)
+  pub went : (a : Attempt) → AllBelow (length s.nodes) a.pending → Continues s x whole a.tokens a.cells a.room a.pending → IsIdealVisit s x whole (Visited.Went a)
   went a range g = (
     record { in_range = range; goes_on = λ some. g },
-    λ none. ideal-shape s x whole a.tokens a.cells a.room (subst (GoesOn s x whole a.tokens a.cells a.room) none g),
+    λ none. ideal-shape s x whole a.tokens a.cells a.room (subst (Continues s x whole a.tokens a.cells a.room) none g),
   )
 
   module _ (a : Attempt) (b : Belonging s x whole a) (e : ℕ) (rest : List ℕ) (pending : a.pending ≡ e ∷ rest) where
-    now : GoesOn s x whole a.tokens a.cells a.room (e ∷ rest)
-    now = subst (GoesOn s x whole a.tokens a.cells a.room) pending (b.goes_on (λ none. let same = pending in cc))
+    now : Continues s x whole a.tokens a.cells a.room (e ∷ rest)
+    now = subst (Continues s x whole a.tokens a.cells a.room) pending (b.goes_on (λ none. let same = pending in cc))
 
     range : AllBelow (length s.nodes) (e ∷ rest)
     range = subst (AllBelow (length s.nodes)) pending b.in_range
 
     -- no cell is added
-    no-cell : (tokens : List Token) (es : List ℕ) (room : ℕ) → GoesOn s x whole tokens (a.cells ++ []) room es → GoesOn s x whole tokens a.cells room es
-    no-cell tokens es room g = subst (λ cs. GoesOn s x whole tokens cs room es) (append-nil a.cells) g
+    no-cell : (tokens : List Token) (es : List ℕ) (room : ℕ) → Continues s x whole tokens (a.cells ++ []) room es → Continues s x whole tokens a.cells room es
+    no-cell tokens es room g = subst (λ cs. Continues s x whole tokens cs room es) (append-nil a.cells) g
 
     -- no token is added either
-    no-token : (es : List ℕ) (room : ℕ) → GoesOn s x whole (a.tokens ++ []) (a.cells ++ []) room es → GoesOn s x whole a.tokens a.cells room es
-    no-token es room g = subst (λ ts. GoesOn s x whole ts a.cells room es) (append-nil a.tokens) (no-cell (a.tokens ++ []) es room g)
+    no-token : (es : List ℕ) (room : ℕ) → Continues s x whole (a.tokens ++ []) (a.cells ++ []) room es → Continues s x whole a.tokens a.cells room es
+    no-token es room g = subst (λ ts. Continues s x whole ts a.cells room es) (append-nil a.tokens) (no-cell (a.tokens ++ []) es room g)
 
     pub ideal-leaf : (word : List ℕ) → node_at s e ≡ Some (Node.Empty word) → IsIdealVisit s x whole (leaf_visited a rest)
     ideal-leaf word at = went (with_pending (with_token a token.Unit) rest) range.1 (no-cell (a.tokens ++ token.Unit ∷ []) rest a.room (goes-on s x now (empty-turns s x e a.room rest word at)))
 
     pub ideal-atom : (word : List ℕ) → node_at s e ≡ Some (Node.Atom word) → (room : ℕ) → a.room ≡ room → IsIdealVisit s x whole (atom_visited a rest room)
-    ideal-atom word at zero same = subst (IsIdealOver s x whole) (append-nil a.cells) (is-over s x (subst (λ r. GoesOn s x whole a.tokens a.cells r (e ∷ rest)) same now) (atom-over s x e rest word at))
-    ideal-atom word at (suc room) same = went (record (with_pending (with_token a token.Dot) rest) { room = room }) range.1 (no-cell (a.tokens ++ token.Dot ∷ []) rest room (goes-on s x (subst (λ r. GoesOn s x whole a.tokens a.cells r (e ∷ rest)) same now) (atom-turns s x e room rest word at)))
+    ideal-atom word at zero same = subst (IsIdealOver s x whole) (append-nil a.cells) (is-over s x (subst (λ r. Continues s x whole a.tokens a.cells r (e ∷ rest)) same now) (atom-over s x e rest word at))
+    ideal-atom word at (suc room) same = went (record (with_pending (with_token a token.Dot) rest) { room = room }) range.1 (no-cell (a.tokens ++ token.Dot ∷ []) rest room (goes-on s x (subst (λ r. Continues s x whole a.tokens a.cells r (e ∷ rest)) same now) (atom-turns s x e room rest word at)))
 
     module _ (sound : IsSound s) where
       pub ideal-class : (c body : ℕ) → node_at s e ≡ Some (Node.Class c) → body_of s c ≡ Some body → IsIdealVisit s x whole (Visited.Went (with_pending a (body ∷ rest)))

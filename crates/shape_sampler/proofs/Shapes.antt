@@ -11,7 +11,7 @@ use Rattle.bz_laws.proofs.Makings.{fine}
 use Rattle.object_store.specs.declared.token.Token.{Token}
 use Rattle.object_store.specs.Tokens.{tokens_of}
 use Rattle.object_store.proofs.OneToOne.{one-object}
-use Rattle.shape_sampler.specs.Belonging.{MakesTokens, GoesOn, IsIdealShape}
+use Rattle.shape_sampler.specs.Belonging.{MakesTokens, Continues, IsIdealShape}
 use Rattle.shape_sampler.proofs.Numbers.{least_of, least_of-in}
 
 -- objects that class 0 makes with the same tokens are the same
@@ -24,7 +24,7 @@ one-made s x whole r q us vs left rest o p h k e =
 
 -- Where an attempt goes on as it should and no node is pending, its tokens and cells are an ideal
 -- shape.
-pub ideal-shape : (s : Spec) (x : Fraction) (whole : ℕ) (tokens : List Token) (cells : List Cell) (room : ℕ) → GoesOn s x whole tokens cells room [] → IsIdealShape s x whole tokens cells
+pub ideal-shape : (s : Spec) (x : Fraction) (whole : ℕ) (tokens : List Token) (cells : List Cell) (room : ℕ) → Continues s x whole tokens cells room [] → IsIdealShape s x whole tokens cells
 ideal-shape s x whole tokens cells room g = record { object = first.object; spelled = first.spelled ∙ append-nil tokens; room_left = room; made = made }
   where
     first : MakesTokens s x whole (least_of cells ++ []) (tokens ++ []) room []

@@ -13,7 +13,7 @@ use Rattle.object_store.specs.declared.token.Token.{Token}
 use Rattle.object_store.specs.declared.token.Token.TheVariants as token
 use Rattle.object_store.specs.Tokens.{tokens_of, tokens_all}
 use Rattle.object_store.proofs.NextToken.{tokens_all-joined, form-tokens}
-use Rattle.shape_sampler.specs.Belonging.{MakesTokens, GoesOn, IsIdealOver}
+use Rattle.shape_sampler.specs.Belonging.{MakesTokens, Continues, IsIdealOver}
 use Rattle.shape_sampler.proofs.Numbers.{apart, none_in, one_in}
 use Rattle.shape_sampler.proofs.Making.{leading, nothing, never_over, over_cases, parted, over_parted, count-made}
 
@@ -30,7 +30,7 @@ pub record Turns (s : Spec) (x : Fraction) (before : List ℕ) (room : ℕ) (tok
 
 module _ (s : Spec) (x : Fraction) where
   -- an attempt that went on as ideal making does goes on so after a visit
-  pub goes-on : {whole : ℕ} {tokens : List Token} {cells : List Cell} {room : ℕ} {before : List ℕ} {ts : List Token} {cs : List Cell} {now : List ℕ} {room_now : ℕ} → GoesOn s x whole tokens cells room before → Turns s x before room ts cs now room_now → GoesOn s x whole (tokens ++ ts) (cells ++ cs) room_now now
+  pub goes-on : {whole : ℕ} {tokens : List Token} {cells : List Cell} {room : ℕ} {before : List ℕ} {ts : List Token} {cs : List Cell} {now : List ℕ} {room_now : ℕ} → Continues s x whole tokens cells room before → Turns s x before room ts cs now room_now → Continues s x whole (tokens ++ ts) (cells ++ cs) room_now now
   goes-on {whole} {tokens} {cells} {room} {before} {ts} {cs} {now} {room_now} g t = record { makes = makes; over = over }
     where
       makes : (us rest left : List Fraction) (os : Objects) (r : ℕ) → AreInCells us (cells ++ cs) → MakesEach s x now room_now rest (All os r) left → MakesTokens s x whole (us ++ rest) ((tokens ++ ts) ++ tokens_all os) r left
@@ -52,7 +52,7 @@ module _ (s : Spec) (x : Fraction) where
           subst (λ vs. ClassMakes s x 0 whole vs Over left) (sym (append_assoc a.front a.back rest) ∙ ap (λ vs. vs ++ rest) (sym a.whole)) m
 
   -- a visit that is over the room for all numbers of its cells makes the attempt over
-  pub is-over : {whole : ℕ} {tokens : List Token} {cells : List Cell} {room : ℕ} {before : List ℕ} {cs : List Cell} → GoesOn s x whole tokens cells room before → ((us rest : List Fraction) → AreInCells us cs → MakesEach s x before room (us ++ rest) AllOver rest) → IsIdealOver s x whole (cells ++ cs)
+  pub is-over : {whole : ℕ} {tokens : List Token} {cells : List Cell} {room : ℕ} {before : List ℕ} {cs : List Cell} → Continues s x whole tokens cells room before → ((us rest : List Fraction) → AreInCells us cs → MakesEach s x before room (us ++ rest) AllOver rest) → IsIdealOver s x whole (cells ++ cs)
   is-over {whole} {cells = cells} {cs = cs} g o = record { over = over }
     where
       over : (us rest : List Fraction) → AreInCells us (cells ++ cs) → ClassMakes s x 0 whole (us ++ rest) Over rest
@@ -62,7 +62,7 @@ module _ (s : Spec) (x : Fraction) where
           subst (λ vs. ClassMakes s x 0 whole vs Over rest) (sym (append_assoc a.front a.back rest) ∙ ap (λ vs. vs ++ rest) (sym a.whole)) m
 
   -- an attempt starts with the body of class 0 and the whole room
-  pub begins : (whole body : ℕ) → body_of s 0 ≡ Some body → GoesOn s x whole [] [] whole (body ∷ [])
+  pub begins : (whole body : ℕ) → body_of s 0 ≡ Some body → Continues s x whole [] [] whole (body ∷ [])
   begins whole body at = record { makes = makes; over = over }
     where
       makes : (us rest left : List Fraction) (os : Objects) (r : ℕ) → AreInCells us [] → MakesEach s x (body ∷ []) whole rest (All os r) left → MakesTokens s x whole (us ++ rest) ([] ++ tokens_all os) r left

@@ -24,7 +24,7 @@ pub record MakesTokens (s : Spec) (x : Fraction) (room : ℕ) (us : List Fractio
 -- from the room left and the further numbers, class 0 makes from all these numbers and the whole
 -- room the tokens so far, followed by those of what the nodes make; and where the pending nodes are
 -- over, class 0 is over. The numbers left are the same.
-pub record GoesOn (s : Spec) (x : Fraction) (whole : ℕ) (tokens : List Token) (cells : List Cell)
+pub record Continues (s : Spec) (x : Fraction) (whole : ℕ) (tokens : List Token) (cells : List Cell)
     (room : ℕ) (pending : List ℕ) : Type 0 where
   pub makes : (us rest left : List Fraction) (os : Objects) (r : ℕ) → AreInCells us cells
       → MakesEach s x pending room rest (All os r) left → MakesTokens s x whole (us ++ rest)
@@ -36,7 +36,7 @@ pub record GoesOn (s : Spec) (x : Fraction) (whole : ℕ) (tokens : List Token) 
 -- any, it goes on as ideal making does.
 pub record Belonging (s : Spec) (x : Fraction) (whole : ℕ) (a : Attempt) : Type 0 where
   pub in_range : AllBelow (length s.nodes) a.pending
-  pub goes_on : a.pending ≢ [] → GoesOn s x whole a.tokens a.cells a.room a.pending
+  pub goes_on : a.pending ≢ [] → Continues s x whole a.tokens a.cells a.room a.pending
 
 -- A shape is the ideal one where one object has its tokens, and class 0 makes this object from the
 -- whole room and every list of numbers of the cells; further numbers are left.

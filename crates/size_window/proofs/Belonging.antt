@@ -22,7 +22,7 @@ use Rattle.labelling.specs.LabelsByBits.{bits_in}
 use Rattle.size_window.specs.declared.turned.Entry.{Entry}
 use Rattle.size_window.specs.RunByBits.{Limits}
 use Rattle.size_window.specs.Drawing.{MadeShape, DrawingState, Waits, DrawingBelongs, shape_in, counted, thrown_one, taken_out, waiting_with, kept_one_more, ended_by, begun_one}
-use Rattle.size_window.specs.Turn.{turns_by, GoesOn, IsCounted, IsIdleTurn, Settles, KeepsOrWaits, outcome_of, MaySettle, IfStraddles, IfKept, IsNext, HasLabels}
+use Rattle.size_window.specs.Turn.{turns_by, GoesOn, IsCounted, IsIdleTurn, Settles, KeepsOrWaits, outcome_of, MaySettle, IfStraddles, IfKept, IsNextKept, HasLabels}
 use Rattle.size_window.specs.Turn as turning
 use Rattle.size_window.proofs.Going.{ideal-fits}
 use Rattle.size_window.proofs.Turning.{if-told}
@@ -177,9 +177,9 @@ module _ (s : Spec) (x : Fraction) (before : DrawingState) (b : DrawingBelongs s
     visit-belongs mode is_mode table stepped.OutOfMemory used result now leaves ideal settles = subst (DrawingBelongs s x) (sym (settles.1 ∙ ap (λ st. record before { session = st }) leaves)) b
 
     -- the entry kept
-    made-kept : (mode : Mode) (used : ℕ) (result : Turned) (now : DrawingState) → KeepsOrWaits mode (shape_in session) used (counted (taken_out mid)) result now → before.limits.min ≤ size_of session.tokens → size_of session.tokens ≤ before.limits.max → IfKept result (IsNext before.limits before.kept used)
-    made-kept Mode.Labelled used result now k enough fits = subst (λ r. IfKept r (IsNext before.limits before.kept used)) (sym k.0) tt
-    made-kept Mode.Unlabelled used result now k enough fits = subst (λ r. IfKept r (IsNext before.limits before.kept used)) (sym k.told) (record {
+    made-kept : (mode : Mode) (used : ℕ) (result : Turned) (now : DrawingState) → KeepsOrWaits mode (shape_in session) used (counted (taken_out mid)) result now → before.limits.min ≤ size_of session.tokens → size_of session.tokens ≤ before.limits.max → IfKept result (IsNextKept before.limits before.kept used)
+    made-kept Mode.Labelled used result now k enough fits = subst (λ r. IfKept r (IsNextKept before.limits before.kept used)) (sym k.0) tt
+    made-kept Mode.Unlabelled used result now k enough fits = subst (λ r. IfKept r (IsNextKept before.limits before.kept used)) (sym k.told) (record {
       number = k.number;
       place = k.place ∙ ap (λ cs. used - bits_in cs) (sym k.cells);
       least = subst (λ ts. before.limits.min ≤ size_of ts) (sym k.shape_is) enough;
@@ -195,7 +195,7 @@ module _ (s : Spec) (x : Fraction) (before : DrawingState) (b : DrawingBelongs s
       nothing-kept : (P : Entry → Type 0) (result : Turned) (other : Turned) → IfKept other P → result ≡ other → IfKept result P
       nothing-kept P result other h is = subst (λ r. IfKept r P) (sym is) h
 
-      pub visit-kept : (step : Stepped) (used : ℕ) (result : Turned) (now : DrawingState) → Leaves step before.session session → IsIdealAnswer s x step session → Settles mode (outcome_of table step) used mid result now → IfKept result (IsNext before.limits before.kept used)
+      pub visit-kept : (step : Stepped) (used : ℕ) (result : Turned) (now : DrawingState) → Leaves step before.session session → IsIdealAnswer s x step session → Settles mode (outcome_of table step) used mid result now → IfKept result (IsNextKept before.limits before.kept used)
       visit-kept stepped.Moved used result now leaves ideal settles = nothing-kept _ result answer.Going tt settles.0
       visit-kept stepped.Made used result now leaves ideal (inl settles) = nothing-kept _ result answer.Going tt settles.1.0
       visit-kept stepped.Made used result now leaves ideal (inr settles) = made-kept mode used result now settles.1 settles.0 (shape-fits leaves.0.whole ideal)

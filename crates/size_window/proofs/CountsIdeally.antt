@@ -30,7 +30,7 @@ no-room_below high few room here = elim (cases_Bool (nat_lt 64 high)) [
   | inr not_less ↦ let none : None ≡ Some room = sym (ap (λ b. cond b (Some 64) None) not_less) ∙ here in cc
 ]
 
-module _ (s : Spec) (x : Fraction) (F : ℕ) (table : (level node : ℕ) → Bounds) (sound : IsSound s) (bounded : oracle.IsSound s x F table) (e part : ℕ) (kind : Kind) (at : node_at s e ≡ Some (counted_node kind part)) where
+module _ (s : Spec) (x : Fraction) (F : ℕ) (table : (level node : ℕ) → Bounds) (sound : IsSound s) (bounded : oracle.IsSoundTable s x F table) (e part : ℕ) (kind : Kind) (at : node_at s e ≡ Some (counted_node kind part)) where
   -- the node's range
   ranged : (r : Range) × IsCountedAs s e part kind r
   ranged = let r = has_range s sound e (counted_node kind part) at in (r.0, record { node = at; range = r.1; suits = suits s e part kind r.0 sound at r.1 })

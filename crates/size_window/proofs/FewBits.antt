@@ -12,7 +12,7 @@ use Rattle.choice_draw.specs.LeastCell.{SpellsDraw}
 use Rattle.choice_draw.proofs.SpelledDraws.{draws_spell}
 use Rattle.labelling.specs.LabelsByBits.{Labelling, labels_from, labelling}
 use Rattle.shape_sampler.specs.Visit.{Chooser, Attempt, Visited, visit, visit_among, node_visited, after_draw, union_answered, counted_answered, room_for, atom_visited}
-use Rattle.size_window.specs.RunByBits.{Sampling, State, Turned, Ending, quiet, with_attempt, added, thrown_away, kept_or_waits, went, visited, shape_turn, counted_turn, label_turn, labelled_with, turn_unless, fault_place, after, ended}
+use Rattle.size_window.specs.RunByBits.{Sampling, RunState, Turned, Ending, quiet, with_attempt, added, thrown_away, kept_or_waits, went, visited, shape_turn, counted_turn, label_turn, labelled_with, turn_unless, fault_place, after, ended}
 use Rattle.size_window.specs.TapeEnd.{bits_a_turn, UsesFewBits}
 use Rattle.size_window.proofs.Ordering.{KeepsSize, course-size}
 
@@ -102,14 +102,14 @@ module _ (tape : ℕ → Option Bool) (fault : Option ℕ) where
 
 module _ (s : Sampling) where
   -- A turn counts as many turns more and uses at most so many bits for each.
-  record FewTurn (st : State) (t : Turned) : Type 0 where
+  record FewTurn (st : RunState) (t : Turned) : Type 0 where
     pub turns : t.state.turns ≤ s.limits.turns
     pub bits : t.state.attempt.used ≤ t.state.turns * bits_a_turn s.limits
 
   -- what a turn that is counted leaves, the state being as it stood before it was counted
-  module _ (st : State) (within : suc st.turns ≤ s.limits.turns) (before : st.attempt.used ≤ st.turns * bits_a_turn s.limits) where
+  module _ (st : RunState) (within : suc st.turns ≤ s.limits.turns) (before : st.attempt.used ≤ st.turns * bits_a_turn s.limits) where
     -- the state in the turn
-    abbrev now : State
+    abbrev now : RunState
     now = record st { turns = suc st.turns }
 
     more : (used bits : ℕ) → used ≤ st.attempt.used + bits → bits ≤ bits_a_turn s.limits → used ≤ suc st.turns * bits_a_turn s.limits
@@ -161,7 +161,7 @@ module _ (s : Sampling) where
     counted-few-by fault false size is = turn-few fault st.attempt.pending
 
   -- a turn that costs none
-  module _ (st : State) (within : st.turns ≤ s.limits.turns) (before : st.attempt.used ≤ st.turns * bits_a_turn s.limits) (size : KeepsSize s st) where
+  module _ (st : RunState) (within : st.turns ≤ s.limits.turns) (before : st.attempt.used ≤ st.turns * bits_a_turn s.limits) (size : KeepsSize s st) where
     ends-or-counts : (fault : Option ℕ) (all limit : Bool) → nat_eq st.turns s.limits.turns ≡ limit → FewTurn st (cond all (quiet (ended st Ending.Done st.attempt.used)) (cond limit (quiet (ended st Ending.TurnLimit st.attempt.used)) (counted_turn s (bit_of s.tape (fault_place st fault)) (record st { turns = suc st.turns }))))
     ends-or-counts fault true limit is = record { turns = within; bits = before }
     ends-or-counts fault false true is = record { turns = within; bits = before }

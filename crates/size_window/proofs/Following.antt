@@ -18,21 +18,21 @@ use Rattle.class_system.specs.Sound.{IsSound}
 use Rattle.class_system.proofs.Soundness.{has_body, body_in_range, class_in_range}
 use Rattle.choice_draw.specs.Draw.{Bit, bit_of}
 use Rattle.shape_sampler.specs.Visit.{Attempt, Visited, visit_among, node_visited, begun}
-use Rattle.shape_sampler.specs.Belonging.{GoesOn, MakesTokens, IsIdealShape, IsIdealOver}
+use Rattle.shape_sampler.specs.Belonging.{Continues, MakesTokens, IsIdealShape, IsIdealOver}
 use Rattle.shape_sampler.proofs.Numbers.{least_of, least_of-in}
 use Rattle.shape_sampler.proofs.Visits.{begins}
 use Rattle.labelling.specs.LabelsByBits.{Labelling, labelling}
 use Rattle.labelling.proofs.IdealByBits.{labels-ideal}
 use Rattle.size_window.specs.RunByBits
-use Rattle.size_window.specs.RunByBits.{Limits, Sampling, State, Entry, Turned, Course, Ending, added, start, quiet, at_place, ended, entry_of, thrown_away, kept_one, kept_or_waits, went, visited, labelled_with, label_turn, shape_turn, counted_turn, turn_unless, fault_place, followed_by, one_turn_on, at_start, after, with_attempt}
+use Rattle.size_window.specs.RunByBits.{Limits, Sampling, RunState, Entry, Turned, Course, Ending, added, start, quiet, at_place, ended, entry_of, thrown_away, kept_one, kept_or_waits, went, visited, labelled_with, label_turn, shape_turn, counted_turn, turn_unless, fault_place, followed_by, one_turn_on, at_start, after, with_attempt}
 use Rattle.size_window.specs.Ideally.{DecidesIdeally}
-use Rattle.size_window.specs.Follows.{Follows, Goes}
+use Rattle.size_window.specs.Follows.{Follows, GoesIdeally}
 use Rattle.size_window.proofs.Going.{goes-on, goes-stopped, goes-over, goes-small, goes-kept, gives-none, gives-ideal, goes-start}
 use Rattle.size_window.proofs.Visiting.{IsIdeally, node-ideally, at_index}
 use Rattle.size_window.proofs.VisitCells.{ExtendsCells, node-extends, PendsBelow, node-pends}
 
 -- an attempt that goes on with nothing pending has the ideal shape
-module _ (s : Spec) (x : Fraction) (whole : ℕ) (tokens : List Token) (cells : List Cell) (room : ℕ) (g : GoesOn s x whole tokens cells room []) where
+module _ (s : Spec) (x : Fraction) (whole : ℕ) (tokens : List Token) (cells : List Cell) (room : ℕ) (g : Continues s x whole tokens cells room []) where
   made-from : (us rest : List Fraction) → AreInCells us cells → MakesTokens s x whole (us ++ rest) (tokens ++ []) room rest
   made-from us rest inside = g.makes us rest rest none room inside making.done
 
@@ -56,49 +56,49 @@ module _ (s : Spec) (x : Fraction) (whole : ℕ) (tokens : List Token) (cells : 
 
 module _ (s : Sampling) (x : Fraction) (ideal : DecidesIdeally s.chooser x) (sound : IsSound s.chooser.spec) where
   -- What stands of a state in which no shape waits.
-  record IsAtWork (st : State) : Type 0 where
+  record IsAtWork (st : RunState) : Type 0 where
     idle : st.attempt.pending ≡ [] → st.attempt.cells ≡ []
-    goes : st.attempt.pending ≢ [] → GoesOn s.chooser.spec x s.limits.max st.attempt.tokens st.attempt.cells st.attempt.room st.attempt.pending
+    goes : st.attempt.pending ≢ [] → Continues s.chooser.spec x s.limits.max st.attempt.tokens st.attempt.cells st.attempt.room st.attempt.pending
     below : AllBelow (length s.chooser.spec.nodes) st.attempt.pending
 
   -- What stands of a state in which a shape waits for its labels.
-  record HasShape (st : State) : Type 0 where
+  record HasShape (st : RunState) : Type 0 where
     labelled : s.chooser.spec.mode ≡ Mode.Labelled
     shape : IsIdealShape s.chooser.spec x s.limits.max st.attempt.tokens st.attempt.cells
     least : s.limits.min ≤ size_of st.attempt.tokens
 
   -- What stands of the state of a drawing that goes on.
-  record IsOpen (st : State) : Type 0 where
+  record IsOpen (st : RunState) : Type 0 where
     at_work : st.awaits ≡ false → IsAtWork st
     has_shape : st.awaits ≡ true → HasShape st
 
   -- What stands of a course after any number of turns.
   record Keeps (c : Course) : Type 0 where
-    goes : Goes s.chooser.spec x s.limits c
+    goes : GoesIdeally s.chooser.spec x s.limits c
     few : c.state.kept ≤ s.limits.count
     opened : c.state.ending ≡ None → IsOpen c.state
 
   -- a state in which no attempt is under way
-  idle-open : (st : State) → st.awaits ≡ false → st.attempt.pending ≡ [] → st.attempt.cells ≡ [] → IsOpen st
+  idle-open : (st : RunState) → st.awaits ≡ false → st.attempt.pending ≡ [] → st.attempt.cells ≡ [] → IsOpen st
   idle-open st no_wait nothing empty = record {
     at_work = λ e. record { idle = λ p. empty; goes = λ some. absurd (some nothing); below = subst (λ es. AllBelow (length s.chooser.spec.nodes) es) (sym nothing) tt };
     has_shape = λ e. absurd (let no : ⊥ = cc in no);
   }
 
   -- a turn that ends the drawing
-  keeps-stopped : (c : Course) (st : State) (ending : Ending) (cells : List Cell) → st.ending ≡ Some ending → st.kept ≡ c.state.kept → st.thrown ≡ c.state.thrown → Keeps c → Keeps (followed_by c (record { state = st; entry = None; cells = cells }))
+  keeps-stopped : (c : Course) (st : RunState) (ending : Ending) (cells : List Cell) → st.ending ≡ Some ending → st.kept ≡ c.state.kept → st.thrown ≡ c.state.thrown → Keeps c → Keeps (followed_by c (record { state = st; entry = None; cells = cells }))
   keeps-stopped c st ending cells is_ended same_kept same_thrown k = record {
     goes = goes-stopped s.chooser.spec x s.limits c k.goes st cells (λ none. let no : ⊥ = cc in no) same_kept same_thrown;
     few = subst (λ n. n ≤ s.limits.count) (sym same_kept) k.few;
     opened = λ e. let no : ⊥ = cc in absurd no;
   }
 
-  keeps-ended : (c : Course) (st : State) (ending : Ending) → st.ending ≡ Some ending → st.kept ≡ c.state.kept → st.thrown ≡ c.state.thrown → Keeps c → Keeps (followed_by c (quiet st))
+  keeps-ended : (c : Course) (st : RunState) (ending : Ending) → st.ending ≡ Some ending → st.kept ≡ c.state.kept → st.thrown ≡ c.state.thrown → Keeps c → Keeps (followed_by c (quiet st))
   keeps-ended c st ending is_ended same_kept same_thrown k = keeps-stopped c st ending [] is_ended same_kept same_thrown k
 
   module _ (c : Course) (k : Keeps c) (going : c.state.ending ≡ None) (fewer : c.state.kept < s.limits.count) where
     -- the state of a turn that is counted
-    abbrev counted : State
+    abbrev counted : RunState
     counted = record c.state { turns = suc c.state.turns }
 
     more-cells : (a : Attempt) → a.cells ≡ c.state.attempt.cells ++ added c.state.attempt.cells a.cells → c.state.attempt.cells ++ added c.state.attempt.cells a.cells ≡ a.cells
@@ -143,10 +143,10 @@ module _ (s : Sampling) (x : Fraction) (ideal : DecidesIdeally s.chooser x) (sou
     keeps-shape a more i false above = keeps-large a more i (ltb-false (size_of a.tokens) s.limits.min above) s.chooser.spec.mode refl
 
     -- an attempt that went on
-    keeps-went : (a : Attempt) → c.state.awaits ≡ false → a.cells ≡ c.state.attempt.cells ++ added c.state.attempt.cells a.cells → AllBelow (length s.chooser.spec.nodes) a.pending → GoesOn s.chooser.spec x s.limits.max a.tokens a.cells a.room a.pending → (p : List ℕ) → a.pending ≡ p
+    keeps-went : (a : Attempt) → c.state.awaits ≡ false → a.cells ≡ c.state.attempt.cells ++ added c.state.attempt.cells a.cells → AllBelow (length s.chooser.spec.nodes) a.pending → Continues s.chooser.spec x s.limits.max a.tokens a.cells a.room a.pending → (p : List ℕ) → a.pending ≡ p
         → Keeps (followed_by c (went s (with_attempt counted a) p (added c.state.attempt.cells a.cells)))
     keeps-went a no_wait more below goes [] nothing =
-        keeps-shape a more (ideal-shape s.chooser.spec x s.limits.max a.tokens a.cells a.room (subst (λ p. GoesOn s.chooser.spec x s.limits.max a.tokens a.cells a.room p) nothing goes)) (nat_lt (size_of a.tokens) s.limits.min) refl
+        keeps-shape a more (ideal-shape s.chooser.spec x s.limits.max a.tokens a.cells a.room (subst (λ p. Continues s.chooser.spec x s.limits.max a.tokens a.cells a.room p) nothing goes)) (nat_lt (size_of a.tokens) s.limits.min) refl
     keeps-went a no_wait more below goes (e ∷ es) some = record {
       goes = goes-on s.chooser.spec x s.limits c k.goes (with_attempt counted a) (added c.state.attempt.cells a.cells) a.cells going (sym more) refl refl refl;
       few = k.few;
@@ -179,7 +179,7 @@ module _ (s : Sampling) (x : Fraction) (ideal : DecidesIdeally s.chooser x) (sou
       keeps-pending : (bit : ℕ → Bit) (e : ℕ) (rest : List ℕ) → c.state.attempt.pending ≡ e ∷ rest → Keeps (followed_by c (visited s counted (node_visited s.chooser bit c.state.attempt e rest (node_at s.chooser.spec e))))
       keeps-pending bit e rest pending =
           let below : AllBelow (length s.chooser.spec.nodes) (e ∷ rest) = subst (λ p. AllBelow (length s.chooser.spec.nodes) p) pending work.below in
-          let goes : GoesOn s.chooser.spec x s.limits.max c.state.attempt.tokens c.state.attempt.cells c.state.attempt.room (e ∷ rest) = subst (λ p. GoesOn s.chooser.spec x s.limits.max c.state.attempt.tokens c.state.attempt.cells c.state.attempt.room p) pending (work.goes (λ none. let no : ⊥ = cc in no)) in
+          let goes : Continues s.chooser.spec x s.limits.max c.state.attempt.tokens c.state.attempt.cells c.state.attempt.room (e ∷ rest) = subst (λ p. Continues s.chooser.spec x s.limits.max c.state.attempt.tokens c.state.attempt.cells c.state.attempt.room p) pending (work.goes (λ none. let no : ⊥ = cc in no)) in
           let n = node-there s.chooser.spec.nodes e below.0 in
           subst (λ o. Keeps (followed_by c (visited s counted (node_visited s.chooser bit c.state.attempt e rest o)))) (sym n.1)
           (keeps-visited no_wait (node_visited s.chooser bit c.state.attempt e rest (Some n.0))

@@ -16,8 +16,8 @@ use Rattle.object_store.proofs.Sizes.{size_of-tokens}
 use Rattle.shape_sampler.specs.Belonging.{IsIdealShape, IsIdealOver}
 use Rattle.shape_sampler.proofs.Numbers.{apart, none_in, least_of, least_of-in}
 use Rattle.labelling.specs.Answer.{AreIdealLabels}
-use Rattle.size_window.specs.RunByBits.{Limits, State, Entry, Course, followed_by, quiet, at_start}
-use Rattle.size_window.specs.Follows.{IsEntryOf, AreEntriesOf, MakesOf, IsMadeOfItsCells, AreMadeOfTheirCells, window_of, Follows, Goes}
+use Rattle.size_window.specs.RunByBits.{Limits, RunState, Entry, Course, followed_by, quiet, at_start}
+use Rattle.size_window.specs.Follows.{IsEntryOf, AreEntriesOf, MakesOf, IsMadeOfItsCells, AreMadeOfTheirCells, window_of, Follows, GoesIdeally}
 
 -- entries with one more at the end
 pub entries-more : (ks : List Kept) (es : List Entry) (k : Kept) (e : Entry) → AreEntriesOf ks es → IsEntryOf k e → AreEntriesOf (ks ++ k ∷ []) (es ++ e ∷ [])
@@ -62,7 +62,7 @@ gives-ideal s labelled n labels cells ideal = record {
 
 module _ (s : Spec) (x : Fraction) (limits : Limits) where
   -- a course with a turn that keeps nothing and throws nothing away
-  followed : (c : Course) (f : Follows s x limits c) (st : State) (cells others : List Cell) → f.others ++ cells ≡ others → st.kept ≡ c.state.kept → st.thrown ≡ c.state.thrown → Follows s x limits (followed_by c (record { state = st; entry = None; cells = cells }))
+  followed : (c : Course) (f : Follows s x limits c) (st : RunState) (cells others : List Cell) → f.others ++ cells ≡ others → st.kept ≡ c.state.kept → st.thrown ≡ c.state.thrown → Follows s x limits (followed_by c (record { state = st; entry = None; cells = cells }))
   followed c f st cells others more same_kept same_thrown = record {
     finished = f.finished;
     others = others;
@@ -75,7 +75,7 @@ module _ (s : Spec) (x : Fraction) (limits : Limits) where
   }
 
   -- the attempt goes on, with more cells
-  pub goes-on : (c : Course) → Goes s x limits c → (st : State) (cells now : List Cell) → c.state.ending ≡ None → c.state.attempt.cells ++ cells ≡ now → st.attempt.cells ≡ now → st.kept ≡ c.state.kept → st.thrown ≡ c.state.thrown → Goes s x limits (followed_by c (record { state = st; entry = None; cells = cells }))
+  pub goes-on : (c : Course) → GoesIdeally s x limits c → (st : RunState) (cells now : List Cell) → c.state.ending ≡ None → c.state.attempt.cells ++ cells ≡ now → st.attempt.cells ≡ now → st.kept ≡ c.state.kept → st.thrown ≡ c.state.thrown → GoesIdeally s x limits (followed_by c (record { state = st; entry = None; cells = cells }))
   unfolding followed
   goes-on c k st cells now going more is same_kept same_thrown = record {
     follows = followed c k.follows st cells now (ap (λ ds. ds ++ cells) (k.under_way going) ∙ more) same_kept same_thrown;
@@ -83,14 +83,14 @@ module _ (s : Spec) (x : Fraction) (limits : Limits) where
   }
 
   -- the drawing ended, with more cells of numbers that were finished
-  pub goes-stopped : (c : Course) → Goes s x limits c → (st : State) (cells : List Cell) → st.ending ≢ None → st.kept ≡ c.state.kept → st.thrown ≡ c.state.thrown → Goes s x limits (followed_by c (record { state = st; entry = None; cells = cells }))
+  pub goes-stopped : (c : Course) → GoesIdeally s x limits c → (st : RunState) (cells : List Cell) → st.ending ≢ None → st.kept ≡ c.state.kept → st.thrown ≡ c.state.thrown → GoesIdeally s x limits (followed_by c (record { state = st; entry = None; cells = cells }))
   goes-stopped c k st cells over same_kept same_thrown = record {
     follows = followed c k.follows st cells (k.follows.others ++ cells) refl same_kept same_thrown;
     under_way = λ e. absurd (over e);
   }
 
   -- the drawing ended
-  pub goes-ended : (c : Course) → Goes s x limits c → (st : State) → st.ending ≢ None → st.kept ≡ c.state.kept → st.thrown ≡ c.state.thrown → Goes s x limits (followed_by c (quiet st))
+  pub goes-ended : (c : Course) → GoesIdeally s x limits c → (st : RunState) → st.ending ≢ None → st.kept ≡ c.state.kept → st.thrown ≡ c.state.thrown → GoesIdeally s x limits (followed_by c (quiet st))
   goes-ended c k st over same_kept same_thrown = goes-stopped c k st [] over same_kept same_thrown
 
   -- what a finished attempt makes of the ideal run: these objects kept, so many thrown away
@@ -150,7 +150,7 @@ module _ (s : Spec) (x : Fraction) (limits : Limits) where
       made = λ us inside. makes-of us (subst (λ cs. AreInCells us cs) is_cells inside);
     }
 
-  module _ (c : Course) (k : Goes s x limits c) (st : State) (cells now : List Cell) (going : c.state.ending ≡ None) (more : c.state.attempt.cells ++ cells ≡ now) (idle : st.attempt.cells ≡ []) (fewer : c.state.kept < limits.count) where
+  module _ (c : Course) (k : GoesIdeally s x limits c) (st : RunState) (cells now : List Cell) (going : c.state.ending ≡ None) (more : c.state.attempt.cells ++ cells ≡ now) (idle : st.attempt.cells ≡ []) (fewer : c.state.kept < limits.count) where
     fewer-kept : length k.follows.kept < limits.count
     fewer-kept = let n = k.follows.number in omega arith
 
@@ -158,7 +158,7 @@ module _ (s : Spec) (x : Fraction) (limits : Limits) where
     cells-now =
         ap (λ ds. ds ++ cells) (k.follows.cells ∙ ap (λ ds. k.follows.finished ++ ds) (k.under_way going)) ∙ append_assoc k.follows.finished c.state.attempt.cells cells ∙ ap (λ ds. k.follows.finished ++ ds) more ∙ sym (append-nil (k.follows.finished ++ now))
 
-    thrown : st.kept ≡ c.state.kept → st.thrown ≡ c.state.thrown + 1 → Runs (k.follows.finished ++ now) k.follows.kept (suc c.state.thrown) → Goes s x limits (followed_by c (record { state = st; entry = None; cells = cells }))
+    thrown : st.kept ≡ c.state.kept → st.thrown ≡ c.state.thrown + 1 → Runs (k.follows.finished ++ now) k.follows.kept (suc c.state.thrown) → GoesIdeally s x limits (followed_by c (record { state = st; entry = None; cells = cells }))
     thrown same_kept one_thrown runs = record {
       follows = record {
         finished = k.follows.finished ++ now;
@@ -174,15 +174,15 @@ module _ (s : Spec) (x : Fraction) (limits : Limits) where
     }
 
     -- the attempt was over the room
-    pub goes-over : IsIdealOver s x limits.max now → st.kept ≡ c.state.kept → st.thrown ≡ c.state.thrown + 1 → Goes s x limits (followed_by c (record { state = st; entry = None; cells = cells }))
+    pub goes-over : IsIdealOver s x limits.max now → st.kept ≡ c.state.kept → st.thrown ≡ c.state.thrown + 1 → GoesIdeally s x limits (followed_by c (record { state = st; entry = None; cells = cells }))
     goes-over over same_kept one_thrown = thrown same_kept one_thrown (over-runs k.follows.finished now k.follows.kept c.state.thrown fewer-kept over k.follows.run)
 
     -- the shape was below the least size
-    pub goes-small : (tokens : List Token) → IsIdealShape s x limits.max tokens now → size_of tokens < limits.min → st.kept ≡ c.state.kept → st.thrown ≡ c.state.thrown + 1 → Goes s x limits (followed_by c (record { state = st; entry = None; cells = cells }))
+    pub goes-small : (tokens : List Token) → IsIdealShape s x limits.max tokens now → size_of tokens < limits.min → st.kept ≡ c.state.kept → st.thrown ≡ c.state.thrown + 1 → GoesIdeally s x limits (followed_by c (record { state = st; entry = None; cells = cells }))
     goes-small tokens i small same_kept one_thrown = thrown same_kept one_thrown (small-runs k.follows.finished now tokens k.follows.kept c.state.thrown fewer-kept i small k.follows.run)
 
     -- the shape was kept, with labels from the cells after its own
-    pub goes-kept : (tokens : List Token) (own after : List Cell) (labels : List ℕ) → own ++ after ≡ now → IsIdealShape s x limits.max tokens own → limits.min ≤ size_of tokens → GivesLabels s (size_of tokens) labels after → (e : Entry) → e.tokens ≡ tokens → e.labels ≡ labels → e.cells ≡ now → st.kept ≡ c.state.kept + 1 → st.thrown ≡ c.state.thrown → Goes s x limits (followed_by c (record { state = st; entry = Some e; cells = cells }))
+    pub goes-kept : (tokens : List Token) (own after : List Cell) (labels : List ℕ) → own ++ after ≡ now → IsIdealShape s x limits.max tokens own → limits.min ≤ size_of tokens → GivesLabels s (size_of tokens) labels after → (e : Entry) → e.tokens ≡ tokens → e.labels ≡ labels → e.cells ≡ now → st.kept ≡ c.state.kept + 1 → st.thrown ≡ c.state.thrown → GoesIdeally s x limits (followed_by c (record { state = st; entry = Some e; cells = cells }))
     goes-kept tokens own after labels whole i large g e is_tokens is_labels is_cells one_kept same_thrown =
         let kept : Kept = record { object = i.object; labels = labels } in
         record {
@@ -200,7 +200,7 @@ module _ (s : Spec) (x : Fraction) (limits : Limits) where
         }
 
   -- the course at the start
-  pub goes-start : Goes s x limits at_start
+  pub goes-start : GoesIdeally s x limits at_start
   goes-start = record {
     follows = record { finished = []; others = []; cells = refl; kept = []; entries = tt; number = refl; run = λ us rest inside. no-numbers us rest inside; own = tt };
     under_way = λ e. refl;

@@ -25,10 +25,10 @@ use Rattle.size_window.specs.declared.turned.Entry.{Entry}
 use Rattle.size_window.specs.declared.turned.Turned.{Turned}
 use Rattle.size_window.specs.declared.turned.Turned.TheVariants as answer
 use Rattle.size_window.specs.RunByBits as run
-use Rattle.size_window.specs.RunByBits.{State, Course, followed_by, at_place, kept_one, cut_short, labelled_with}
-use Rattle.size_window.specs.Follows.{Goes}
+use Rattle.size_window.specs.RunByBits.{RunState, Course, followed_by, at_place, kept_one, cut_short, labelled_with}
+use Rattle.size_window.specs.Follows.{GoesIdeally}
 use Rattle.size_window.specs.Drawing.{MadeShape, DrawingState, Waits, DrawingBelongs, ending_of, attempt_made, state_of, counted, waiting_with, none_waiting, kept_one_more, ended_by}
-use Rattle.size_window.specs.Turn.{turns_by, labels_of, entry_of, told_entry, told_fault, EndsThere, GoesOn, IsTurn, IfKept, IsNext, HasLabels, TellsOpen}
+use Rattle.size_window.specs.Turn.{turns_by, labels_of, entry_of, told_entry, told_fault, EndsThere, GoesOn, IsTurn, IfKept, IsNextKept, HasLabels, TellsOpen}
 use Rattle.size_window.specs.LabelTurn.{SettlesLabels, IsLabelTurn}
 use Rattle.size_window.proofs.Going.{goes-stopped, goes-kept, gives-ideal, ideal-fits}
 use Rattle.size_window.proofs.Turning.{in_turn_as, attempt-none, turn-labels, if-told, course-going, course-kept, course-thrown, course-fewer, course-shape, is-turn}
@@ -107,18 +107,18 @@ module _ (s : Spec) (x : Fraction) (before : DrawingState) (b : DrawingBelongs s
   labels-belong labelled.OutOfMemory used result now settles = subst (DrawingBelongs s x) (sym (settles.1 ∙ put-back)) b
 
   -- the entry kept
-  pub labels-kept : (told : Labelled) (used : ℕ) (result : Turned) (now : DrawingState) → OnLabels told (λ labels cells. AreCellsOf (size_of shape.tokens) cells) → SettlesLabels told shape used without result now → IfKept result (IsNext before.limits before.kept used)
-  labels-kept (labelled.Labels labels cells) used result now are k = subst (λ r. IfKept r (IsNext before.limits before.kept used)) (sym k.told) (record {
+  pub labels-kept : (told : Labelled) (used : ℕ) (result : Turned) (now : DrawingState) → OnLabels told (λ labels cells. AreCellsOf (size_of shape.tokens) cells) → SettlesLabels told shape used without result now → IfKept result (IsNextKept before.limits before.kept used)
+  labels-kept (labelled.Labels labels cells) used result now are k = subst (λ r. IfKept r (IsNextKept before.limits before.kept used)) (sym k.told) (record {
     number = k.number;
     place = k.place ∙ ap (λ cs. used - bits_in cs) (sym k.cells);
     least = subst (λ ts. before.limits.min ≤ size_of ts) (sym k.shape_is) waited.least;
     greatest = subst (λ ts. size_of ts ≤ before.limits.max) (sym k.shape_is) shape-fits;
     cells = subst AreCells (sym k.cells) (cells_append shape.cells cells.items waited.cells are.each);
   })
-  labels-kept (labelled.Straddles m cell) used result now are settles = subst (λ r. IfKept r (IsNext before.limits before.kept used)) (sym settles.0) tt
-  labels-kept labelled.Ended used result now are settles = subst (λ r. IfKept r (IsNext before.limits before.kept used)) (sym settles.0) tt
-  labels-kept labelled.ReadFault used result now are settles = subst (λ r. IfKept r (IsNext before.limits before.kept used)) (sym settles.0) tt
-  labels-kept labelled.OutOfMemory used result now are settles = subst (λ r. IfKept r (IsNext before.limits before.kept used)) (sym settles.0) tt
+  labels-kept (labelled.Straddles m cell) used result now are settles = subst (λ r. IfKept r (IsNextKept before.limits before.kept used)) (sym settles.0) tt
+  labels-kept labelled.Ended used result now are settles = subst (λ r. IfKept r (IsNextKept before.limits before.kept used)) (sym settles.0) tt
+  labels-kept labelled.ReadFault used result now are settles = subst (λ r. IfKept r (IsNextKept before.limits before.kept used)) (sym settles.0) tt
+  labels-kept labelled.OutOfMemory used result now are settles = subst (λ r. IfKept r (IsNextKept before.limits before.kept used)) (sym settles.0) tt
 
   -- it has labels
   pub labels-told : (told : Labelled) (used : ℕ) (result : Turned) (now : DrawingState) → OnLabels told (λ labels cells. AreIdealLabels (size_of shape.tokens) labels cells) → SettlesLabels told shape used without result now → IfKept result (HasLabels s.mode)
@@ -134,7 +134,7 @@ module _ (s : Spec) (x : Fraction) (before : DrawingState) (b : DrawingBelongs s
 
   module _ (F : ℕ) (table : (level node : ℕ) → Bounds) (bits : Option (ℕ → Option Bool)) (start used : ℕ) where
     -- the state in which the labelling starts
-    abbrev labelling_state : State
+    abbrev labelling_state : RunState
     labelling_state = in_turn_as before true (attempt_made shape before.session.room start)
 
     -- The turn meets the tape's end where the labelling does.
@@ -145,7 +145,7 @@ module _ (s : Spec) (x : Fraction) (before : DrawingState) (b : DrawingBelongs s
     going-is P h = subst P (sym on.going) h
 
     -- a turn by a labelling, from what it leaves
-    by-labels : (answered : Labelled) (result : Turned) (now : DrawingState) (turned : run.Turned) → turned.state ≡ state_of now used → turned.entry ≡ told_entry result → ((c : Course) → c.state ≡ state_of before start → Goes s x before.limits c → Goes s x before.limits (followed_by c turned))
+    by-labels : (answered : Labelled) (result : Turned) (now : DrawingState) (turned : run.Turned) → turned.state ≡ state_of now used → turned.entry ≡ told_entry result → ((c : Course) → c.state ≡ state_of before start → GoesIdeally s x before.limits c → GoesIdeally s x before.limits (followed_by c turned))
         → (h : IsLabelling bits (size_of shape.tokens) start answered used) → answered ≢ labelled.OutOfMemory → option_map (λ given. start + given) (told_fault None result (used - start)) ≡ told.fault_place answered used → labelled_with labelling_state (told_labelling answered h.finished used) ≡ turned → Alike answered result → IsTurn s x F table bits before start result now used
     by-labels answered result now turned state entry goes h ne fault means alike = record {
       turned = turned;

@@ -14,7 +14,7 @@ use Rattle.labelling.specs.Spelled.{AreSpelled, SpellsLabelling}
 use Rattle.labelling.proofs.SpelledLabels.{labellings_spell, spelled-both}
 use Rattle.labelling.proofs.DrawnAgain.{spelled-length}
 use Rattle.shape_sampler.specs.Visit.{Attempt, Visited, visit}
-use Rattle.size_window.specs.RunByBits.{Limits, Sampling, State, Turned, Course, Entry, Ending, quiet, with_attempt, at_place, added, thrown_away, entry_of, kept_or_waits, went, visited, shape_turn, counted_turn, label_turn, labelled_with, cut_short, turn_unless, fault_place, after, ended}
+use Rattle.size_window.specs.RunByBits.{Limits, Sampling, RunState, Turned, Course, Entry, Ending, quiet, with_attempt, at_place, added, thrown_away, entry_of, kept_or_waits, went, visited, shape_turn, counted_turn, label_turn, labelled_with, cut_short, turn_unless, fault_place, after, ended}
 use Rattle.size_window.specs.InOrder.{IsNextEntry, AreInOrder, last_end, IsInOrder}
 use Rattle.size_window.proofs.SpelledVisits.{AddsCells, SpellsVisit, visit-spells}
 use Rattle.size_window.proofs.SizedVisits.{SizesVisit, visit-sizes}
@@ -57,12 +57,12 @@ module _ (s : Sampling) where
     pub same : size_of a.tokens + a.room ≡ s.limits.max
 
   -- What is under way fits, and a shape that awaits its labels is large enough.
-  pub record KeepsSize (st : State) : Type 0 where
+  pub record KeepsSize (st : RunState) : Type 0 where
     pub pends : st.attempt.pending ≢ [] → Fits st.attempt
     pub waits : st.awaits ≡ true → Fits st.attempt × (s.limits.min ≤ size_of st.attempt.tokens)
 
   -- After a number and a place: the entry that a turn keeps is the next one, and the bits of the attempt under way begin after the last entry.
-  abbrev KeptInOrder : (number place : ℕ) → State → Option Entry → Type 0
+  abbrev KeptInOrder : (number place : ℕ) → RunState → Option Entry → Type 0
   KeptInOrder number place now None = (place + bits_in now.attempt.cells ≤ now.attempt.used) × (now.kept ≡ number)
   KeptInOrder number place now (Some e) = IsNextEntry s.limits number place e × (e.place + bits_in e.cells + bits_in now.attempt.cells ≤ now.attempt.used) × (now.kept ≡ suc number)
 
@@ -70,14 +70,14 @@ module _ (s : Sampling) where
     pub size : KeepsSize t.state
     pub order : KeptInOrder number place t.state t.entry
 
-  at-rest : (st : State) → st.attempt.pending ≡ [] → st.awaits ≡ false → KeepsSize st
+  at-rest : (st : RunState) → st.attempt.pending ≡ [] → st.awaits ≡ false → KeepsSize st
   at-rest st none awaits = record { pends = λ some. absurd (some none); waits = λ is. let no : ⊥ = cc in absurd no }
 
-  under-way : (st : State) → st.awaits ≡ false → Fits st.attempt → KeepsSize st
+  under-way : (st : RunState) → st.awaits ≡ false → Fits st.attempt → KeepsSize st
   under-way st awaits h = record { pends = λ some. h; waits = λ is. let no : ⊥ = cc in absurd no }
 
   -- the entry of a state is the next one
-  next-entry : (st : State) (labels : List ℕ) (cells : List Cell) (number place : ℕ) → st.kept ≡ number → Fits st.attempt → s.limits.min ≤ size_of st.attempt.tokens → place + bits_in (st.attempt.cells ++ cells) ≤ st.attempt.used → IsNextEntry s.limits number place (entry_of st labels cells)
+  next-entry : (st : RunState) (labels : List ℕ) (cells : List Cell) (number place : ℕ) → st.kept ≡ number → Fits st.attempt → s.limits.min ≤ size_of st.attempt.tokens → place + bits_in (st.attempt.cells ++ cells) ≤ st.attempt.used → IsNextEntry s.limits number place (entry_of st labels cells)
   next-entry st labels cells number place kept fits least room = record {
     number_is = ap suc kept;
     begins = omega arith;
@@ -86,7 +86,7 @@ module _ (s : Sampling) where
     greatest = let f = fits.same in omega arith;
   }
 
-  module _ (number place : ℕ) (st : State) (size : KeepsSize st) (kept : st.kept ≡ number) (placed : place + bits_in st.attempt.cells ≤ st.attempt.used) where
+  module _ (number place : ℕ) (st : RunState) (size : KeepsSize st) (kept : st.kept ≡ number) (placed : place + bits_in st.attempt.cells ≤ st.attempt.used) where
     -- the drawing ends, and its attempt stays
     stays : (ending : Ending) (later : ℕ) → KeepsSize (ended st ending later)
     stays ending later = record { pends = λ some. let h = size.pends some in record { same = h.same }; waits = λ is. let h = size.waits is in (record { same = h.0.same }, h.1) }
@@ -171,15 +171,15 @@ module _ (s : Sampling) where
     counted-orders fault false is = turn-orders is fault st.attempt.pending refl
 
   -- a turn that is counted
-  counted-on : (number place : ℕ) (st : State) (fault : Option ℕ) → KeepsSize st → st.kept ≡ number → place + bits_in st.attempt.cells ≤ st.attempt.used → KeepsOrder number place (counted_turn s (bit_of s.tape (fault_place st fault)) (record st { turns = suc st.turns }))
+  counted-on : (number place : ℕ) (st : RunState) (fault : Option ℕ) → KeepsSize st → st.kept ≡ number → place + bits_in st.attempt.cells ≤ st.attempt.used → KeepsOrder number place (counted_turn s (bit_of s.tape (fault_place st fault)) (record st { turns = suc st.turns }))
   counted-on number place st fault size kept placed = counted-orders number place (record st { turns = suc st.turns }) (record { pends = size.pends; waits = size.waits }) kept placed (fault_place st fault) st.awaits refl
 
-  ends-or-counts : (number place : ℕ) (st : State) (fault : Option ℕ) (all limit : Bool) → KeepsSize st → st.kept ≡ number → place + bits_in st.attempt.cells ≤ st.attempt.used → KeepsOrder number place (cond all (quiet (ended st Ending.Done st.attempt.used)) (cond limit (quiet (ended st Ending.TurnLimit st.attempt.used)) (counted_turn s (bit_of s.tape (fault_place st fault)) (record st { turns = suc st.turns }))))
+  ends-or-counts : (number place : ℕ) (st : RunState) (fault : Option ℕ) (all limit : Bool) → KeepsSize st → st.kept ≡ number → place + bits_in st.attempt.cells ≤ st.attempt.used → KeepsOrder number place (cond all (quiet (ended st Ending.Done st.attempt.used)) (cond limit (quiet (ended st Ending.TurnLimit st.attempt.used)) (counted_turn s (bit_of s.tape (fault_place st fault)) (record st { turns = suc st.turns }))))
   ends-or-counts number place st fault true limit size kept placed = stops number place st size kept placed Ending.Done st.attempt.used (omega arith)
   ends-or-counts number place st fault false true size kept placed = stops number place st size kept placed Ending.TurnLimit st.attempt.used (omega arith)
   ends-or-counts number place st fault false false size kept placed = counted-on number place st fault size kept placed
 
-  unless-orders : (number place : ℕ) (st : State) (fault : Option ℕ) (o : Option Ending) → KeepsSize st → st.kept ≡ number → place + bits_in st.attempt.cells ≤ st.attempt.used → KeepsOrder number place (turn_unless s fault st o)
+  unless-orders : (number place : ℕ) (st : RunState) (fault : Option ℕ) (o : Option Ending) → KeepsSize st → st.kept ≡ number → place + bits_in st.attempt.cells ≤ st.attempt.used → KeepsOrder number place (turn_unless s fault st o)
   unless-orders number place st fault None size kept placed = ends-or-counts number place st fault (nat_eq st.kept s.limits.count) (nat_eq st.turns s.limits.turns) size kept placed
   unless-orders number place st fault (Some ending) size kept placed = record { size = size; order = (placed, kept) }
 

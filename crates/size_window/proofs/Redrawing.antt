@@ -12,7 +12,7 @@ use Rattle.labelling.specs.LabelsByBits.{Labelling, labelling}
 use Rattle.labelling.proofs.SpelledLabels.{spelled-both}
 use Rattle.labelling.proofs.DrawnAgain.{labels_are_drawn_again}
 use Rattle.shape_sampler.specs.Visit.{Attempt, Visited, visit, visit_among, begun}
-use Rattle.size_window.specs.RunByBits.{Sampling, State, Turned, Course, Entry, Ending, quiet, with_attempt, at_place, added, thrown_away, entry_of, kept_or_waits, went, visited, shape_turn, counted_turn, label_turn, labelled_with, cut_short, turn_unless, fault_place, after, ended}
+use Rattle.size_window.specs.RunByBits.{Sampling, RunState, Turned, Course, Entry, Ending, quiet, with_attempt, at_place, added, thrown_away, entry_of, kept_or_waits, went, visited, shape_turn, counted_turn, label_turn, labelled_with, cut_short, turn_unless, fault_place, after, ended}
 use Rattle.size_window.specs.Redrawn.{visits, visited_next, HasLabelsAgain, IsRedrawn, IsRedrawnAlone, AreRedrawn}
 use Rattle.size_window.proofs.Going.{all-more}
 use Rattle.size_window.proofs.VisitsAgain.{at_used, ComesAgain, visit-again}
@@ -59,7 +59,7 @@ module _ (s : Sampling) where
           )
 
   -- What holds of a state: an attempt under way, and a made shape that awaits its labels, come of visits.
-  record Keeps (st : State) : Type 0 where
+  record Keeps (st : RunState) : Type 0 where
     pub pends : st.attempt.pending ≢ [] → Comes st.attempt
     pub waits : st.awaits ≡ true → Comes st.attempt × (st.attempt.pending ≡ [])
     pub labelled : st.awaits ≡ true → s.chooser.spec.mode ≡ Mode.Labelled
@@ -74,14 +74,14 @@ module _ (s : Sampling) where
     pub entry : KeptAgain t.entry
 
   -- at rest nothing is under way
-  at-rest : (st : State) → st.attempt.pending ≡ [] → st.awaits ≡ false → Keeps st
+  at-rest : (st : RunState) → st.attempt.pending ≡ [] → st.awaits ≡ false → Keeps st
   at-rest st none awaits = record { pends = λ some. absurd (some none); waits = λ is. let no : ⊥ = cc in absurd no; labelled = λ is. let no : ⊥ = cc in absurd no }
 
-  under-way : (st : State) → st.awaits ≡ false → Comes st.attempt → Keeps st
+  under-way : (st : RunState) → st.awaits ≡ false → Comes st.attempt → Keeps st
   under-way st awaits h = record { pends = λ some. h; waits = λ is. let no : ⊥ = cc in absurd no; labelled = λ is. let no : ⊥ = cc in absurd no }
 
   -- a made shape without labels is made again
-  unlabelled-again : (st : State) → s.chooser.spec.mode ≡ Mode.Unlabelled → Comes st.attempt → st.attempt.pending ≡ [] → IsRedrawn s.chooser s.limits.max (entry_of st [] [])
+  unlabelled-again : (st : RunState) → s.chooser.spec.mode ≡ Mode.Unlabelled → Comes st.attempt → st.attempt.pending ≡ [] → IsRedrawn s.chooser s.limits.max (entry_of st [] [])
   unlabelled-again st plain h none = λ bits start have.
       let no_more : st.attempt.cells ++ [] ≡ st.attempt.cells = append-nil st.attempt.cells in
       let made = h.by bits start (subst (λ cs. HasBits bits start (spelled cs)) no_more have) in
@@ -97,7 +97,7 @@ module _ (s : Sampling) where
       }
 
   -- with labels, too
-  labelled-again : (st : State) (fault : Option ℕ) (labels : List ℕ) (cells : List Cell) (place : ℕ) → s.chooser.spec.mode ≡ Mode.Labelled → Comes st.attempt → st.attempt.pending ≡ [] → labelling (bit_of s.tape fault) (size_of st.attempt.tokens) st.attempt.used ≡ Labelling.Given labels cells place → IsRedrawn s.chooser s.limits.max (entry_of (at_place st place) labels cells)
+  labelled-again : (st : RunState) (fault : Option ℕ) (labels : List ℕ) (cells : List Cell) (place : ℕ) → s.chooser.spec.mode ≡ Mode.Labelled → Comes st.attempt → st.attempt.pending ≡ [] → labelling (bit_of s.tape fault) (size_of st.attempt.tokens) st.attempt.used ≡ Labelling.Given labels cells place → IsRedrawn s.chooser s.limits.max (entry_of (at_place st place) labels cells)
   labelled-again st fault labels cells place mode h none drew = λ bits start have.
       let both : spelled (st.attempt.cells ++ cells) ≡ spelled st.attempt.cells ++ spelled cells = spelled-both st.attempt.cells cells in
       let all : HasBits bits start (spelled st.attempt.cells ++ spelled cells) = subst (HasBits bits start) both have in
@@ -116,7 +116,7 @@ module _ (s : Sampling) where
             (record { more = cells; cells = refl; given = again ∙ ap (Labelling.Given labels cells) count });
       }
 
-  module _ (st : State) (keeps : Keeps st) where
+  module _ (st : RunState) (keeps : Keeps st) where
     -- the drawing ends, and its attempt stays
     stays : (ending : Ending) (place : ℕ) → Keeps (ended st ending place)
     stays ending place = record {
@@ -169,15 +169,15 @@ module _ (s : Sampling) where
     counted-keeps fault false is = turn-keeps is fault st.attempt.pending refl
 
   -- a turn that is counted
-  counted-on : (st : State) (fault : Option ℕ) → Keeps st → KeepsTurn (counted_turn s (bit_of s.tape (fault_place st fault)) (record st { turns = suc st.turns }))
+  counted-on : (st : RunState) (fault : Option ℕ) → Keeps st → KeepsTurn (counted_turn s (bit_of s.tape (fault_place st fault)) (record st { turns = suc st.turns }))
   counted-on st fault keeps = counted-keeps (record st { turns = suc st.turns }) (record { pends = keeps.pends; waits = keeps.waits; labelled = keeps.labelled }) (fault_place st fault) st.awaits refl
 
-  ends-or-counts : (st : State) (fault : Option ℕ) (all limit : Bool) → Keeps st → KeepsTurn (cond all (quiet (ended st Ending.Done st.attempt.used)) (cond limit (quiet (ended st Ending.TurnLimit st.attempt.used)) (counted_turn s (bit_of s.tape (fault_place st fault)) (record st { turns = suc st.turns }))))
+  ends-or-counts : (st : RunState) (fault : Option ℕ) (all limit : Bool) → Keeps st → KeepsTurn (cond all (quiet (ended st Ending.Done st.attempt.used)) (cond limit (quiet (ended st Ending.TurnLimit st.attempt.used)) (counted_turn s (bit_of s.tape (fault_place st fault)) (record st { turns = suc st.turns }))))
   ends-or-counts st fault true limit keeps = stops st keeps Ending.Done st.attempt.used
   ends-or-counts st fault false true keeps = stops st keeps Ending.TurnLimit st.attempt.used
   ends-or-counts st fault false false keeps = counted-on st fault keeps
 
-  unless-keeps : (st : State) (fault : Option ℕ) (o : Option Ending) → Keeps st → KeepsTurn (turn_unless s fault st o)
+  unless-keeps : (st : RunState) (fault : Option ℕ) (o : Option Ending) → Keeps st → KeepsTurn (turn_unless s fault st o)
   unless-keeps st fault None keeps = ends-or-counts st fault (nat_eq st.kept s.limits.count) (nat_eq st.turns s.limits.turns) keeps
   unless-keeps st fault (Some ending) keeps = record { state = keeps; entry = tt }
 

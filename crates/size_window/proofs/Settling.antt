@@ -23,17 +23,17 @@ use Rattle.size_window.specs.declared.turned.Entry.{Entry}
 use Rattle.size_window.specs.declared.turned.Turned.{Turned}
 use Rattle.size_window.specs.declared.turned.Turned.TheVariants as answer
 use Rattle.size_window.specs.RunByBits as run
-use Rattle.size_window.specs.RunByBits.{Sampling, State, Course, followed_by, added, no_attempt, quiet, thrown_away, kept_one, kept_or_waits, shape_made, went, visited, turn, with_attempt}
+use Rattle.size_window.specs.RunByBits.{Sampling, RunState, Course, followed_by, added, no_attempt, quiet, thrown_away, kept_one, kept_or_waits, shape_made, went, visited, turn, with_attempt}
 use Rattle.labelling.specs.LabelsByBits.{bits_in}
 use Rattle.size_window.specs.Drawing.{MadeShape, DrawingState, DrawingBelongs, ending_of, attempt_unless, state_of, shape_in, counted, thrown_one, taken_out, waiting_with, kept_one_more, ended_by}
 use Rattle.size_window.specs.Turn.{labels_of, entry_of, told_entry, told_fault, EndsThere, GoesOn, IsTurn, KeepsOrWaits, Settles, outcome_of}
-use Rattle.size_window.specs.Follows.{Goes}
+use Rattle.size_window.specs.Follows.{GoesIdeally}
 use Rattle.size_window.proofs.Going.{goes-on, goes-ended, goes-over, goes-small, goes-kept, gives-none}
 use Rattle.size_window.proofs.VisitCells.{extended}
 use Rattle.size_window.proofs.Turning.{in_turn, state-at, attempt-some, attempt-none, turn-visits, if-told, course-going, course-kept, course-thrown, course-fewer, course-cells, is-turn}
 
 -- an attempt that went on
-went-some : (smp : Sampling) (st : State) (es : List ℕ) (cells : List Cell) → es ≢ [] → went smp st es cells ≡ record { state = st; entry = None; cells = cells }
+went-some : (smp : Sampling) (st : RunState) (es : List ℕ) (cells : List Cell) → es ≢ [] → went smp st es cells ≡ record { state = st; entry = None; cells = cells }
 went-some smp st [] cells some = absurd (some refl)
 went-some smp st (e ∷ es) cells some = refl
 
@@ -53,12 +53,12 @@ not-below m n h = by (nat_lt m n) refl
     by false is = is
 
 -- a shape that is too small, and one that isn't
-went-small : (smp : Sampling) (st : State) (es : List ℕ) (cells : List Cell) → es ≡ [] → size_of st.attempt.tokens < smp.limits.min → went smp st es cells ≡ record { state = thrown_away st; entry = None; cells = cells }
+went-small : (smp : Sampling) (st : RunState) (es : List ℕ) (cells : List Cell) → es ≡ [] → size_of st.attempt.tokens < smp.limits.min → went smp st es cells ≡ record { state = thrown_away st; entry = None; cells = cells }
 went-small smp st es cells none small =
     ap (λ fs. went smp st fs cells) none
     ∙ ap (λ b. cond b (record { state = thrown_away st; entry = None; cells = cells }) (kept_or_waits smp.chooser.spec.mode st cells)) (below (size_of st.attempt.tokens) smp.limits.min small)
 
-went-large : (smp : Sampling) (st : State) (es : List ℕ) (cells : List Cell) (mode : Mode) → es ≡ [] → smp.chooser.spec.mode ≡ mode → smp.limits.min ≤ size_of st.attempt.tokens → went smp st es cells ≡ kept_or_waits mode st cells
+went-large : (smp : Sampling) (st : RunState) (es : List ℕ) (cells : List Cell) (mode : Mode) → es ≡ [] → smp.chooser.spec.mode ≡ mode → smp.limits.min ≤ size_of st.attempt.tokens → went smp st es cells ≡ kept_or_waits mode st cells
 went-large smp st es cells mode none is_mode large =
     ap (λ fs. went smp st fs cells) none
     ∙ ap (λ b. cond b (record { state = thrown_away st; entry = None; cells = cells }) (kept_or_waits smp.chooser.spec.mode st cells)) (not-below (size_of st.attempt.tokens) smp.limits.min large)
@@ -75,7 +75,7 @@ same-entry a b number place size tokens labels cells =
     ∙ ap (λ cs. record a { number = b.number; place = b.place; size = b.size; tokens = b.tokens; labels = b.labels; cells = cs }) cells
 
 -- states with the same parts
-pub same-state : (a b : State) → a.attempt ≡ b.attempt → a.awaits ≡ b.awaits → a.kept ≡ b.kept → a.thrown ≡ b.thrown → a.turns ≡ b.turns → a.ending ≡ b.ending → a ≡ b
+pub same-state : (a b : RunState) → a.attempt ≡ b.attempt → a.awaits ≡ b.awaits → a.kept ≡ b.kept → a.thrown ≡ b.thrown → a.turns ≡ b.turns → a.ending ≡ b.ending → a ≡ b
 same-state a b attempt awaits kept thrown turns ending =
     ap (λ t. record a { attempt = t }) attempt
     ∙ ap (λ w. record a { attempt = b.attempt; awaits = w }) awaits
@@ -105,7 +105,7 @@ module _ (s : Spec) (x : Fraction) (F : ℕ) (table : (level node : ℕ) → Bou
   going-is P h = subst P (sym on.going) h
 
   -- a turn by a visit, from what it leaves
-  by-visit : (step : Stepped) (result : Turned) (now : DrawingState) (turned : run.Turned) → turned.state ≡ state_of now used → turned.entry ≡ told_entry result → ((c : Course) → c.state ≡ state_of before start → Goes s x before.limits c → Goes s x before.limits (followed_by c turned))
+  by-visit : (step : Stepped) (result : Turned) (now : DrawingState) (turned : run.Turned) → turned.state ≡ state_of now used → turned.entry ≡ told_entry result → ((c : Course) → c.state ≡ state_of before start → GoesIdeally s x before.limits c → GoesIdeally s x before.limits (followed_by c turned))
       → step ≢ stepped.OutOfMemory → option_map (λ given. start + given) (told_fault None result (used - start)) ≡ told.fault_place step used → Means step turned → Alike step result → IsTold step → IsTurn s x F table bits before start result now used
   by-visit step result now turned state entry goes ne fault means alike h = record {
     turned = turned;

@@ -11,20 +11,20 @@ use Rattle.labelling.specs.LabelsByBits.{Labelling, labelling}
 use Rattle.labelling.specs.Spelled.{AreSpelled, SpellsLabelling}
 use Rattle.labelling.proofs.SpelledLabels.{labellings_spell, spelled-none, spelled-then, spelled-open, spelled-cell}
 use Rattle.shape_sampler.specs.Visit.{Attempt, Visited, visit}
-use Rattle.size_window.specs.RunByBits.{Sampling, State, Turned, Course, Ending, Open, quiet, with_attempt, added, thrown_away, kept_or_waits, went, visited, shape_turn, counted_turn, label_turn, labelled_with, cut_short, turn_unless, fault_place, followed_by, after, ended}
+use Rattle.size_window.specs.RunByBits.{Sampling, RunState, Turned, Course, Ending, Open, quiet, with_attempt, added, thrown_away, kept_or_waits, went, visited, shape_turn, counted_turn, label_turn, labelled_with, cut_short, turn_unless, fault_place, followed_by, after, ended}
 use Rattle.size_window.specs.Trace.{AreOpen, IsSpelled}
 use Rattle.size_window.proofs.VisitCells.{added-after}
 use Rattle.size_window.proofs.SpelledVisits.{AddsCells, SpellsVisit, visit-spells}
 
 -- What a turn from a state adds: cells that spell the next bits, and the bits of a number that it left open.
-pub record SpellsTurn (tape : ℕ → Option Bool) (st : State) (t : Turned) : Type 0 where
+pub record SpellsTurn (tape : ℕ → Option Bool) (st : RunState) (t : Turned) : Type 0 where
   pub open_bits : List Bool
   pub spelled_there : AreSpelled tape st.attempt.used t.cells open_bits t.state.attempt.used
   pub are_open : AreOpen t.state.ending open_bits
 
-module _ (tape : ℕ → Option Bool) (st : State) where
+module _ (tape : ℕ → Option Bool) (st : RunState) where
   -- nothing is added
-  adds-nothing : (now : State) → now.attempt.used ≡ st.attempt.used → AreOpen now.ending [] → SpellsTurn tape st (quiet now)
+  adds-nothing : (now : RunState) → now.attempt.used ≡ st.attempt.used → AreOpen now.ending [] → SpellsTurn tape st (quiet now)
   adds-nothing now used are_open = record { open_bits = []; spelled_there = subst (AreSpelled tape st.attempt.used [] []) (sym used) (spelled-none tape st.attempt.used); are_open = are_open }
 
   -- the bits of an open number are added, and the drawing ends
@@ -54,7 +54,7 @@ module _ (tape : ℕ → Option Bool) (st : State) where
     label-spells (Labelling.Ended finished place) h = adds-both Ending.TapeEnded finished place h.open_bits h.spelled_there h.few
     label-spells (Labelling.Failed finished place) h = adds-both Ending.ReadFault finished place h.open_bits h.spelled_there h.few
 
-module _ (s : Sampling) (st : State) (going : st.ending ≡ None) where
+module _ (s : Sampling) (st : RunState) (going : st.ending ≡ None) where
   cells-added : (a : Attempt) (more : List Cell) → a.cells ≡ st.attempt.cells ++ more → added st.attempt.cells a.cells ≡ more
   cells-added a more e = ap (added st.attempt.cells) e ∙ added-after st.attempt.cells more
 
@@ -87,12 +87,12 @@ module _ (s : Sampling) (st : State) (going : st.ending ≡ None) where
 
 module _ (s : Sampling) where
   -- a turn that is counted adds to the state as it stood before
-  counted-on : (st : State) (fault : Option ℕ) → st.ending ≡ None → SpellsTurn s.tape st (counted_turn s (bit_of s.tape (fault_place st fault)) (record st { turns = suc st.turns }))
+  counted-on : (st : RunState) (fault : Option ℕ) → st.ending ≡ None → SpellsTurn s.tape st (counted_turn s (bit_of s.tape (fault_place st fault)) (record st { turns = suc st.turns }))
   counted-on st fault going =
       let h = counted-spells s (record st { turns = suc st.turns }) going (fault_place st fault) st.awaits in
       record { open_bits = h.open_bits; spelled_there = h.spelled_there; are_open = h.are_open }
 
-  ends-or-counts : (st : State) (fault : Option ℕ) (all limit : Bool) → st.ending ≡ None → SpellsTurn s.tape st (cond all (quiet (ended st Ending.Done st.attempt.used)) (cond limit (quiet (ended st Ending.TurnLimit st.attempt.used)) (counted_turn s (bit_of s.tape (fault_place st fault)) (record st { turns = suc st.turns }))))
+  ends-or-counts : (st : RunState) (fault : Option ℕ) (all limit : Bool) → st.ending ≡ None → SpellsTurn s.tape st (cond all (quiet (ended st Ending.Done st.attempt.used)) (cond limit (quiet (ended st Ending.TurnLimit st.attempt.used)) (counted_turn s (bit_of s.tape (fault_place st fault)) (record st { turns = suc st.turns }))))
   ends-or-counts st fault true limit going = adds-nothing s.tape st _ refl refl
   ends-or-counts st fault false true going = adds-nothing s.tape st _ refl refl
   ends-or-counts st fault false false going = counted-on st fault going

@@ -81,7 +81,7 @@ chooses-by s f table is_free frees = record {
   frees = frees;
 }
 
-module _ (s : Spec) (x : Fraction) (F : ℕ) (table : (level node : ℕ) → Bounds) (is_free : ℕ → Bool) (sound : IsSound s) (bounded : oracle.IsSound s x F table) (frees : (part : ℕ) → IsTrue (is_free part) ↔ HasZero s part) where
+module _ (s : Spec) (x : Fraction) (F : ℕ) (table : (level node : ℕ) → Bounds) (is_free : ℕ → Bool) (sound : IsSound s) (bounded : oracle.IsSoundTable s x F table) (frees : (part : ℕ) → IsTrue (is_free part) ↔ HasZero s part) where
   takes : (e room i : ℕ) (cell : Cell) → Decided s F table e room (node_at s e) → IsCell cell.k cell.b → decision_by s F table e room (node_at s e) cell ≡ Some (Choice.Take i) → (u : Fraction) → IsInCell cell.k cell.b u → IsIdealOption s x u e i
   takes e room i cell (Decided.at_union parts at) is_cell decided u inside = union-takes s x F table sound bounded e i cell parts at is_cell (union-decided s F table e room parts cell (Choice.Take i) at decided) u inside
   takes e room i cell (Decided.at_counted kind part at) is_cell decided u inside = count-takes s x F table sound bounded e part kind at room i cell is_cell (count-decided s F table e room part kind cell (Choice.Take i) at decided) u inside

@@ -3,7 +3,7 @@ use Rattle.std.proofs.Common.{◌≡◌, ℕ, zero, suc, ◌+◌, ◌-◌, max, 
 use Rattle.std.specs.Prelude.{Option, Some, None, List, is_some}
 use Rattle.std.proofs.Math.Decide.{dec_le}
 use Rattle.bz_model.specs.declared.cell.Cell.{Cell}
-use Rattle.size_window.specs.RunByBits.{Ending, Sampling, State, Entry, Course, quiet, turn_unless, followed_by, after}
+use Rattle.size_window.specs.RunByBits.{Ending, Sampling, RunState, Entry, Course, quiet, turn_unless, followed_by, after}
 use Rattle.size_window.specs.Trace.{bits_to_node, most_given, ToldTracesAreCourses, EndedTracesAreOne}
 use Rattle.size_window.proofs.Tracing.{agree, agree-given}
 
@@ -24,11 +24,11 @@ told_traces_are_courses s x F table limits tape turns most c p never k by =
       most_is = over.most_is ∙ agree-given smp p.faults (λ n. None) turns (λ n lt. none n);
     }
 
-abbrev course : State → List Entry → List Cell → Course
+abbrev course : RunState → List Entry → List Cell → Course
 course st entries cells = record { state = st; entries = entries; cells = cells }
 
 -- a quiet turn changes no course
-pub quiet-on : (c : Course) (st : State) → c.state ≡ st → followed_by c (quiet st) ≡ c
+pub quiet-on : (c : Course) (st : RunState) → c.state ≡ st → followed_by c (quiet st) ≡ c
 quiet-on c st at = ap (λ s. course s (c.entries ++ []) (c.cells ++ [])) (sym at) ∙ (ap (λ entries. course c.state entries (c.cells ++ [])) (append-nil c.entries) ∙ ap (λ cells. course c.state c.entries cells) (append-nil c.cells))
 
 module _ (s : Sampling) (faults : ℕ → Option ℕ) where
@@ -38,7 +38,7 @@ module _ (s : Sampling) (faults : ℕ → Option ℕ) where
   resting n (Some ending) is e = ap (λ o. followed_by (after s faults n) (turn_unless s (faults n) (after s faults n).state o)) is ∙ quiet-on (after s faults n) (after s faults n).state refl
 
   -- and gives no more bits
-  no-bits : (st : State) → bits_to_node st st ≡ 0
+  no-bits : (st : RunState) → bits_to_node st st ≡ 0
   no-bits st = by st.awaits
     where
       by : (b : Bool) → cond b 0 (st.attempt.used - st.attempt.used) ≡ 0

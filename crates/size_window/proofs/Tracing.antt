@@ -20,9 +20,9 @@ use Rattle.size_window.specs.declared.ending.Ending.{Ending as Told}
 use Rattle.size_window.specs.declared.ending.Ending.TheVariants as ending
 use Rattle.size_window.specs.declared.turned.Turned.{Turned as Answer}
 use Rattle.size_window.specs.declared.turned.Turned.TheVariants as answer
-use Rattle.size_window.specs.RunByBits.{Ending, Limits, Sampling, State, Entry, Course, turn, followed_by, one_turn_on, after}
+use Rattle.size_window.specs.RunByBits.{Ending, Limits, Sampling, RunState, Entry, Course, turn, followed_by, one_turn_on, after}
 use Rattle.size_window.specs.Drawing.{MadeShape, DrawingState, attempt_unless, ending_of, state_of}
-use Rattle.size_window.specs.Follows.{Goes}
+use Rattle.size_window.specs.Follows.{GoesIdeally}
 use Rattle.size_window.specs.Ideally.{chooser_of}
 use Rattle.size_window.specs.Turn.{told_entry, told_fault, entry_of, atoms_by, ending_by, EndsThere, IsTurn, IsCounted, node_bits}
 use Rattle.size_window.specs.Trace.{IsSpelled, Spells, bits_to_node, most_given, EndsAt, IsCourseOver, atoms_in, IsTrace, HasTrace, TracesStart, TurnsContinue}
@@ -186,16 +186,16 @@ module _ (s : Spec) (x : Fraction) (F : ℕ) (table : (level node : ℕ) → Bou
 
     -- how the course and the drawing stand before the turn and after it
     begun-is : c.state.attempt.used ≡ begun
-    begun-is = ap (λ (st : State). st.attempt.used) h.state ∙ attempt-used before.waiting before.session begun
+    begun-is = ap (λ (st : RunState). st.attempt.used) h.state ∙ attempt-used before.waiting before.session begun
 
     used-is : t.turned.state.attempt.used ≡ used
-    used-is = ap (λ (st : State). st.attempt.used) t.state ∙ attempt-used now.waiting now.session used
+    used-is = ap (λ (st : RunState). st.attempt.used) t.state ∙ attempt-used now.waiting now.session used
 
     ending-was : c.state.ending ≡ option_map ending_of before.ending
-    ending-was = ap (λ (st : State). st.ending) h.state
+    ending-was = ap (λ (st : RunState). st.ending) h.state
 
     ending-is : t.turned.state.ending ≡ option_map ending_of now.ending
-    ending-is = ap (λ (st : State). st.ending) t.state
+    ending-is = ap (λ (st : RunState). st.ending) t.state
 
     ending-by : t.turned.state.ending ≡ option_map ending_of (ending_by before.ending a)
     ending-by = ending-is ∙ ap (λ (o : Option Told). option_map ending_of o) counted.ending
@@ -224,8 +224,8 @@ module _ (s : Spec) (x : Fraction) (F : ℕ) (table : (level node : ℕ) → Bou
     unfolding faults-now
     disturbed-now = failures-on (t.turned.state.ending ≡ Some Ending.ReadFault) p.faults turns fault (λ k given is. still-failed before.ending refl (p.disturbed k given is)) fault-ends
 
-    goes-now : Goes s x limits (followed_by c t.turned)
-    goes-now = subst (λ l. Goes s x l (followed_by c t.turned)) h.within (t.goes c h.state (subst (λ l. Goes s x l c) (sym h.within) p.goes))
+    goes-now : GoesIdeally s x limits (followed_by c t.turned)
+    goes-now = subst (λ l. GoesIdeally s x l (followed_by c t.turned)) h.within (t.goes c h.state (subst (λ l. GoesIdeally s x l c) (sym h.within) p.goes))
 
     -- the end of the tape that the course had met
     earlier-end : (o : Option Told) → before.ending ≡ o → (tape : ℕ → Option Bool) → EndsAt t.turned.state.ending t.turned.state.attempt.used tape → EndsAt c.state.ending c.state.attempt.used tape
@@ -293,7 +293,7 @@ module _ (s : Spec) (x : Fraction) (F : ℕ) (table : (level node : ℕ) → Bou
     -- the bits that it gave to a number of a node
     bits-now : bits_to_node c.state t.turned.state ≡ node_bits before.waiting (used - begun)
     bits-now =
-        ap (λ (st : State). bits_to_node st t.turned.state) h.state ∙ ap (bits_to_node (state_of before begun)) t.state
+        ap (λ (st : RunState). bits_to_node st t.turned.state) h.state ∙ ap (bits_to_node (state_of before begun)) t.state
         ∙ ap (λ n. cond (is_some before.waiting) 0 (n - (attempt_unless before.waiting before.session begun).used)) (attempt-used now.waiting now.session used)
         ∙ ap (λ n. cond (is_some before.waiting) 0 (used - n)) (attempt-used before.waiting before.session begun)
         ∙ by before.waiting

@@ -16,7 +16,7 @@ use Rattle.size_window.specs.declared.ending.Ending.TheVariants as ending
 use Rattle.size_window.specs.declared.turned.Turned.{Turned}
 use Rattle.size_window.specs.declared.turned.Turned.TheVariants as answer
 use Rattle.size_window.specs.RunByBits as run
-use Rattle.size_window.specs.RunByBits.{Limits, Sampling, State, Course, added, no_attempt, quiet, ended, visited, shape_turn, label_turn, counted_turn, open_turn, turn_unless, turn, fault_place, followed_by}
+use Rattle.size_window.specs.RunByBits.{Limits, Sampling, RunState, Course, added, no_attempt, quiet, ended, visited, shape_turn, label_turn, counted_turn, open_turn, turn_unless, turn, fault_place, followed_by}
 use Rattle.size_window.specs.Drawing.{MadeShape, DrawingState, DrawingBelongs, ending_of, running, attempt_made, attempt_unless, state_of, counted, ended_by, begun_one}
 use Rattle.size_window.specs.Turn.{GoesOn, told_entry, told_fault, EndsThere, IsTurn, IsIdleTurn}
 use Rattle.size_window.specs.Turn as turning
@@ -90,10 +90,10 @@ attempt-used None st used = running-used st.pending
 attempt-used (Some shape) st used = refl
 
 -- The state of a drawing whose attempt is this one, and whose shape waits or doesn't, in a turn that is counted.
-abbrev pub in_turn_as : DrawingState → (awaits : Bool) → Attempt → State
+abbrev pub in_turn_as : DrawingState → (awaits : Bool) → Attempt → RunState
 in_turn_as d awaits a = record { attempt = a; awaits = awaits; kept = d.kept; thrown = d.thrown; turns = suc d.turns; ending = option_map ending_of d.ending }
 
-abbrev pub in_turn : DrawingState → Attempt → State
+abbrev pub in_turn : DrawingState → Attempt → RunState
 in_turn d a = in_turn_as d false a
 
 module _ (smp : Sampling) (fault : Option ℕ) (d : DrawingState) (start : ℕ) (same : smp.limits ≡ d.limits) where
@@ -112,7 +112,7 @@ module _ (smp : Sampling) (fault : Option ℕ) (d : DrawingState) (start : ℕ) 
   turn-open going = ap (λ (o : Option Ending). turn_unless smp fault (state_of d start) (option_map ending_of o)) going
 
   -- the state of a drawing in a turn that is counted
-  abbrev now_counted : Option MadeShape → State
+  abbrev now_counted : Option MadeShape → RunState
   now_counted w = in_turn_as d (is_some w) (attempt_unless w d.session start)
 
   -- what a counted turn makes of it
@@ -170,25 +170,25 @@ module _ (s : Spec) (x : Fraction) (F : ℕ) (table : (level node : ℕ) → Bou
   -- what the course was in
   module _ (c : Course) (same : c.state ≡ state_of before start) where
     pub course-going : before.ending ≡ None → c.state.ending ≡ None
-    course-going going = ap (λ (st : State). st.ending) same ∙ ending-none before going
+    course-going going = ap (λ (st : RunState). st.ending) same ∙ ending-none before going
 
     pub course-kept : before.kept ≡ c.state.kept
-    course-kept = ap (λ (st : State). st.kept) (sym same)
+    course-kept = ap (λ (st : RunState). st.kept) (sym same)
 
     pub course-thrown : before.thrown ≡ c.state.thrown
-    course-thrown = ap (λ (st : State). st.thrown) (sym same)
+    course-thrown = ap (λ (st : RunState). st.thrown) (sym same)
 
     pub course-fewer : before.kept ≢ before.limits.count → c.state.kept < before.limits.count
     course-fewer fewer = let few = b.kept in let k = course-kept in omega arith
 
     pub course-cells : before.waiting ≡ None → before.session.pending ≢ [] → c.state.attempt.cells ≡ before.session.cells
-    course-cells no_shape some = ap (λ (st : State). st.attempt.cells) same ∙ ap (λ (a : Attempt). a.cells) (attempt-some before start no_shape some)
+    course-cells no_shape some = ap (λ (st : RunState). st.attempt.cells) same ∙ ap (λ (a : Attempt). a.cells) (attempt-some before start no_shape some)
 
     course-idle : before.waiting ≡ None → before.session.pending ≡ [] → c.state.attempt.cells ≡ []
-    course-idle no_shape none = ap (λ (st : State). st.attempt.cells) same ∙ ap (λ (a : Attempt). a.cells) (attempt-none before start no_shape none)
+    course-idle no_shape none = ap (λ (st : RunState). st.attempt.cells) same ∙ ap (λ (a : Attempt). a.cells) (attempt-none before start no_shape none)
 
     pub course-shape : (shape : MadeShape) → before.waiting ≡ Some shape → c.state.attempt.cells ≡ shape.cells
-    course-shape shape waits = ap (λ (st : State). st.attempt.cells) same ∙ ap (λ (a : Attempt). a.cells) (attempt-waits before start shape waits)
+    course-shape shape waits = ap (λ (st : RunState). st.attempt.cells) same ∙ ap (λ (a : Attempt). a.cells) (attempt-waits before start shape waits)
 
   again-turn : (e : Ending) → before.ending ≡ Some e → IsTurn s x F table bits before start (answer.Finished e) before start
   again-turn e is = record {

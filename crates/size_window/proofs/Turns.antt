@@ -10,7 +10,7 @@ use Rattle.size_window.specs.declared.turned.Turned.{Turned}
 use Rattle.size_window.specs.declared.turned.Turned.TheVariants as answer
 use Rattle.size_window.specs.declared.turned.Outcome.{Outcome}
 use Rattle.size_window.specs.Drawing.{DrawingState, DrawingBelongs}
-use Rattle.size_window.specs.Turn.{IsTurn, IsCounted, Settles, outcome_of, MaySettle, IfKept, IsNext, HasLabels}
+use Rattle.size_window.specs.Turn.{IsTurn, IsCounted, Settles, outcome_of, MaySettle, IfKept, IsNextKept, HasLabels}
 use Rattle.size_window.proofs.Settling.{visit-turn}
 use Rattle.size_window.proofs.Belonging.{Visits, visit-belongs, visit-kept, visit-labels, visit-counted, may-settle}
 
@@ -34,8 +34,8 @@ module _ (s : Spec) (x : Fraction) (before seen : DrawingState) (same : seen ≡
     pub belongs-then : DrawingBelongs s x now
     belongs-then = visit-belongs s x seen belongs-seen visits-seen session belongs mode is_mode table step used result now (left runs-seen) ideal settles
 
-    pub kept-then : IfKept result (IsNext before.limits before.kept used)
-    kept-then = subst (λ (d : DrawingState). IfKept result (IsNext d.limits d.kept used)) same (visit-kept s x seen belongs-seen visits-seen session belongs mode table step used result now (left runs-seen) ideal settles)
+    pub kept-then : IfKept result (IsNextKept before.limits before.kept used)
+    kept-then = subst (λ (d : DrawingState). IfKept result (IsNextKept d.limits d.kept used)) same (visit-kept s x seen belongs-seen visits-seen session belongs mode table step used result now (left runs-seen) ideal settles)
 
     pub labels-then : IfKept result (HasLabels s.mode)
     labels-then = visit-labels s x seen belongs-seen visits-seen session belongs mode table is_mode step used result now settles

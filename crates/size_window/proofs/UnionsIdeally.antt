@@ -15,7 +15,7 @@ use Rattle.choice_draw.proofs.SoundOptions.{taken-ideal}
 use Rattle.choice_draw.proofs.UnionOptions.{union-sound}
 use Rattle.choice_draw.proofs.UnionParts.{within}
 
-module _ (s : Spec) (x : Fraction) (F : ℕ) (table : (level node : ℕ) → Bounds) (sound : IsSound s) (bounded : oracle.IsSound s x F table) where
+module _ (s : Spec) (x : Fraction) (F : ℕ) (table : (level node : ℕ) → Bounds) (sound : IsSound s) (bounded : oracle.IsSoundTable s x F table) where
   -- an option that is decided is the ideal one
   pub union-takes : (e i : ℕ) (cell : Cell) (parts : List ℕ) → node_at s e ≡ Some (Node.Union parts) → IsCell cell.k cell.b → union_choice table e parts cell ≡ Some (Choice.Take i) → (u : Fraction) → IsInCell cell.k cell.b u → IsIdealOption s x u e i
   union-takes e i cell parts here is_cell decided u inside =

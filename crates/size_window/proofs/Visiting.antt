@@ -11,14 +11,14 @@ use Rattle.object_store.specs.declared.token.Token.{Token}
 use Rattle.choice_draw.specs.Decision.{Choice}
 use Rattle.choice_draw.specs.Draw.{Bit, Draw, draw}
 use Rattle.shape_sampler.specs.Visit.{Chooser, Attempt, Visited, node_visited, after_draw, union_answered, counted_answered, counted_visited, room_for, atom_visited}
-use Rattle.shape_sampler.specs.Belonging.{GoesOn, IsIdealOver}
+use Rattle.shape_sampler.specs.Belonging.{Continues, IsIdealOver}
 use Rattle.shape_sampler.proofs.Visits.{goes-on, is-over, empty-turns, atom-turns, atom-over, class-turns, product-turns, union-turns, counted-turns, counted-over}
 use Rattle.size_window.specs.Ideally.{DecidesIdeally}
 use Rattle.labelling.proofs.DrawDecided.{draw-decided}
 
 -- What a visit's outcome means: an attempt that went on goes on as ideal making does, and one that is over is over for all numbers of its cells.
 abbrev pub IsIdeally : Spec → Fraction → (whole : ℕ) → Visited → Type 0
-IsIdeally s x whole (Visited.Went a) = GoesOn s x whole a.tokens a.cells a.room a.pending
+IsIdeally s x whole (Visited.Went a) = Continues s x whole a.tokens a.cells a.room a.pending
 IsIdeally s x whole (Visited.Over a) = IsIdealOver s x whole a.cells
 IsIdeally s x whole (Visited.Straddled node cell) = Unit {0}
 IsIdeally s x whole (Visited.Ended place) = Unit {0}
@@ -37,22 +37,22 @@ at_some (y ∷ xs) (suc i) v h = at_some xs i v h
 
 module _ (c : Chooser) (x : Fraction) (ideal : DecidesIdeally c x) (whole : ℕ) where
   -- no token and no cell more
-  same-going : {tokens : List Token} {cells : List Cell} {room : ℕ} {pending : List ℕ} → GoesOn c.spec x whole (tokens ++ []) (cells ++ []) room pending → GoesOn c.spec x whole tokens cells room pending
-  same-going {tokens} {cells} {room} {pending} g = subst (λ ts. GoesOn c.spec x whole ts cells room pending) (append-nil tokens) (subst (λ cs. GoesOn c.spec x whole (tokens ++ []) cs room pending) (append-nil cells) g)
+  same-going : {tokens : List Token} {cells : List Cell} {room : ℕ} {pending : List ℕ} → Continues c.spec x whole (tokens ++ []) (cells ++ []) room pending → Continues c.spec x whole tokens cells room pending
+  same-going {tokens} {cells} {room} {pending} g = subst (λ ts. Continues c.spec x whole ts cells room pending) (append-nil tokens) (subst (λ cs. Continues c.spec x whole (tokens ++ []) cs room pending) (append-nil cells) g)
 
-  no-cell : {tokens : List Token} {cells : List Cell} {room : ℕ} {pending : List ℕ} → GoesOn c.spec x whole tokens (cells ++ []) room pending → GoesOn c.spec x whole tokens cells room pending
-  no-cell {tokens} {cells} {room} {pending} g = subst (λ cs. GoesOn c.spec x whole tokens cs room pending) (append-nil cells) g
+  no-cell : {tokens : List Token} {cells : List Cell} {room : ℕ} {pending : List ℕ} → Continues c.spec x whole tokens (cells ++ []) room pending → Continues c.spec x whole tokens cells room pending
+  no-cell {tokens} {cells} {room} {pending} g = subst (λ cs. Continues c.spec x whole tokens cs room pending) (append-nil cells) g
 
   no-cell-over : {cells : List Cell} → IsIdealOver c.spec x whole (cells ++ []) → IsIdealOver c.spec x whole cells
   no-cell-over {cells} o = subst (λ cs. IsIdealOver c.spec x whole cs) (append-nil cells) o
 
-  no-token : {tokens : List Token} {cells : List Cell} {room : ℕ} {pending : List ℕ} → GoesOn c.spec x whole (tokens ++ []) cells room pending → GoesOn c.spec x whole tokens cells room pending
-  no-token {tokens} {cells} {room} {pending} g = subst (λ ts. GoesOn c.spec x whole ts cells room pending) (append-nil tokens) g
+  no-token : {tokens : List Token} {cells : List Cell} {room : ℕ} {pending : List ℕ} → Continues c.spec x whole (tokens ++ []) cells room pending → Continues c.spec x whole tokens cells room pending
+  no-token {tokens} {cells} {room} {pending} g = subst (λ ts. Continues c.spec x whole ts cells room pending) (append-nil tokens) g
 
-  module _ (bit : ℕ → Bit) (a : Attempt) (e : ℕ) (rest : List ℕ) (before : GoesOn c.spec x whole a.tokens a.cells a.room (e ∷ rest)) where
+  module _ (bit : ℕ → Bit) (a : Attempt) (e : ℕ) (rest : List ℕ) (before : Continues c.spec x whole a.tokens a.cells a.room (e ∷ rest)) where
     atom-ideally : (room : ℕ) (word : List ℕ) → a.room ≡ room → node_at c.spec e ≡ Some (Node.Atom word) → IsIdeally c.spec x whole (atom_visited a rest room)
-    atom-ideally zero word is here = no-cell-over (is-over c.spec x (subst (λ r. GoesOn c.spec x whole a.tokens a.cells r (e ∷ rest)) is before) (atom-over c.spec x e rest word here))
-    atom-ideally (suc room) word is here = no-cell (goes-on c.spec x (subst (λ r. GoesOn c.spec x whole a.tokens a.cells r (e ∷ rest)) is before) (atom-turns c.spec x e room rest word here))
+    atom-ideally zero word is here = no-cell-over (is-over c.spec x (subst (λ r. Continues c.spec x whole a.tokens a.cells r (e ∷ rest)) is before) (atom-over c.spec x e rest word here))
+    atom-ideally (suc room) word is here = no-cell (goes-on c.spec x (subst (λ r. Continues c.spec x whole a.tokens a.cells r (e ∷ rest)) is before) (atom-turns c.spec x e room rest word here))
 
     union-ideally : (parts : List ℕ) → node_at c.spec e ≡ Some (Node.Union parts) → (d : Draw Choice) → draw (c.decide e a.room) bit a.used ≡ d → IsIdeally c.spec x whole (after_draw e (union_answered a parts rest) d)
     union-ideally parts here (Draw.Decided (Choice.Take i) cell) drawn =

@@ -19,7 +19,7 @@ use Rattle.size_window.specs.declared.ending.Straddle.TheVariants as straddle
 use Rattle.size_window.specs.declared.limits.Limits as declared
 use Rattle.size_window.specs.declared.finished_shape.Made.{Made}
 use Rattle.size_window.specs.RunByBits as run
-use Rattle.size_window.specs.RunByBits.{Limits, State, no_attempt}
+use Rattle.size_window.specs.RunByBits.{Limits, RunState, no_attempt}
 
 -- A made shape has its tokens, and the cells of its numbers.
 pub record MadeShape : Type 0 where
@@ -80,7 +80,7 @@ attempt_unless None st used = running st st.pending used
 attempt_unless (Some shape) st used = attempt_made shape st.room used
 
 -- The state of a drawing, so many bits being used.
-abbrev pub state_of : DrawingState → (used : ℕ) → State
+abbrev pub state_of : DrawingState → (used : ℕ) → RunState
 state_of d used = record {
   attempt = attempt_unless d.waiting d.session used;
   awaits = is_some d.waiting;

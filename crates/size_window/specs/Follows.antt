@@ -64,6 +64,6 @@ pub record Follows (s : Spec) (x : Fraction) (limits : Limits) (c : Course) : Ty
 
 -- A course goes as ideal runs do where it follows the ideal run and, while it hasn't ended, the
 -- other cells are those of the attempt under way.
-pub record Goes (s : Spec) (x : Fraction) (limits : Limits) (c : Course) : Type 0 where
+pub record GoesIdeally (s : Spec) (x : Fraction) (limits : Limits) (c : Course) : Type 0 where
   pub follows : Follows s x limits c
   pub under_way : c.state.ending ≡ None → follows.others ≡ c.state.attempt.cells

@@ -41,7 +41,7 @@ pub record Sampling : Type 0 where
 -- The kept state: the attempt under way, whether it is a made shape that awaits its labels, the
 -- counts and the ending. A shape that awaits its labels has nothing pending. Where no attempt is
 -- under way, nothing is pending, tokens and cells are empty, and the room is 0.
-pub record State : Type 0 where
+pub record RunState : Type 0 where
   pub attempt : Attempt
   pub awaits : Bool
   pub kept : ℕ
@@ -62,7 +62,7 @@ pub record Entry : Type 0 where
 -- What a turn gives: the state after it, the object that it kept, if any, and the cells of the
 -- numbers that it finished.
 pub record Turned : Type 0 where
-  pub state : State
+  pub state : RunState
   pub entry : Option Entry
   pub cells : List Cell
 
@@ -71,11 +71,11 @@ abbrev pub no_attempt : (used : ℕ) → Attempt
 no_attempt used = record { pending = []; tokens = []; cells = []; room = 0; used = used }
 
 -- The state with no attempt under way.
-abbrev pub idle : State → State
+abbrev pub idle : RunState → RunState
 idle st = record st { attempt = no_attempt st.attempt.used; awaits = false }
 
 -- The state at the start.
-abbrev pub start : State
+abbrev pub start : RunState
 start = record {
   attempt = no_attempt 0;
   awaits = false;
@@ -87,28 +87,28 @@ start = record {
 }
 
 -- A turn that keeps nothing and finishes no number.
-abbrev pub quiet : State → Turned
+abbrev pub quiet : RunState → Turned
 quiet st = record { state = st; entry = None; cells = [] }
 
 -- The state after this visit.
-abbrev pub with_attempt : State → Attempt → State
+abbrev pub with_attempt : RunState → Attempt → RunState
 with_attempt st a = record st { attempt = a }
 
 -- The attempt is thrown away.
-abbrev pub thrown_away : State → State
+abbrev pub thrown_away : RunState → RunState
 thrown_away st = record (idle st) { thrown = suc st.thrown }
 
 -- The state with the bits up to the place used.
-abbrev pub at_place : State → (place : ℕ) → State
+abbrev pub at_place : RunState → (place : ℕ) → RunState
 at_place st place = record st { attempt = record st.attempt { used = place } }
 
 -- The drawing ends, with the bits up to the place used.
-abbrev pub ended : State → Ending → (place : ℕ) → State
+abbrev pub ended : RunState → Ending → (place : ℕ) → RunState
 ended st ending place = record (at_place st place) { ending = Some ending }
 
 -- The entry of the state's shape with these labels, whose cells follow those of the shape. Its
 -- first bit stands before all that its cells spell.
-abbrev pub entry_of : State → (labels : List ℕ) → (label_cells : List Cell) → Entry
+abbrev pub entry_of : RunState → (labels : List ℕ) → (label_cells : List Cell) → Entry
 entry_of st labels label_cells = record {
   number = suc st.kept;
   place = st.attempt.used - bits_in (st.attempt.cells ++ label_cells);
@@ -119,26 +119,26 @@ entry_of st labels label_cells = record {
 }
 
 -- The state after its shape was kept.
-abbrev pub kept_one : State → State
+abbrev pub kept_one : RunState → RunState
 kept_one st = record (idle st) { kept = suc st.kept }
 
 -- A made shape large enough is kept, or waits for labels. The cells are those that the turn
 -- finished.
-abbrev pub kept_or_waits : Mode → State → (finished : List Cell) → Turned
+abbrev pub kept_or_waits : Mode → RunState → (finished : List Cell) → Turned
 kept_or_waits Mode.Unlabelled st finished =
     record { state = kept_one st; entry = Some (entry_of st [] []); cells = finished }
 kept_or_waits Mode.Labelled st finished =
     record { state = record st { awaits = true }; entry = None; cells = finished }
 
 -- A made shape below the least size is thrown away.
-abbrev pub shape_made : Sampling → State → (finished : List Cell) → Turned
+abbrev pub shape_made : Sampling → RunState → (finished : List Cell) → Turned
 shape_made s st finished =
     if nat_lt (size_of st.attempt.tokens) s.limits.min
     then record { state = thrown_away st; entry = None; cells = finished }
     else kept_or_waits s.chooser.spec.mode st finished
 
 -- After a visit that went on, the shape is made where nothing is pending.
-abbrev pub went : Sampling → State → (pending : List ℕ) → (finished : List Cell) → Turned
+abbrev pub went : Sampling → RunState → (pending : List ℕ) → (finished : List Cell) → Turned
 went s st [] finished = shape_made s st finished
 went s st (e ∷ es) finished = record { state = st; entry = None; cells = finished }
 
@@ -150,7 +150,7 @@ added (c ∷ before) (d ∷ after) = added before after
 
 -- What a visit means for the drawing. Over throws the attempt away in the same turn; a stop ends
 -- the drawing.
-abbrev pub visited : Sampling → State → Visited → Turned
+abbrev pub visited : Sampling → RunState → Visited → Turned
 visited s st (Visited.Went a) =
     went s (with_attempt st a) a.pending (added st.attempt.cells a.cells)
 visited s st (Visited.Over a) = record {
@@ -166,18 +166,18 @@ visited s st (Visited.Ended place) = quiet (ended st Ending.TapeEnded place)
 visited s st (Visited.Failed place) = quiet (ended st Ending.ReadFault place)
 
 -- An attempt starts where nothing is pending; else the first pending node is visited.
-abbrev pub shape_turn : Sampling → (bit : ℕ → Bit) → State → (pending : List ℕ) → Turned
+abbrev pub shape_turn : Sampling → (bit : ℕ → Bit) → RunState → (pending : List ℕ) → Turned
 shape_turn s bit st [] = quiet (with_attempt st (begun s.chooser.spec s.limits.max st.attempt.used))
 shape_turn s bit st (e ∷ rest) = visited s st (visit s.chooser bit st.attempt)
 
 -- The labelling was cut short and ends the drawing. The cells are those of the numbers that it
 -- finished.
-abbrev pub cut_short : State → Ending → (finished : List Cell) → (place : ℕ) → Turned
+abbrev pub cut_short : RunState → Ending → (finished : List Cell) → (place : ℕ) → Turned
 cut_short st ending finished place =
     record { state = ended st ending place; entry = None; cells = finished }
 
 -- What a labelling means for the drawing: the shape is kept with its labels, or the drawing ends.
-abbrev pub labelled_with : State → Labelling → Turned
+abbrev pub labelled_with : RunState → Labelling → Turned
 labelled_with st (Labelling.Given labels cells place) =
     record {
       state = kept_one (at_place st place);
@@ -191,37 +191,37 @@ labelled_with st (Labelling.Ended finished place) = cut_short st Ending.TapeEnde
 labelled_with st (Labelling.Failed finished place) = cut_short st Ending.ReadFault finished place
 
 -- The waiting shape is labelled and kept.
-abbrev pub label_turn : (bit : ℕ → Bit) → State → Turned
+abbrev pub label_turn : (bit : ℕ → Bit) → RunState → Turned
 label_turn bit st = labelled_with st (labelling bit (size_of st.attempt.tokens) st.attempt.used)
 
 -- A turn that was counted.
-abbrev pub counted_turn : Sampling → (bit : ℕ → Bit) → State → Turned
+abbrev pub counted_turn : Sampling → (bit : ℕ → Bit) → RunState → Turned
 counted_turn s bit st =
     if st.awaits then label_turn bit st else shape_turn s bit st st.attempt.pending
 
 -- The place at which the shelf fails, where it gives that many bits in the turn before.
-abbrev pub fault_place : State → Option ℕ → Option ℕ
+abbrev pub fault_place : RunState → Option ℕ → Option ℕ
 fault_place st fault = option_map (λ given. st.attempt.used + given) fault
 
 -- A turn of a drawing that has not ended.
-abbrev pub open_turn : Sampling → (fault : Option ℕ) → State → Turned
+abbrev pub open_turn : Sampling → (fault : Option ℕ) → RunState → Turned
 open_turn s fault st =
     if nat_eq st.kept s.limits.count then quiet (ended st Ending.Done st.attempt.used)
     else (if nat_eq st.turns s.limits.turns then quiet (ended st Ending.TurnLimit st.attempt.used)
     else counted_turn s (bit_of s.tape (fault_place st fault)) (record st { turns = suc st.turns }))
 
-abbrev pub turn_unless : Sampling → (fault : Option ℕ) → State → Option Ending → Turned
+abbrev pub turn_unless : Sampling → (fault : Option ℕ) → RunState → Option Ending → Turned
 turn_unless s fault st None = open_turn s fault st
 turn_unless s fault st (Some ending) = quiet st
 
 -- One turn. `fault` is the number of bits that the shelf gives in the turn before it fails, where
 -- it fails.
-abbrev pub turn : Sampling → (fault : Option ℕ) → State → Turned
+abbrev pub turn : Sampling → (fault : Option ℕ) → RunState → Turned
 turn s fault st = turn_unless s fault st st.ending
 
 -- A drawing's state with the entries kept and the cells of all numbers finished.
 pub record Course : Type 0 where
-  pub state : State
+  pub state : RunState
   pub entries : List Entry
   pub cells : List Cell
 

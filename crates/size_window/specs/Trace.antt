@@ -10,10 +10,11 @@ use Rattle.bit_tape.specs.Given.{HasBits, Gave}
 use Rattle.labelling.specs.Spelled.{AreSpelled}
 use Rattle.shape_sampler.specs.Visit.{Chooser}
 use Rattle.shape_sampler.specs.Answer.{ChoosesBy}
-use Rattle.size_window.specs.RunByBits.{Open, Ending, Limits, Sampling, State, Entry, Course, start}
+use Rattle.size_window.specs.RunByBits.{Open, Ending, Limits, Sampling, RunState, Entry, Course}
+use Rattle.size_window.specs.RunByBits.{start}
 use Rattle.size_window.specs.RunByBits.{at_start, followed_by, after}
 use Rattle.size_window.specs.Drawing.{DrawingState, state_of}
-use Rattle.size_window.specs.Follows.{Goes}
+use Rattle.size_window.specs.Follows.{GoesIdeally}
 use Rattle.size_window.specs.declared.turned.Turned.{Turned}
 use Rattle.size_window.specs.Turn.{IsTurn, IsCounted, node_bits}
 use Rattle.class_system.specs.Sound.{IsSound}
@@ -49,7 +50,7 @@ pub record Spells (c : Course) (given : List Bool) : Type 0 where
 
 -- The bits that a turn gave to a number of a choice node, which is a union, a sequence, a set or a
 -- cycle: all that it used, and none where it labelled a made shape.
-abbrev pub bits_to_node : (before now : State) → ℕ
+abbrev pub bits_to_node : (before now : RunState) → ℕ
 bits_to_node before now = if before.awaits then 0 else now.attempt.used - before.attempt.used
 
 -- The greatest number of bits that one number of a choice node was given in the first n turns of
@@ -84,7 +85,7 @@ atoms_in entries = sum (map (λ e. e.size) entries)
 -- choice node was given in a turn.
 pub record IsTrace (s : Spec) (x : Fraction) (F : ℕ) (table : (level node : ℕ) → Bounds)
     (limits : Limits) (told : Option (ℕ → Option Bool)) (turns most : ℕ) (c : Course) : Type 0 where
-  pub goes : Goes s x limits c
+  pub goes : GoesIdeally s x limits c
   pub given : List Bool
   pub gave : Gave told 0 c.state.attempt.used given
   pub ended : IfSome told (EndsAt c.state.ending c.state.attempt.used)

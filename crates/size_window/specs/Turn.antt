@@ -26,7 +26,7 @@ use Rattle.size_window.specs.declared.turned.Outcome.TheVariants as outcome
 use Rattle.size_window.specs.RunByBits as run
 use Rattle.labelling.specs.LabelsByBits.{bits_in}
 use Rattle.size_window.specs.RunByBits.{Limits, Course, followed_by, turn}
-use Rattle.size_window.specs.Follows.{Goes}
+use Rattle.size_window.specs.Follows.{GoesIdeally}
 use Rattle.size_window.specs.Drawing.{MadeShape, DrawingState, state_of, shape_in, counted}
 use Rattle.size_window.specs.Drawing.{thrown_one, taken_out, waiting_with, kept_one_more, ended_by}
 use Rattle.size_window.specs.Drawing.{begun_one}
@@ -97,8 +97,8 @@ pub record IsTurn (s : Spec) (x : Fraction) (F : ℕ) (table : (level node : ℕ
   pub entry : turned.entry ≡ told_entry answer
   pub rests : (ending : Ending) → before.ending ≡ Some ending
       → Rests ending before start answer now used
-  pub goes : (c : Course) → c.state ≡ state_of before start → Goes s x before.limits c
-      → Goes s x before.limits (followed_by c turned)
+  pub goes : (c : Course) → c.state ≡ state_of before start → GoesIdeally s x before.limits c
+      → GoesIdeally s x before.limits (followed_by c turned)
   pub given : List Bool
   pub gave : Gave bits start used given
   pub ended : IfSome bits (EndsThere answer before.ending used)
@@ -146,7 +146,7 @@ pub record IsCounted (before : DrawingState) (answer : Turned) (now : DrawingSta
 -- An entry of a drawing that kept so many objects before, so many bits being used now: it has the
 -- next number, its first bit stands before all that its cells spell, its size is within the window,
 -- and its cells are cells.
-pub record IsNext (limits : Limits) (kept used : ℕ) (e : Entry) : Type 0 where
+pub record IsNextKept (limits : Limits) (kept used : ℕ) (e : Entry) : Type 0 where
   pub number : e.number ≡ kept + 1
   pub place : e.place ≡ used - bits_in e.cells.items
   pub least : limits.min ≤ size_of e.shape.items

@@ -14,7 +14,7 @@ ghost use Rattle.size_window.specs.RunByBits.{start};
 ghost use Rattle.size_window.specs.Drawing.{limits_of, state_of, shape_of, AreLimits};
 ghost use Rattle.size_window.specs.Drawing.{DrawingBelongs, counted, thrown_one, none_waiting};
 ghost use Rattle.size_window.specs.Drawing.{waiting_with, kept_one_more, ended_by, begun_one};
-ghost use Rattle.size_window.specs.Turn.{IsTurn, is_fault, turns_by, IsCounted, IfKept, IsNext};
+ghost use Rattle.size_window.specs.Turn.{IsTurn, is_fault, turns_by, IsCounted, IfKept, IsNextKept};
 ghost use Rattle.size_window.specs.Turn.{HasLabels, node_bits, most_bits, TellsOpen, outcome_of};
 ghost use Rattle.size_window.specs.Turn.{IsIdleTurn, IfStraddles, Settles, KeepsOrWaits, MaySettle};
 ghost use Rattle.size_window.specs.LabelTurn.{IsLabelTurn, SettlesLabels};
@@ -157,7 +157,7 @@ impl Drawing {
         ensures turn_limit { self.old.ending ≡ None → ((result ≡ Turned.Finished Ending.TurnLimit)
             ↔ ((self.old.kept ≢ self.old.limits.count)
             × (self.old.turns ≡ self.old.limits.turns))) }
-        ensures kept { IfKept result (IsNext self.old.limits self.old.kept tape.new.used) }
+        ensures kept { IfKept result (IsNextKept self.old.limits self.old.kept tape.new.used) }
         ensures labels { IfKept result (HasLabels founded.now.mode) }
         ensures undecided { self.old.ending ≡ None → TellsOpen (O.table oracle.old) result }
         ensures drawing { DrawingBelongs founded.now (O.x oracle.old) self.new }

@@ -21,7 +21,7 @@ ghost use Rattle.size_window.specs.Redrawn.{AreRedrawn, AreEntriesOfTrace};
 ghost use Rattle.size_window.specs.InOrder.{IsInOrder};
 ghost use Rattle.size_window.specs.TapeEnd.{UsesFewBits, FilesEndRightly, SeedsNeverEnd};
 ghost use Rattle.size_window.specs.Ideally.{DecidesIdeally, chooser_of};
-ghost use Rattle.size_window.specs.Follows.{Follows, Goes};
+ghost use Rattle.size_window.specs.Follows.{Follows, GoesIdeally};
 
 use bz_laws::ideal_sampler::{
     making_without_a_room_is_making_with_some_room, the_room_is_mere_rejection,
@@ -44,7 +44,7 @@ pub fn a_drawing_follows_the_ideal_run()
 /// object of size 0.
 pub fn a_sound_table_decides_ideally()
     ensures { (s : Spec) (x : Fraction) (F : ℕ) (table : (level node : ℕ) → Bounds)
-        (is_free : ℕ → Bool) → IsSound s → oracle.IsSound s x F table
+        (is_free : ℕ → Bool) → IsSound s → oracle.IsSoundTable s x F table
         → ((part : ℕ) → IsTrue (is_free part) ↔ HasZero s part)
         → DecidesIdeally (chooser_of s F table is_free) x }
 {}
@@ -62,7 +62,7 @@ pub fn a_table_has_its_chooser()
 /// The course at the start goes as ideal runs do. So does each later one, by the contract of
 /// `Drawing::turn`.
 pub fn a_course_goes_from_its_start()
-    ensures { (s : Spec) (x : Fraction) (limits : Limits) → Goes s x limits at_start }
+    ensures { (s : Spec) (x : Fraction) (limits : Limits) → GoesIdeally s x limits at_start }
 {}
 
 /// A drawing before its first turn has a trace: that of no bit, with no entry and no cell.

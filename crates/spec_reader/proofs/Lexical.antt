@@ -11,7 +11,7 @@ use Rattle.spec_reader.specs.declared.tokens.Token.{Token}
 use Rattle.spec_reader.specs.declared.tokens.Front.{Front}
 use Rattle.spec_reader.specs.declared.tokens.Placed.{Placed}
 use Rattle.spec_reader.specs.declared.tokens.Spot.{Spot}
-use Rattle.spec_reader.specs.Building.{IsEnded}
+use Rattle.spec_reader.specs.Building.{EndsText}
 use Rattle.spec_reader.specs.Tokens.{is_same, number_of, number_token, begins_with_letter, run_token, leaf_token, word_after, run_front, begins_with_equals, sign_front, front, line_end, placed, made, moved, further, along, tokens_from, tokens_of, beginning}
 
 -- a token of the text's rules
@@ -150,7 +150,7 @@ pub are_lexical : (bytes : List ℕ) → AreLexical (tokens_of bytes)
 are_lexical bytes = from_lexical 0 beginning bytes
 
 -- the last token of a text is its end
-ended_from : (skip : ℕ) (s : Spot) (bs : List ℕ) → IsEnded (tokens_from skip s bs)
+ended_from : (skip : ℕ) (s : Spot) (bs : List ℕ) → EndsText (tokens_from skip s bs)
 ended_from skip s [] = record { front = line_end s; last = placed Token.TextEnd s; is = refl; ends = refl }
 ended_from (suc skip) s (b ∷ bs) = ended_from skip (along 1 s) bs
 ended_from zero s (b ∷ bs) =
@@ -158,7 +158,7 @@ ended_from zero s (b ∷ bs) =
     record { front = made s (front b bs) ++ e.front; last = e.last; is = ap (λ ts. made s (front b bs) ++ ts) e.is ∙ sym (append_assoc (made s (front b bs)) e.front (e.last ∷ [])); ends = e.ends }
 
 -- The tokens of any bytes end with the token of the end of the text.
-pub are_ended : (bytes : List ℕ) → IsEnded (tokens_of bytes)
+pub are_ended : (bytes : List ℕ) → EndsText (tokens_of bytes)
 are_ended bytes = ended_from 0 beginning bytes
 
 made_few : (s : Spot) (f : Front) → length (made s f) ≤ 1

@@ -7,7 +7,7 @@ use Rattle.spec_reader.specs.declared.tokens.Sign.{Sign}
 use Rattle.spec_reader.specs.declared.tokens.Token.{Token}
 use Rattle.spec_reader.specs.Tokens.{is_same}
 use Rattle.spec_reader.specs.Grammar.{Term, Definition, sum_of, product_of, counted, plain, Bound, no_bound, at_least, at_most, exactly, Sum, MoreProducts, MoreFactors, Factor, summed, no_products, next_product, multiplied, no_factors, next_factor, empty_leaf, atom_leaf, named, group, counting, Definitions, text_end, defined, IsText, text, mode_word}
-use Rattle.spec_reader.specs.Machine.{Frame, Wrap, bare, over, wrapped, Outer, Before, Place, State, Start, Moded, Lines, Named, Want, Counts, Signed, Bounded, Have, Done, Failed, range_by, value, opened, with_one_more, begun, mode_read, closed, line_over, text_over, step, run}
+use Rattle.spec_reader.specs.Machine.{Frame, Wrap, bare, over, wrapped, Outer, LinesBefore, Place, ReaderState, Start, Moded, Lines, Named, Want, Counts, Signed, Bounded, Have, Done, Failed, range_by, value, opened, with_one_more, begun, mode_read, closed, line_over, text_over, step, run}
 
 -- what a frame becomes by what follows
 record Follows (ps us : List Term) (ts : List Token) (qs : List Term) (rest : List Token) : Type 0 where
@@ -19,7 +19,7 @@ record Follows (ps us : List Term) (ts : List Token) (qs : List Term) (rest : Li
   whole : qs ≡ ps ++ product_of (us ++ xs) ∷ ys
 
 -- the lines to come complete a text of these definitions
-record Lined (b : Before) (ts : List Token) (m : Mode) (ds : List Definition) : Type 0 where
+record Lined (b : LinesBefore) (ts : List Token) (m : Mode) (ds : List Definition) : Type 0 where
   further : List Definition
   reads : Definitions ts further
   mode_is : b.mode ≡ m
@@ -29,11 +29,11 @@ record Lined (b : Before) (ts : List Token) (m : Mode) (ds : List Definition) : 
   some : ds ≡ first ∷ others
 
 -- the definitions before and one more
-abbrev with_definition : Before → List ℕ → List Term → Before
+abbrev with_definition : LinesBefore → List ℕ → List Term → LinesBefore
 with_definition b w qs = record { mode = b.mode; definitions = b.definitions ++ record { name = w; body = sum_of qs } ∷ [] }
 
 -- the frames around a sum of these products are completed by the rest
-abbrev Around : Before → List ℕ → List Outer → List Term → List Token → Mode → List Definition → Type 0
+abbrev Around : LinesBefore → List ℕ → List Outer → List Term → List Token → Mode → List Definition → Type 0
 Around b w [] qs rest m ds = (later : List Token) × (rest ≡ Token.LineEnd ∷ later) × Lined (with_definition b w qs) later m ds
 Around b w (o ∷ os) qs rest m ds = (later : List Token) × (rest ≡ Token.Close ∷ later) × (rs : List Term) × (last : List Token) × Follows o.frame.products (o.frame.factors ++ wrapped o.wrap (sum_of qs) ∷ []) later rs last × Around b w os rs last m ds
 
@@ -56,7 +56,7 @@ record Bounds (p : Place) (c : Counting) (ts : List Token) (m : Mode) (ds : List
   wants : Wants (opened p (over c range)) inner m ds
 
 -- the tokens complete what a state has read to a text of these definitions
-abbrev Completes : State → List Token → Mode → List Definition → Type 0
+abbrev Completes : ReaderState → List Token → Mode → List Definition → Type 0
 Completes Start ts m ds = IsText ts m ds
 Completes (Moded k) ts m ds = (later : List Token) × (ts ≡ Token.LineEnd ∷ later) × Lined (record { mode = k; definitions = [] }) later m ds
 Completes (Lines b) ts m ds = Lined b ts m ds
@@ -89,13 +89,13 @@ grouped p w ts m ds h =
     }
 
 -- a definition's sum up to the end of its line, and the lines that follow
-record Ended (b : Before) (w : List ℕ) (ts : List Token) (m : Mode) (ds : List Definition) : Type 0 where
+record Ended (b : LinesBefore) (w : List ℕ) (ts : List Token) (m : Mode) (ds : List Definition) : Type 0 where
   qs : List Term
   mid : List Token
   reads : Sum ts qs (Token.LineEnd ∷ mid)
   lined : Lined (with_definition b w qs) mid m ds
 
-ended : (b : Before) (w : List ℕ) (ts : List Token) (m : Mode) (ds : List Definition) → Wants (begun b w) ts m ds → Ended b w ts m ds
+ended : (b : LinesBefore) (w : List ℕ) (ts : List Token) (m : Mode) (ds : List Definition) → Wants (begun b w) ts m ds → Ended b w ts m ds
 ended b w ts m ds h =
     let f = h.has.follows in
     let a = h.has.around in
@@ -135,7 +135,7 @@ by_tests false false w ts m ds f g h = elim h [ ]
 back_mode : (w : List ℕ) (ts : List Token) (m : Mode) (ds : List Definition) → Completes (mode_read w) ts m ds → IsText (Token.Name w ∷ ts) m ds
 back_mode w ts m ds h = by_tests (is_same w (codes "unlabelled")) (is_same w (codes "labelled")) w ts m ds (same_text w (codes "unlabelled")) (same_text w (codes "labelled")) h
 
-back : (s : State) (k : Token) (ts : List Token) (m : Mode) (ds : List Definition) → Completes (step s k) ts m ds → Completes s (k ∷ ts) m ds
+back : (s : ReaderState) (k : Token) (ts : List Token) (m : Mode) (ds : List Definition) → Completes (step s k) ts m ds → Completes s (k ∷ ts) m ds
 back Start (Token.Name w) ts m ds h = back_mode w ts m ds h
 back (Moded k) Token.LineEnd ts m ds h = (ts, refl, h)
 back (Lines b) (Token.Name w) ts m ds h =
@@ -151,16 +151,16 @@ back (Lines b) (Token.Name w) ts m ds h =
     }
 back (Lines b) Token.TextEnd ts m ds h = text_ends b b.definitions refl ts m ds h
   where
-    text_ends : (b : Before) (es : List Definition) → es ≡ b.definitions → (ts : List Token) (m : Mode) (ds : List Definition) → Completes (text_over b es) ts m ds → Lined b (Token.TextEnd ∷ ts) m ds
+    text_ends : (b : LinesBefore) (es : List Definition) → es ≡ b.definitions → (ts : List Token) (m : Mode) (ds : List Definition) → Completes (text_over b es) ts m ds → Lined b (Token.TextEnd ∷ ts) m ds
     text_ends b [] e ts m ds h = elim h [ ]
     text_ends b (d ∷ es) e ts m ds h = record {
       further = [];
       reads = subst (λ rs. Definitions (Token.TextEnd ∷ rs) []) (sym h.0) text_end;
-      mode_is = ap (λ (c : Before). c.mode) h.1;
-      whole = append-nil b.definitions ∙ ap (λ (c : Before). c.definitions) h.1;
+      mode_is = ap (λ (c : LinesBefore). c.mode) h.1;
+      whole = append-nil b.definitions ∙ ap (λ (c : LinesBefore). c.definitions) h.1;
       first = d;
       others = es;
-      some = sym (ap (λ (c : Before). c.definitions) h.1) ∙ sym e;
+      some = sym (ap (λ (c : LinesBefore). c.definitions) h.1) ∙ sym e;
     }
 back (Named b w) Token.Exactly ts m ds h = (ts, refl, h)
 back (Want p) (Token.Empty w) ts m ds h = record { x = Term.empty w; next = ts; factor = empty_leaf; has = h }
@@ -241,7 +241,7 @@ back (Have p) Token.LineEnd ts m ds h = ends p p.outers ts m ds h
     ends p (o ∷ os) ts m ds h = elim h [ ]
 back _ _ ts m ds h = elim h [ ]
 
-sound : (s : State) (ts : List Token) (m : Mode) (ds : List Definition) → run s ts ≡ Done (record { mode = m; definitions = ds }) → Completes s ts m ds
+sound : (s : ReaderState) (ts : List Token) (m : Mode) (ds : List Definition) → run s ts ≡ Done (record { mode = m; definitions = ds }) → Completes s ts m ds
 sound (Done b) [] m ds e = (refl, cc)
 sound s [] m ds e = absurd (cc)
 sound s (k ∷ ts) m ds e = back s k ts m ds (sound (step s k) ts m ds e)

@@ -4,16 +4,16 @@ use Rattle.bz_model.specs.Spec.{Mode, Range}
 use Rattle.spec_reader.specs.declared.tokens.Counting.{Counting}
 use Rattle.spec_reader.specs.declared.tokens.Token.{Token}
 use Rattle.spec_reader.specs.Grammar.{Term, Definition, sum_of, product_of, counted, Bound, no_bound, at_least, at_most, exactly, Sum, MoreProducts, Product, MoreFactors, Factor, summed, no_products, next_product, multiplied, no_factors, next_factor, empty_leaf, atom_leaf, named, group, counting, Definitions, text_end, defined, IsText, text, mode_word}
-use Rattle.spec_reader.specs.Machine.{Frame, bare, over, Before, Place, State, Start, Moded, Lines, Want, Counts, Have, Done, value, fresh, opened, with_frame, with_one_more, begun, run}
+use Rattle.spec_reader.specs.Machine.{Frame, bare, over, LinesBefore, Place, ReaderState, Start, Moded, Lines, Want, Counts, Have, Done, value, fresh, opened, with_frame, with_one_more, begun, run}
 
 abbrev pub frame : List Term → List Term → Frame
 frame ps us = record { products = ps; factors = us }
 
-abbrev at : Place → List Term → List Term → State
+abbrev at : Place → List Term → List Term → ReaderState
 at p ps us = Have (with_frame p (frame ps us))
 
 -- from a state the machine comes to a frame of this value, with these tokens left
-record Reaches (s : State) (ts : List Token) (p : Place) (ps : List Term) (rest : List Token) : Type 0 where
+record Reaches (s : ReaderState) (ts : List Token) (p : Place) (ps : List Term) (rest : List Token) : Type 0 where
   frame_read : Frame
   value_is : value frame_read ≡ ps
   comes : run s ts ≡ run (Have (with_frame p frame_read)) rest
@@ -57,13 +57,13 @@ mutual
       record { frame_read = r.frame_read; value_is = r.value_is; comes = product_run x p [] ∙ r.comes }
 
 -- the lines before, with these definitions more
-abbrev pub also : Before → List Definition → Before
+abbrev pub also : LinesBefore → List Definition → LinesBefore
 also b ds = record { mode = b.mode; definitions = b.definitions ++ ds }
 
-definitions_run : {ts : List Token} {ds : List Definition} → Definitions ts ds → (b : Before) (d : Definition) → run (Lines (also b (d ∷ []))) ts ≡ Done (also b (d ∷ ds))
+definitions_run : {ts : List Token} {ds : List Definition} → Definitions ts ds → (b : LinesBefore) (d : Definition) → run (Lines (also b (d ∷ []))) ts ≡ Done (also b (d ∷ ds))
 definitions_run text_end b d = over_more b.definitions b d
   where
-    over_more : (ds : List Definition) (b : Before) (d : Definition) → run (Lines (record { mode = b.mode; definitions = ds ++ d ∷ [] })) (Token.TextEnd ∷ []) ≡ Done (record { mode = b.mode; definitions = ds ++ d ∷ [] })
+    over_more : (ds : List Definition) (b : LinesBefore) (d : Definition) → run (Lines (record { mode = b.mode; definitions = ds ++ d ∷ [] })) (Token.TextEnd ∷ []) ≡ Done (record { mode = b.mode; definitions = ds ++ d ∷ [] })
     over_more [] b d = refl
     over_more (e ∷ ds) b d = refl
 definitions_run (defined {rest = rest} {w = w} {ps = ps} {ds = ds} s more) b d =
@@ -77,7 +77,7 @@ definitions_run (defined {rest = rest} {w = w} {ps = ps} {ds = ds} s more) b d =
 -- definitions.
 pub reads : {ts : List Token} {m : Mode} {ds : List Definition} → IsText ts m ds → run Start ts ≡ Done (record { mode = m; definitions = ds })
 reads (text {m = m} (defined {ts = ts} {rest = rest} {w = w} {ps = ps} {ds = ds} s more)) =
-    let none : Before = record { mode = m; definitions = [] } in
+    let none : LinesBefore = record { mode = m; definitions = [] } in
     let r = sum_run s (begun none w) in
     moded m (Token.LineEnd ∷ Token.Name w ∷ Token.Exactly ∷ ts) ∙ r.comes ∙ ap (λ qs. run (Lines (also none (record { name = w; body = sum_of qs } ∷ []))) rest) r.value_is
     ∙ definitions_run more none (record { name = w; body = sum_of ps })

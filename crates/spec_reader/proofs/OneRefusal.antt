@@ -9,7 +9,7 @@ use Rattle.spec_reader.specs.declared.tokens.Placed.{Placed}
 use Rattle.spec_reader.specs.declared.fault.SpecFault.{SpecFault}
 use Rattle.spec_reader.specs.Tokens.{tokens_of}
 use Rattle.spec_reader.specs.Grammar.{IsText, Begins}
-use Rattle.spec_reader.specs.Machine.{Before}
+use Rattle.spec_reader.specs.Machine.{LinesBefore}
 use Rattle.spec_reader.specs.Tables.{names_of}
 use Rattle.spec_reader.specs.Faults.{first_fault}
 use Rattle.spec_reader.specs.Bytes.{is_text}
@@ -51,7 +51,7 @@ one_misplaced ts line column line' column' a b =
 one_fault : (ts : List Placed) (f g : SpecFault) → HasFault ts f → HasFault ts g → f ≡ g
 one_fault ts f g a b =
     let same = same_read (plain_tokens ts) a.mode b.mode a.definitions b.definitions a.is_text b.is_text in
-    let first : first_fault b.mode (names_of b.definitions) [] true (drop 2 ts) ≡ Some f = subst (λ (q : Before). first_fault q.mode (names_of q.definitions) [] true (drop 2 ts) ≡ Some f) same a.first in
+    let first : first_fault b.mode (names_of b.definitions) [] true (drop 2 ts) ≡ Some f = subst (λ (q : LinesBefore). first_fault q.mode (names_of q.definitions) [] true (drop 2 ts) ≡ Some f) same a.first in
     let both : Some f ≡ Some g = sym first ∙ b.first in
     cc
 

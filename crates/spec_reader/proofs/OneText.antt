@@ -13,20 +13,20 @@ use Rattle.spec_reader.specs.declared.fault.SpecFault.{SpecFault}
 use Rattle.spec_reader.specs.Bytes.{is_text}
 use Rattle.spec_reader.specs.Tokens.{tokens_of}
 use Rattle.spec_reader.specs.Grammar.{Definition, IsText}
-use Rattle.spec_reader.specs.Machine.{Done, Before}
+use Rattle.spec_reader.specs.Machine.{Done, LinesBefore}
 use Rattle.spec_reader.specs.Tables.{tables, names_of}
 use Rattle.spec_reader.specs.Faults.{first_fault}
 use Rattle.spec_reader.specs.Reading.{plain_tokens, StandFor, Grammar, IsMisplaced, HasFault, BreaksLimit, Refuses}
 use Rattle.spec_reader.proofs.MachineReads.{reads}
 
 -- Tokens are a text with one mode and one list of definitions only.
-pub same_read : (us : List Token) (m n : Mode) (ds es : List Definition) → IsText us m ds → IsText us n es → ◌≡◌ {A = Before} (record { mode = m; definitions = ds }) (record { mode = n; definitions = es })
+pub same_read : (us : List Token) (m n : Mode) (ds es : List Definition) → IsText us m ds → IsText us n es → ◌≡◌ {A = LinesBefore} (record { mode = m; definitions = ds }) (record { mode = n; definitions = es })
 same_read us m n ds es a b =
     let both : Done (record { mode = m; definitions = ds }) ≡ Done (record { mode = n; definitions = es }) = sym (reads a) ∙ reads b in
     cc
 
 stands_for_one : (ts : List Placed) (s t : Spec) → StandFor ts s → StandFor ts t → s ≡ t
-stands_for_one ts s t a b = a.tables_are ∙ ap (λ (q : Before). tables q.mode q.definitions) (same_read (plain_tokens ts) a.mode b.mode a.definitions b.definitions a.is_text b.is_text) ∙ sym b.tables_are
+stands_for_one ts s t a b = a.tables_are ∙ ap (λ (q : LinesBefore). tables q.mode q.definitions) (same_read (plain_tokens ts) a.mode b.mode a.definitions b.definitions a.is_text b.is_text) ∙ sym b.tables_are
 
 -- A text stands for at most one specification.
 pub one_specification : (bytes : List ℕ) (s t : Spec) → Grammar bytes s → Grammar bytes t → s ≡ t
@@ -65,7 +65,7 @@ not_misplaced ts s line column f m = text_not_misplaced ts f.mode f.definitions 
 pub not_faulty : (ts : List Placed) (s : Spec) (fault : SpecFault) → StandFor ts s → ¬ (HasFault ts fault)
 not_faulty ts s fault f h =
     let same = same_read (plain_tokens ts) f.mode h.mode f.definitions h.definitions f.is_text h.is_text in
-    let none : first_fault h.mode (names_of h.definitions) [] true (drop 2 ts) ≡ None = subst (λ (q : Before). first_fault q.mode (names_of q.definitions) [] true (drop 2 ts) ≡ None) same f.no_fault in
+    let none : first_fault h.mode (names_of h.definitions) [] true (drop 2 ts) ≡ None = subst (λ (q : LinesBefore). first_fault q.mode (names_of q.definitions) [] true (drop 2 ts) ≡ None) same f.no_fault in
     let both : Some fault ≡ None = sym h.first ∙ none in
     absurd (cc)
 

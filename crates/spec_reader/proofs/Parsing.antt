@@ -6,11 +6,11 @@ use Rattle.spec_reader.specs.declared.tokens.Token.{Token}
 use Rattle.spec_reader.specs.declared.tokens.Placed.{Placed}
 use Rattle.spec_reader.specs.declared.sums.Expects.{Expects}
 use Rattle.spec_reader.specs.Grammar.{Term, Definition, IsText, text, Definitions, text_end, defined, Sum, MoreProducts, Product, MoreFactors, Factor, summed, no_products, next_product, multiplied, no_factors, next_factor, empty_leaf, atom_leaf, named, group, counting, Bound, no_bound, at_least, at_most, exactly}
-use Rattle.spec_reader.specs.Machine.{State, Start, Lines, Named, Want, Counts, Signed, Bounded, Have, Done, Failed, Moded, Before, text_over, step, run}
+use Rattle.spec_reader.specs.Machine.{ReaderState, Start, Lines, Named, Want, Counts, Signed, Bounded, Have, Done, Failed, Moded, LinesBefore, text_over, step, run}
 use Rattle.spec_reader.specs.Tables.{names_of}
 use Rattle.spec_reader.specs.Reading.{plain_tokens, IsMisplaced}
 use Rattle.spec_reader.specs.Faults.{line_names, with_names, ends_line, defined_by, is_among}
-use Rattle.spec_reader.specs.Building.{Kept, Represents, Rests, FailsAt, IsEnded, IsParsed, IsNamed}
+use Rattle.spec_reader.specs.Building.{KeptSoFar, Represents, RestsOn, BreaksAt, EndsText, IsParsed, IsNamed}
 use Rattle.spec_reader.proofs.Taking.{represented}
 use Rattle.spec_reader.proofs.Viable.{may_go_on, must_stop, run-append}
 use Rattle.spec_reader.proofs.Numbering.{map-snoc, length-mapped}
@@ -32,7 +32,7 @@ split_at (u ∷ ts) (suc i) t h e =
     ap (λ us. u ∷ us) (split_at ts i t lt e) ∙ ap (λ n. u ∷ take i ts ++ t ∷ drop n (u ∷ ts)) next
 
 -- the first token that fails the machine is the first that can't stand
-pub misplaced : (ts : List Placed) (i : ℕ) (t : Placed) → FailsAt Start ts i → t ≡ get_or ts i t → IsMisplaced ts t.line t.column
+pub misplaced : (ts : List Placed) (i : ℕ) (t : Placed) → BreaksAt Start ts i → t ≡ get_or ts i t → IsMisplaced ts t.line t.column
 misplaced ts i t f e = record {
   token = t;
   before = take i ts;
@@ -45,7 +45,7 @@ misplaced ts i t f e = record {
 }
 
 -- behind the first two tokens
-pub skip_two : (ts rest : List Placed) (s : State) (i : ℕ) → 2 ≤ length ts → run Start (plain_tokens (take 2 ts)) ≡ s → rest ≡ drop 2 ts → FailsAt s rest i → FailsAt Start ts (i + 2)
+pub skip_two : (ts rest : List Placed) (s : ReaderState) (i : ℕ) → 2 ≤ length ts → run Start (plain_tokens (take 2 ts)) ≡ s → rest ≡ drop 2 ts → BreaksAt s rest i → BreaksAt Start ts (i + 2)
 skip_two [] rest s i h e r f = absurd (omega arith)
 skip_two (a ∷ []) rest s i h e r f = absurd (omega arith)
 skip_two (a ∷ b ∷ ts) rest s i h e r f =
@@ -60,12 +60,12 @@ skip_two (a ∷ b ∷ ts) rest s i h e r f =
     }
 
 -- the end of the text ends the machine, or fails it
-ended_or_failed : (s : State) → (step s Token.TextEnd ≡ Failed) ⊎ ((b : Before) × (step s Token.TextEnd ≡ Done b))
+ended_or_failed : (s : ReaderState) → (step s Token.TextEnd ≡ Failed) ⊎ ((b : LinesBefore) × (step s Token.TextEnd ≡ Done b))
 ended_or_failed Start = inl refl
 ended_or_failed (Moded m) = inl refl
 ended_or_failed (Lines b) = over_or_failed b b.definitions
   where
-    over_or_failed : (b : Before) (ds : List Definition) → (text_over b ds ≡ Failed) ⊎ ((c : Before) × (text_over b ds ≡ Done c))
+    over_or_failed : (b : LinesBefore) (ds : List Definition) → (text_over b ds ≡ Failed) ⊎ ((c : LinesBefore) × (text_over b ds ≡ Done c))
     over_or_failed b [] = inl refl
     over_or_failed b (d ∷ ds) = inr (b, refl)
 ended_or_failed (Named b w) = inl refl
@@ -78,15 +78,15 @@ ended_or_failed (Done b) = inl refl
 ended_or_failed Failed = inl refl
 
 -- behind the end of the text no line begins
-no_lines : (s : State) (b : Before) → ¬ (step s Token.TextEnd ≡ Lines b)
+no_lines : (s : ReaderState) (b : LinesBefore) → ¬ (step s Token.TextEnd ≡ Lines b)
 no_lines s b e = elim (ended_or_failed s) [ inl f ↦ absurd (cc f) | inr d ↦ (let h : Lines b ≡ Done d.0 = sym e ∙ d.1 in absurd (cc)) ]
 
 -- Where tokens end with the end of the text and the first two bring the machine to whole lines,
 -- those behind the two end so too.
-pub ended_rest : (ts rest : List Placed) (b : Before) → IsEnded ts → 2 ≤ length ts → run Start (plain_tokens (take 2 ts)) ≡ Lines b → rest ≡ drop 2 ts → IsEnded rest
+pub ended_rest : (ts rest : List Placed) (b : LinesBefore) → EndsText ts → 2 ≤ length ts → run Start (plain_tokens (take 2 ts)) ≡ Lines b → rest ≡ drop 2 ts → EndsText rest
 ended_rest ts rest b ended h e r = by_front ts rest b ended.front ended.last ended.is ended.ends h e r
   where
-    by_front : (ts rest : List Placed) (b : Before) (front : List Placed) (last : Placed) → ts ≡ front ++ last ∷ [] → last.token ≡ Token.TextEnd → 2 ≤ length ts → run Start (plain_tokens (take 2 ts)) ≡ Lines b → rest ≡ drop 2 ts → IsEnded rest
+    by_front : (ts rest : List Placed) (b : LinesBefore) (front : List Placed) (last : Placed) → ts ≡ front ++ last ∷ [] → last.token ≡ Token.TextEnd → 2 ≤ length ts → run Start (plain_tokens (take 2 ts)) ≡ Lines b → rest ≡ drop 2 ts → EndsText rest
     by_front ts rest b [] last is ends h e r = let long : 2 ≤ length (last ∷ []) = subst (λ us. 2 ≤ length us) is h in absurd (omega arith)
     by_front ts rest b (a ∷ []) last is ends h e r =
         let e2 : run Start (plain_tokens (a ∷ last ∷ [])) ≡ Lines b = subst (λ us. run Start (plain_tokens (take 2 us)) ≡ Lines b) is e in
@@ -95,7 +95,7 @@ ended_rest ts rest b ended h e r = by_front ts rest b ended.front ended.last end
     by_front ts rest b (a ∷ c ∷ front) last is ends h e r = record { front = front; last = last; is = r ∙ ap (λ us. drop 2 us) is; ends = ends }
 
 -- what is represented at the end of the text
-done_rests : (names : List (List ℕ)) (s : State) (b : Before) (e : Expects) (k : Kept) → Represents names s e k → s ≡ Done b → Rests names b k
+done_rests : (names : List (List ℕ)) (s : ReaderState) (b : LinesBefore) (e : Expects) (k : KeptSoFar) → Represents names s e k → s ≡ Done b → RestsOn names b k
 done_rests names s b Expects.Line k r f = let h : Lines r.0 ≡ Done b = sym r.1 ∙ f in absurd (cc)
 done_rests names s b Expects.Equals k r f = let h : Named r.0 r.1 ≡ Done b = sym r.2 ∙ f in absurd (cc)
 done_rests names s b Expects.Factor k r f = let h : Want r.0 ≡ Done b = sym r.1 ∙ f in absurd (cc)
@@ -106,12 +106,12 @@ done_rests names s b Expects.Joint k r f = let h : Have r.0 ≡ Done b = sym r.1
 done_rests names s b Expects.Nothing k r f =
     let same : Done r.0 ≡ Done b = sym r.1 ∙ f in
     let before : r.0 ≡ b = cc in
-    subst (λ c. Rests names c k) before r.2
+    subst (λ c. RestsOn names c k) before r.2
 
 -- the end of lines that were read
-pub parsed : (m : Mode) (lines : List Placed) (names : List (List ℕ)) (e : Expects) (k : Kept) → IsEnded lines → names ≡ with_names [] (line_names true (plain_tokens lines)) → Represents names (run (Lines (record { mode = m; definitions = [] })) (plain_tokens lines)) e k → IsParsed m lines k.draft
+pub parsed : (m : Mode) (lines : List Placed) (names : List (List ℕ)) (e : Expects) (k : KeptSoFar) → EndsText lines → names ≡ with_names [] (line_names true (plain_tokens lines)) → Represents names (run (Lines (record { mode = m; definitions = [] })) (plain_tokens lines)) e k → IsParsed m lines k.draft
 parsed m lines names e k ended names_are r =
-    let from : State = Lines (record { mode = m; definitions = [] }) in
+    let from : ReaderState = Lines (record { mode = m; definitions = [] }) in
     let at_end : run from (plain_tokens lines) ≡ step (run from (plain_tokens ended.front)) Token.TextEnd = ap (λ us. run from (plain_tokens us)) ended.is ∙ ap (λ us. run from us) (map-snoc (λ (t : Placed). t.token) ended.front ended.last) ∙ run-append from (plain_tokens ended.front) (ended.last.token ∷ []) ∙ ap (λ t. step (run from (plain_tokens ended.front)) t) ended.ends in
     elim (ended_or_failed (run from (plain_tokens ended.front))) [
       | inl f ↦ absurd (represented names (run from (plain_tokens lines)) e k r (at_end ∙ f))
@@ -119,7 +119,7 @@ parsed m lines names e k ended names_are r =
     ]
 
 -- what is kept as lines begin
-pub begins_so : (m : Mode) (lines : List Placed) (k : Kept) → IsNamed m lines k.draft → k.products ≡ [] → k.factors ≡ [] → k.outers ≡ [] → Represents (with_names [] (line_names true (plain_tokens lines))) (Lines (record { mode = m; definitions = [] })) Expects.Line k
+pub begins_so : (m : Mode) (lines : List Placed) (k : KeptSoFar) → IsNamed m lines k.draft → k.products ≡ [] → k.factors ≡ [] → k.outers ≡ [] → Represents (with_names [] (line_names true (plain_tokens lines))) (Lines (record { mode = m; definitions = [] })) Expects.Line k
 begins_so m lines k n ps fs os = (record { mode = m; definitions = [] }, refl, record { draft_is = n; no_products = ps; no_factors = fs; no_outers = os })
 
 -- the names of the lines behind a phrase are those behind it alone
@@ -161,7 +161,7 @@ pub text_names : {ts : List Token} {m : Mode} {ds : List Definition} → IsText 
 text_names (text more) = definitions_names more
 
 -- a whole text was read
-pub whole_read : (ts lines : List Placed) (s : State) (b : Before) → 2 ≤ length ts → run Start (plain_tokens (take 2 ts)) ≡ s → lines ≡ drop 2 ts → run s (plain_tokens lines) ≡ Done b → run Start (plain_tokens ts) ≡ Done b
+pub whole_read : (ts lines : List Placed) (s : ReaderState) (b : LinesBefore) → 2 ≤ length ts → run Start (plain_tokens (take 2 ts)) ≡ s → lines ≡ drop 2 ts → run s (plain_tokens lines) ≡ Done b → run Start (plain_tokens ts) ≡ Done b
 whole_read [] lines s b h e r d = absurd (omega arith)
 whole_read (t ∷ []) lines s b h e r d = absurd (omega arith)
 whole_read (t ∷ u ∷ ts) lines s b h e r d = ap (λ q. run q (plain_tokens ts)) e ∙ ap (λ us. run s (plain_tokens us)) (sym r) ∙ d

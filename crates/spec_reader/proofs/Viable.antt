@@ -3,13 +3,13 @@ use Rattle.std.proofs.Common.{◌≡◌, ◌≢◌, ℕ, List, [], ◌∷◌, �
 use Rattle.bz_model.specs.Spec.{Mode}
 use Rattle.spec_reader.specs.declared.tokens.Token.{Token}
 use Rattle.spec_reader.specs.Grammar.{Term, Definition, Begins, sum_of, plain}
-use Rattle.spec_reader.specs.Machine.{Frame, over, wrapped, Outer, Before, Place, State, Start, Moded, Lines, Named, Want, Counts, Signed, Bounded, Have, Done, Failed, with_factor, value, with_one_more, opened, begun, range_by, step, run}
+use Rattle.spec_reader.specs.Machine.{Frame, over, wrapped, Outer, LinesBefore, Place, ReaderState, Start, Moded, Lines, Named, Want, Counts, Signed, Bounded, Have, Done, Failed, with_factor, value, with_one_more, opened, begun, range_by, step, run}
 use Rattle.spec_reader.proofs.MachineReads.{reads}
 use Rattle.spec_reader.proofs.MachineAccepts.{accepts}
 
 -- From a state the machine reads tokens ts followed by us as it reads ts, and then us from where it
 -- has come.
-pub run-append : (s : State) (ts us : List Token) → run s (ts ++ us) ≡ run (run s ts) us
+pub run-append : (s : ReaderState) (ts us : List Token) → run s (ts ++ us) ≡ run (run s ts) us
 run-append s [] us = refl
 run-append s (t ∷ ts) us = run-append (step s t) ts us
 
@@ -24,7 +24,7 @@ closing [] = Token.LineEnd ∷ Token.TextEnd ∷ []
 closing (o ∷ os) = Token.Close ∷ closing os
 
 -- the tokens that end a text from a state
-abbrev ending : State → List Token
+abbrev ending : ReaderState → List Token
 ending Start = Token.Name (codes "unlabelled") ∷ Token.LineEnd ∷ Token.Name (codes "A") ∷ Token.Exactly ∷ Token.Atom [] ∷ closing []
 ending (Moded m) = Token.LineEnd ∷ Token.Name (codes "A") ∷ Token.Exactly ∷ Token.Atom [] ∷ closing []
 ending (Lines b) = Token.Name (codes "A") ∷ Token.Exactly ∷ Token.Atom [] ∷ closing []
@@ -37,22 +37,22 @@ ending (Have p) = closing p.outers
 ending (Done b) = []
 ending Failed = []
 
-record IsDone (s : State) : Type 0 where
-  before : Before
+record IsDone (s : ReaderState) : Type 0 where
+  before : LinesBefore
   is : s ≡ Done before
 
 text_ends : (m : Mode) (ds : List Definition) (d : Definition) → IsDone (run (Lines (record { mode = m; definitions = ds ++ d ∷ [] })) (Token.TextEnd ∷ []))
 text_ends m [] d = record { before = record { mode = m; definitions = d ∷ [] }; is = refl }
 text_ends m (e ∷ ds) d = record { before = record { mode = m; definitions = e ∷ ds ++ d ∷ [] }; is = refl }
 
-closes : (b : Before) (w : List ℕ) (f : Frame) (os : List Outer) → IsDone (run (Have (record { before = b; name = w; frame = f; outers = os })) (closing os))
+closes : (b : LinesBefore) (w : List ℕ) (f : Frame) (os : List Outer) → IsDone (run (Have (record { before = b; name = w; frame = f; outers = os })) (closing os))
 closes b w f [] = text_ends b.mode b.definitions (record { name = w; body = sum_of (value f) })
 closes b w f (o ∷ os) = closes b w (with_factor o.frame (wrapped o.wrap (sum_of (value f)))) os
 
 closes_at : (p : Place) → IsDone (run (Have p) (closing p.outers))
 closes_at p = closes p.before p.name p.frame p.outers
 
-ends : (s : State) → s ≢ Failed → IsDone (run s (ending s))
+ends : (s : ReaderState) → s ≢ Failed → IsDone (run s (ending s))
 ends Start h = record { before = _; is = refl }
 ends (Moded m) h = record { before = _; is = refl }
 ends (Lines b) h = closes_at (with_one_more (begun b (codes "A")) (Term.atom []))

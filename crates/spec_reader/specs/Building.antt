@@ -14,7 +14,8 @@ use Rattle.spec_reader.specs.declared.tokens.Placed.{Placed}
 use Rattle.spec_reader.specs.Reading.{plain_tokens}
 use Rattle.spec_reader.specs.Faults.{with_names, line_names}
 use Rattle.spec_reader.specs.Grammar.{Term, terms}
-use Rattle.spec_reader.specs.Machine.{Frame, Wrap, bare, over, Outer, Before, Place, State, Start}
+use Rattle.spec_reader.specs.Machine.{Frame, Wrap, bare, over, Outer, LinesBefore, Place}
+use Rattle.spec_reader.specs.Machine.{ReaderState, Start}
 use Rattle.spec_reader.specs.Machine.{Lines, Named, Want, Counts, Signed, Bounded, Have, Done}
 use Rattle.spec_reader.specs.Machine.{Failed, run}
 use Rattle.spec_reader.specs.Tables.{Row, with_terms, numbers, bodies_of, class_number}
@@ -28,7 +29,7 @@ pub record KeptOuter : Type 0 where
 
 -- What is kept: the tables so far, the numbers of the products and factors that were read of the
 -- sum, and the same of the sums around it, the outermost first.
-pub record Kept : Type 0 where
+pub record KeptSoFar : Type 0 where
   pub draft : Spec
   pub products : List ℕ
   pub factors : List ℕ
@@ -49,7 +50,7 @@ outer_kept o = record {
 }
 
 -- What the code keeps.
-abbrev pub kept : code_sums.Sums → Kept
+abbrev pub kept : code_sums.Sums → KeptSoFar
 kept s = record {
   draft = s.draft;
   products = map number s.frame.products;
@@ -63,7 +64,7 @@ abbrev pub with_list : List (List ℕ) → List Row → List Term → List Row
 with_list names rows ts = with_terms names rows (terms ts)
 
 -- The nodes of whole lines.
-abbrev pub line_rows : List (List ℕ) → Before → List Row
+abbrev pub line_rows : List (List ℕ) → LinesBefore → List Row
 line_rows names b = with_terms names [] (bodies_of b.definitions)
 
 -- The nodes of a frame, behind others.
@@ -71,7 +72,7 @@ abbrev pub frame_rows : List (List ℕ) → List Row → Frame → List Row
 frame_rows names rows f = with_list names (with_list names rows f.products) f.factors
 
 -- The nodes of whole lines and of the sums around.
-abbrev pub around_rows : List (List ℕ) → Before → List Outer → List Row
+abbrev pub around_rows : List (List ℕ) → LinesBefore → List Outer → List Row
 around_rows names b [] = line_rows names b
 around_rows names b (o ∷ os) = frame_rows names (around_rows names b os) o.frame
 
@@ -80,7 +81,7 @@ abbrev pub rows_at : List (List ℕ) → Place → List Row
 rows_at names p = frame_rows names (around_rows names p.before p.outers) p.frame
 
 -- The tables of these rows, of which whole lines have bodies.
-abbrev pub drafted : List (List ℕ) → Before → List Row → Spec
+abbrev pub drafted : List (List ℕ) → LinesBefore → List Row → Spec
 drafted names b rows = record {
   mode = b.mode;
   names = names;
@@ -98,7 +99,7 @@ abbrev pub factor_numbers : List (List ℕ) → List Row → Frame → List ℕ
 factor_numbers names rows f = numbers names (with_list names rows f.products) (terms f.factors)
 
 -- What is kept of the sums around.
-abbrev pub stack_of : List (List ℕ) → Before → List Outer → List KeptOuter
+abbrev pub stack_of : List (List ℕ) → LinesBefore → List Outer → List KeptOuter
 stack_of names b [] = []
 stack_of names b (o ∷ os) = stack_of names b os
     ++ record {
@@ -109,7 +110,7 @@ stack_of names b (o ∷ os) = stack_of names b os
     } ∷ []
 
 -- What is kept is what was read up to a place.
-pub record Stands (names : List (List ℕ)) (p : Place) (k : Kept) : Type 0 where
+pub record Stands (names : List (List ℕ)) (p : Place) (k : KeptSoFar) : Type 0 where
   pub draft_is : k.draft ≡ drafted names p.before (rows_at names p)
   pub products_are : k.products ≡ product_numbers names (around_rows names p.before p.outers)
       p.frame
@@ -117,17 +118,17 @@ pub record Stands (names : List (List ℕ)) (p : Place) (k : Kept) : Type 0 wher
   pub outers_are : k.outers ≡ stack_of names p.before p.outers
 
 -- What is kept is what was read in whole lines.
-pub record Rests (names : List (List ℕ)) (b : Before) (k : Kept) : Type 0 where
+pub record RestsOn (names : List (List ℕ)) (b : LinesBefore) (k : KeptSoFar) : Type 0 where
   pub draft_is : k.draft ≡ drafted names b (line_rows names b)
   pub no_products : k.products ≡ []
   pub no_factors : k.factors ≡ []
   pub no_outers : k.outers ≡ []
 
 -- What the code expects and keeps is what a state of the machine has read.
-abbrev pub Represents : List (List ℕ) → State → Expects → Kept → Type 0
-Represents names s Expects.Line k = (b : Before) × (s ≡ Lines b) × Rests names b k
-Represents names s Expects.Equals k = (b : Before) × (w : List ℕ) × (s ≡ Named b w)
-    × Rests names b k
+abbrev pub Represents : List (List ℕ) → ReaderState → Expects → KeptSoFar → Type 0
+Represents names s Expects.Line k = (b : LinesBefore) × (s ≡ Lines b) × RestsOn names b k
+Represents names s Expects.Equals k = (b : LinesBefore) × (w : List ℕ) × (s ≡ Named b w)
+    × RestsOn names b k
 Represents names s Expects.Factor k = (p : Place) × (s ≡ Want p) × Stands names p k
 Represents names s (Expects.Count c) k = (p : Place) × (s ≡ Counts p c) × Stands names p k
 Represents names s (Expects.Number c sign) k = (p : Place) × (s ≡ Signed p c sign)
@@ -135,10 +136,10 @@ Represents names s (Expects.Number c sign) k = (p : Place) × (s ≡ Signed p c 
 Represents names s (Expects.Open c r) k = (p : Place) × (s ≡ Bounded p c (spec_range r))
     × Stands names p k
 Represents names s Expects.Joint k = (p : Place) × (s ≡ Have p) × Stands names p k
-Represents names s Expects.Nothing k = (b : Before) × (s ≡ Done b) × Rests names b k
+Represents names s Expects.Nothing k = (b : LinesBefore) × (s ≡ Done b) × RestsOn names b k
 
 -- A token that may stand leads to what the code expects and keeps; any other fails the machine.
-abbrev pub Leads : List (List ℕ) → State → Bool → Expects → Kept → Type 0
+abbrev pub Leads : List (List ℕ) → ReaderState → Bool → Expects → KeptSoFar → Type 0
 Leads names s true e k = Represents names s e k
 Leads names s false e k = s ≡ Failed
 
@@ -176,18 +177,19 @@ pub record EndsSum (before : Spec) (products factors : List ℕ) (now : Spec) (s
       ++ joined_number before factors ∷ [])
 
 -- The machine has not failed before the token at a place, and has failed behind it.
-pub record FailsAt (s : State) (ts : List Placed) (place : ℕ) : Type 0 where
+pub record BreaksAt (s : ReaderState) (ts : List Placed) (place : ℕ) : Type 0 where
   pub within : place < length ts
   pub goes_on : run s (plain_tokens (take place ts)) ≢ Failed
   pub fails : run s (plain_tokens (take (place + 1) ts)) ≡ Failed
 
 -- The machine goes through the tokens up to the first that fails it, or through all of them.
-abbrev pub StopsAt : List (List ℕ) → State → List Placed → Option ℕ → Expects → Kept → Type 0
+abbrev pub StopsAt : List (List ℕ) → ReaderState → List Placed → Option ℕ → Expects → KeptSoFar
+    → Type 0
 StopsAt names s ts None e k = Represents names (run s (plain_tokens ts)) e k
-StopsAt names s ts (Some place) e k = FailsAt s ts place
+StopsAt names s ts (Some place) e k = BreaksAt s ts place
 
 -- The last token is the end of the text.
-pub record IsEnded (ts : List Placed) : Type 0 where
+pub record EndsText (ts : List Placed) : Type 0 where
   pub front : List Placed
   pub last : Placed
   pub is : ts ≡ front ++ last ∷ []
@@ -197,7 +199,7 @@ pub record IsEnded (ts : List Placed) : Type 0 where
 pub record IsParsed (mode : Mode) (ts : List Placed) (draft : Spec) : Type 0 where
   pub names : List (List ℕ)
   pub names_are : names ≡ with_names [] (line_names true (plain_tokens ts))
-  pub before : Before
+  pub before : LinesBefore
   pub read : run (Lines (record { mode = mode; definitions = [] })) (plain_tokens ts) ≡ Done before
   pub draft_is : draft ≡ drafted names before (line_rows names before)
 
@@ -215,10 +217,11 @@ IsNamed mode ts draft =
 
 -- Why lines give no tables.
 abbrev pub IsStop : Mode → List Placed → Stop → Type 0
-IsStop mode ts (Stop.At place) = FailsAt (Lines (record { mode = mode; definitions = [] })) ts place
+IsStop mode ts (Stop.At place) = BreaksAt
+    (Lines (record { mode = mode; definitions = [] })) ts place
 IsStop mode ts Stop.OutOfMemory = Unit {0}
 
 -- Why a text gives no tables, where its lines begin behind two tokens.
 abbrev pub IsStopOf : List Placed → Stop → Type 0
-IsStopOf ts (Stop.At place) = FailsAt Start ts (place + 2)
+IsStopOf ts (Stop.At place) = BreaksAt Start ts (place + 2)
 IsStopOf ts Stop.OutOfMemory = Unit {0}

@@ -45,13 +45,13 @@ abbrev pub fresh : Frame
 fresh = record { products = []; factors = [] }
 
 -- The lines before the one that is read: the mode, and the definitions.
-pub record Before : Type 0 where
+pub record LinesBefore : Type 0 where
   pub mode : Mode
   pub definitions : List Definition
 
 -- The lines before and the sum that is read.
 pub record Place : Type 0 where
-  pub before : Before
+  pub before : LinesBefore
   pub name : List ℕ
   pub frame : Frame
   pub outers : List Outer
@@ -63,29 +63,29 @@ range_by c Sign.Most k = up_to c k
 range_by c Sign.Exact k = just k
 
 -- What was read, and so what may come next.
-pub data State : Type 0 where
+pub data ReaderState : Type 0 where
   -- nothing: the mode comes
-  Start : State
+  Start : ReaderState
   -- the mode: the end of its line comes
-  Moded : Mode → State
+  Moded : Mode → ReaderState
   -- whole lines: a definition comes, or the end of the text where there is a definition
-  Lines : Before → State
+  Lines : LinesBefore → ReaderState
   -- a name that is defined: an equals sign comes
-  Named : Before → List ℕ → State
+  Named : LinesBefore → List ℕ → ReaderState
   -- a part of a sum: a factor comes
-  Want : Place → State
+  Want : Place → ReaderState
   -- a counted node's word: a bound or a parenthesis comes
-  Counts : Place → Counting → State
+  Counts : Place → Counting → ReaderState
   -- a bound's sign: a number comes
-  Signed : Place → Counting → Sign → State
+  Signed : Place → Counting → Sign → ReaderState
   -- a bound: a parenthesis comes
-  Bounded : Place → Counting → Range → State
+  Bounded : Place → Counting → Range → ReaderState
   -- a factor: a sign, a closing parenthesis or the end of the line comes
-  Have : Place → State
+  Have : Place → ReaderState
   -- a whole text: nothing comes
-  Done : Before → State
+  Done : LinesBefore → ReaderState
   -- no text begins so
-  Failed : State
+  Failed : ReaderState
 
 -- The sum within a parenthesis is read.
 abbrev pub opened : Place → Wrap → Place
@@ -106,7 +106,7 @@ abbrev pub with_one_more : Place → Term → Place
 with_one_more p t = with_frame p (with_factor p.frame t)
 
 -- The parenthesis is closed; without an open one this can't come.
-abbrev pub closed : Place → List Outer → State
+abbrev pub closed : Place → List Outer → ReaderState
 closed p [] = Failed
 closed p (o ∷ os) =
     Have (record {
@@ -118,7 +118,7 @@ closed p (o ∷ os) =
     })
 
 -- The definition ends with its line; with an open parenthesis it can't.
-abbrev pub line_over : Place → List Outer → State
+abbrev pub line_over : Place → List Outer → ReaderState
 line_over p [] =
     Lines (record {
       mode = p.before.mode;
@@ -128,22 +128,22 @@ line_over p [] =
 line_over p (o ∷ os) = Failed
 
 -- The text may end after one definition or more.
-abbrev pub text_over : Before → List Definition → State
+abbrev pub text_over : LinesBefore → List Definition → ReaderState
 text_over b [] = Failed
 text_over b (d ∷ ds) = Done b
 
 -- The mode that a word names.
-abbrev pub mode_read : List ℕ → State
+abbrev pub mode_read : List ℕ → ReaderState
 mode_read w =
     if is_same w (codes "unlabelled") then Moded Mode.Unlabelled else if is_same w
     (codes "labelled") then Moded Mode.Labelled else Failed
 
 -- The place where a definition's sum begins.
-abbrev pub begun : Before → List ℕ → Place
+abbrev pub begun : LinesBefore → List ℕ → Place
 begun b w = record { before = b; name = w; frame = fresh; outers = [] }
 
 -- One token more.
-abbrev pub step : State → Token → State
+abbrev pub step : ReaderState → Token → ReaderState
 step Start (Token.Name w) = mode_read w
 step (Moded m) Token.LineEnd = Lines (record { mode = m; definitions = [] })
 step (Lines b) (Token.Name w) = Named b w
@@ -167,6 +167,6 @@ step (Have p) Token.LineEnd = line_over p p.outers
 step _ _ = Failed
 
 -- The tokens one after another.
-abbrev pub run : State → List Token → State
+abbrev pub run : ReaderState → List Token → ReaderState
 run s [] = s
 run s (t ∷ ts) = run (step s t) ts

@@ -2,10 +2,11 @@
 ghost use Rattle.std.specs.Prelude.{◌≡◌, ◌^◌, ◌<◌, ◌≤◌, ◌+◌, ◌*◌, ℕ, List, length, OnOk, IfOk};
 ghost use Rattle.class_system.specs.Views.{spec_range};
 ghost use Rattle.spec_reader.specs.Grammar.{plain, least_count};
-ghost use Rattle.spec_reader.specs.Machine.{Before, Place, State, Lines, Named, Want, Counts};
+ghost use Rattle.spec_reader.specs.Machine.{LinesBefore, Place, ReaderState, Lines, Named, Want};
+ghost use Rattle.spec_reader.specs.Machine.{Counts};
 ghost use Rattle.spec_reader.specs.Machine.{Signed, Bounded, Have, range_by, step};
 ghost use Rattle.spec_reader.specs.Tables.{class_number};
-ghost use Rattle.spec_reader.specs.Building.{kept, Stands, Rests, Represents, Leads, StopsAt};
+ghost use Rattle.spec_reader.specs.Building.{kept, Stands, RestsOn, Represents, Leads, StopsAt};
 
 use crate::sums::{Expects, Sums, Wrap};
 use crate::tokens::{Counting, Placed, Sign, Token};
@@ -78,7 +79,8 @@ impl Reader {
     /// A definition or the end of the text is expected.
     fn line(&mut self, token: &Token) -> bool
         requires { self.old.expects ≡ Expects.Line }
-        ensures read { (names : List (List ℕ)) (b : Before) → Rests names b (kept self.old.sums)
+        ensures read { (names : List (List ℕ)) (b : LinesBefore) → RestsOn names b
+            (kept self.old.sums)
             → Leads names (step (Lines b) token.now) result self.new.expects (kept self.new.sums) }
         ensures few { self.new.sums.draft ≡ self.old.sums.draft }
     {
@@ -93,8 +95,8 @@ impl Reader {
 
     /// An equals sign is expected.
     fn equals(&mut self, token: &Token) -> bool
-        ensures read { (names : List (List ℕ)) (b : Before) (w : List ℕ)
-            → Rests names b (kept self.old.sums)
+        ensures read { (names : List (List ℕ)) (b : LinesBefore) (w : List ℕ)
+            → RestsOn names b (kept self.old.sums)
             → Leads names (step (Named b w) token.now) result self.new.expects
             (kept self.new.sums) }
         ensures few { self.new.sums.draft ≡ self.old.sums.draft }
@@ -241,7 +243,7 @@ impl Reader {
     pub fn take(&mut self, alloc: Global, token: &Token) -> Result<bool, AllocError>
         requires few_nodes { length self.old.sums.draft.nodes + 2 < 2 ^ 32 }
         requires few_names { length self.old.sums.draft.names < 2 ^ 32 }
-        ensures read { IfOk result (λ stands. (names : List (List ℕ)) (s : State)
+        ensures read { IfOk result (λ stands. (names : List (List ℕ)) (s : ReaderState)
             → Represents names s self.old.expects (kept self.old.sums)
             → Leads names (step s token.now) stands self.new.expects (kept self.new.sums)) }
         ensures few { OnOk result
@@ -268,7 +270,7 @@ impl Reader {
     ) -> Result<Option<usize>, AllocError>
         requires few_nodes { length self.old.sums.draft.nodes + 3 * length tokens.now < 2 ^ 32 }
         requires few_names { length self.old.sums.draft.names < 2 ^ 32 }
-        ensures read { IfOk result (λ stop. (names : List (List ℕ)) (s : State)
+        ensures read { IfOk result (λ stop. (names : List (List ℕ)) (s : ReaderState)
             → Represents names s self.old.expects (kept self.old.sums)
             → StopsAt names s tokens.now stop self.new.expects (kept self.new.sums)) }
     {

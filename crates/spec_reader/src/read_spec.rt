@@ -6,7 +6,8 @@ ghost use Rattle.class_system.specs.Limits.{IsWithinLimits};
 ghost use Rattle.spec_reader.specs.Machine.{Start, Moded, Lines, Failed, step, run, mode_read};
 ghost use Rattle.spec_reader.specs.Reading.{plain_tokens, StandFor, TokensFault, Grammar, Refuses};
 ghost use Rattle.spec_reader.specs.Reading.{limit_fault};
-ghost use Rattle.spec_reader.specs.Building.{FailsAt, IsEnded, IsParsed, IsNamed, IsStop, IsStopOf};
+ghost use Rattle.spec_reader.specs.Building.{BreaksAt, EndsText, IsParsed, IsNamed, IsStop};
+ghost use Rattle.spec_reader.specs.Building.{IsStopOf};
 
 use crate::fault::SpecFault;
 use crate::parser::Reader;
@@ -48,11 +49,11 @@ fn mode_of(token: &Token) -> Option<Mode>
 
 /// The mode that the first line gives, or the place of the first token that can't stand.
 fn mode_line(tokens: &[Placed]) -> Result<Mode, usize>
-    requires ended { IsEnded tokens.now }
+    requires ended { EndsText tokens.now }
     ensures long { IfOk result (λ m. 2 ≤ length tokens.now) }
     ensures mode { IfOk result (λ m. run Start (plain_tokens (take 2 tokens.now))
         ≡ Lines (record { mode = spec_mode m; definitions = [] })) }
-    ensures stops { IfErr result (FailsAt Start tokens.now) }
+    ensures stops { IfErr result (BreaksAt Start tokens.now) }
 {
     let [first, second, ..] = tokens else {
         return Err(0);
@@ -68,7 +69,7 @@ fn mode_line(tokens: &[Placed]) -> Result<Mode, usize>
 
 /// The fault of a token that can't stand.
 fn syntax_at(tokens: &[Placed], place: usize) -> SpecFault
-    requires { FailsAt Start tokens.now place }
+    requires { BreaksAt Start tokens.now place }
     ensures { TokensFault tokens.now result }
 {
     let placed = &tokens[place];
@@ -110,7 +111,7 @@ fn named_draft(alloc: Global, mode: Mode, lines: &[Placed]) -> Result<Draft, All
 /// The tables of lines.
 fn parse(alloc: Global, mode: Mode, lines: &[Placed]) -> Result<Draft, Stop>
     requires few { length lines.now < 2 ^ 24 }
-    requires ended { IsEnded lines.now }
+    requires ended { EndsText lines.now }
     ensures ok { IfOk result (IsParsed (spec_mode mode) lines.now) }
     ensures stops { IfErr result (IsStop (spec_mode mode) lines.now) }
 {
@@ -136,7 +137,7 @@ fn parse(alloc: Global, mode: Mode, lines: &[Placed]) -> Result<Draft, Stop>
 /// The tables of a text's tokens.
 fn read_tokens(alloc: Global, tokens: &[Placed]) -> Result<Draft, SpecFault>
     requires few { length tokens.now < 2 ^ 24 }
-    requires ended { IsEnded tokens.now }
+    requires ended { EndsText tokens.now }
     ensures ok { IfOk result (StandFor tokens.now) }
     ensures fault { IfErr result (TokensFault tokens.now) }
 {

@@ -5,7 +5,7 @@ use Rattle.object_store.proofs.InRange.{body-below}
 use Rattle.object_text.specs.Expected.{HasObjects, Comes}
 use Rattle.object_text.specs.Scanning.{Faults, StopsAt}
 use Rattle.object_text.specs.Reading.{IsRead, TellsFault}
-use Rattle.object_text.specs.States.{IsFinished, stop_fault}
+use Rattle.object_text.specs.States.{IsReadWhole, stop_fault}
 use Rattle.object_text.specs.Taken.{Taken}
 use Rattle.object_text.proofs.Stops.{stops-weaker}
 use Rattle.object_text.proofs.Answering.{within-text, was-read, read-of, fault-of, refusal-of}
@@ -33,7 +33,7 @@ returns-clause-read c =
     IfOk-weaker c.finish.result _ _
     (λ x h. subst (λ s. IsRead s c.args.c.0 c.args.text.now x.shape.items x.labels) c.system-system.ensures.system
     (read-of c.system-system.result.now c.known-2.ensures.sound c.known-2.ensures.limits c.args.c.0 c.body.result.0 c.body.ensures.body c.args.text.now c.read_all.new.self.taken was x.shape.items x.labels
-    (subst (λ m. IsFinished m c.read_all.new.self.taken x.shape.items x.labels) c.mode.ensures.mode h)))
+    (subst (λ m. IsReadWhole m c.read_all.new.self.taken x.shape.items x.labels) c.mode.ensures.mode h)))
     c.finish.ensures.ok
 
 pub returns-clause-fault : goal.returns-clause-fault

@@ -1,6 +1,6 @@
 use Rattle.std.proofs.Common.{◌<◌, [], ◌∷◌, ◌++◌, sym, ◌∙◌, subst}
 use Rattle.session_pool.specs.Interleaving.{setting}
-use Rattle.pool_command.specs.UnderWay.{moment, IsUnderWay}
+use Rattle.pool_command.specs.UnderWay.{moment, IsPoolRunning}
 use Rattle.pool_command.proofs.Orders.{order-same, order-more, broken-by}
 use Rattle.pool_command.proofs.Results.{on-err}
 use Rattle.pool_command.proofs.running.ask.Goals as goal
@@ -17,7 +17,7 @@ returns-in_err-push-clause-broken g c = on-err c.from_residual-in_err-push.resul
 pub returns-in_ok-push-clause-under_way : goal.returns-in_ok-push-clause-under_way
 returns-in_ok-push-clause-under_way g c = λ b asked p.
     let within = subst (λ n. c.args.number < n) (sym c.requires.can.number) c.requires.number in
-    subst (IsUnderWay b (asked ++ c.args.number ∷ []) (moment (setting (g.O.Oracle.spec c.turn_once.new.oracle) (g.O.Oracle.x c.turn_once.new.oracle) g.row.F (g.O.Oracle.table c.turn_once.new.oracle) (g.S.Shelf.content c.turn_once.new.shelf)) (g.S.Shelf.faults c.turn_once.new.shelf) (g.O.Oracle.cost c.turn_once.new.oracle) (g.O.Oracle.raised c.turn_once.new.oracle) c.turn_once.new.steps c.turn_once.new.pool)) (sym c.in_ok-push.ensures.items)
+    subst (IsPoolRunning b (asked ++ c.args.number ∷ []) (moment (setting (g.O.Oracle.spec c.turn_once.new.oracle) (g.O.Oracle.x c.turn_once.new.oracle) g.row.F (g.O.Oracle.table c.turn_once.new.oracle) (g.S.Shelf.content c.turn_once.new.shelf)) (g.S.Shelf.faults c.turn_once.new.shelf) (g.O.Oracle.cost c.turn_once.new.oracle) (g.O.Oracle.raised c.turn_once.new.oracle) c.turn_once.new.steps c.turn_once.new.pool)) (sym c.in_ok-push.ensures.items)
     (order-more b asked (moment (setting (g.O.Oracle.spec c.args.oracle.now) (g.O.Oracle.x c.args.oracle.now) g.row.F (g.O.Oracle.table c.args.oracle.now) (g.S.Shelf.content c.args.shelf.now)) (g.S.Shelf.faults c.args.shelf.now) (g.O.Oracle.cost c.args.oracle.now) (g.O.Oracle.raised c.args.oracle.now) c.args.steps.now c.args.pool.now) (moment (setting (g.O.Oracle.spec c.turn_once.new.oracle) (g.O.Oracle.x c.turn_once.new.oracle) g.row.F (g.O.Oracle.table c.turn_once.new.oracle) (g.S.Shelf.content c.turn_once.new.shelf)) (g.S.Shelf.faults c.turn_once.new.shelf) (g.O.Oracle.cost c.turn_once.new.oracle) (g.O.Oracle.raised c.turn_once.new.oracle) c.turn_once.new.steps c.turn_once.new.pool) c.args.order.now.items c.args.number p c.in_ok-turn_once.ensures.asked (c.in_ok-turn_once.ensures.so_far b asked p.so_far) within (sym c.if-branch.true ∙ c.in_ok-turn_once.ensures.ends))
 
 -- it goes on, or had ended

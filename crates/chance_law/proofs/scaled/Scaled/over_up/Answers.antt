@@ -1,12 +1,12 @@
 use Rattle.std.proofs.Common.{◌≡◌, ◌+◌, ◌*◌, ◌^◌, ◌<◌, ◌≤◌, arith, subst, sym, to_z, of_z, w64}
 use Rattle.std.specs.Prelude.{negsuc}
 use mir.Val.{SFits}
-use Rattle.chance_law.specs.Scaled.{IsNear}
+use Rattle.chance_law.specs.Scaled.{IsNearZero}
 use Rattle.chance_law.proofs.Exponents.{passed, quotient-near}
 use Rattle.chance_law.proofs.Upward.{part-up, part-whole, moved, cut-strictly, rest-strictly, quotient-within, divided-exactly}
 use Rattle.chance_law.proofs.scaled.Scaled.over_up.Goals as goal
 
-near : IsNear (2 ^ 61) (negsuc 63)
+near : IsNearZero (2 ^ 61) (negsuc 63)
 near = record { above = omega arith; below = omega arith }
 
 pub returns-then-digits : goal.returns-then-digits

@@ -2,12 +2,12 @@
 use Rattle.std.proofs.Common.{◌^◌, arith, refl, to_z, of_z, w64}
 use Rattle.std.specs.Prelude.{pos}
 use mir.Val.{SFits}
-use Rattle.chance_law.specs.Scaled.{IsNear}
+use Rattle.chance_law.specs.Scaled.{IsNearZero}
 use Rattle.chance_law.proofs.Equal.{power-exact}
 use Rattle.chance_law.proofs.Exponents.{passed, sum-of-two}
 use Rattle.chance_law.proofs.scaled.Scaled.times_power.Goals as goal
 
-near : IsNear (2 ^ 61) (pos 0)
+near : IsNearZero (2 ^ 61) (pos 0)
 near = record { above = omega arith; below = omega arith }
 
 pub returns-clause-exact : goal.returns-clause-exact

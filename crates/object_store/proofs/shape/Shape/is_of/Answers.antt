@@ -3,7 +3,7 @@ use Rattle.std.proofs.Common.{◌≡◌, ◌↔◌, [], sym, subst, subst₂, �
 use Rattle.bz_model.specs.Spec.{Spec}
 use Rattle.object_store.specs.declared.visit.Visit.{Visit}
 use Rattle.object_store.specs.Tokens.{AreOf}
-use Rattle.object_store.specs.Walking.{Walking, IsNext, IsEnd, HasNoObject, IsVisit}
+use Rattle.object_store.specs.Walking.{Walking, IsNext, IsEnd, HasNoObjects, IsVisitOfWalk}
 use Rattle.object_store.proofs.NextToken.{of-none}
 use Rattle.object_store.proofs.Walked.{never_true}
 use Rattle.object_store.proofs.shape.Shape.is_of.Goals as goal
@@ -11,10 +11,10 @@ use Rattle.object_store.proofs.shape.Shape.is_of.Goals as goal
 all-taken : (s : Spec) (w now : Walking) → w.system ≡ s → IsEnd w now → AreOf s w.waiting w.left
 all-taken s w now same h = subst₂ (AreOf s) (sym h.nothing) (sym h.no_token) ((of-none s []).1 refl)
 
-none-left : (s : Spec) (w now : Walking) → w.system ≡ s → HasNoObject w now → ¬ (AreOf s w.waiting w.left)
+none-left : (s : Spec) (w now : Walking) → w.system ≡ s → HasNoObjects w now → ¬ (AreOf s w.waiting w.left)
 none-left s w now same h a = h.never (subst (λ z. AreOf z w.waiting w.left) (sym same) a)
 
-same-after : (s : Spec) (w now : Walking) (e : ℕ) (v : Visit) → w.system ≡ s → IsVisit w now e v → AreOf s w.waiting w.left ↔ AreOf s now.waiting now.left
+same-after : (s : Spec) (w now : Walking) (e : ℕ) (v : Visit) → w.system ≡ s → IsVisitOfWalk w now e v → AreOf s w.waiting w.left ↔ AreOf s now.waiting now.left
 same-after s w now e v same h = subst (λ z. AreOf z w.waiting w.left ↔ AreOf z now.waiting now.left) same h.same
 
 pub returns-in-End : goal.returns-in-End

@@ -2,7 +2,7 @@
 use Rattle.std.proofs.Common.{◌≡◌, ◌-◌, suc, List, take, drop, length, take_all, arith, subst, refl, length-drop, Bool, IsTrue, false}
 use Rattle.object_store.specs.declared.token.Token.{Token}
 use Rattle.object_store.specs.Tokens.{AreOf}
-use Rattle.object_store.specs.Walking.{Walking, IsVisit, HasNoObject}
+use Rattle.object_store.specs.Walking.{Walking, IsVisitOfWalk, HasNoObjects}
 use Rattle.object_store.proofs.Walks.{first-of, no-way, way-after-token, way-further, visit-with-token, visit-down}
 use Rattle.object_store.proofs.Steps.{no-token-seen}
 use Rattle.object_store.proofs.walk.Walk.next.Goals as goal
@@ -17,7 +17,7 @@ pub returns-in_default-at-clause-next : goal.returns-in_default-at-clause-next
 returns-in_default-at-clause-next c =
     let i = c.self.inside in
     let first = first-of i.pending.items c.in-Some.e.0 c.in-Some.ensures in
-    subst (λ (w : Walking). HasNoObject w w) c.self.view_is (record {
+    subst (λ (w : Walking). HasNoObjects w w) c.self.view_is (record {
       never = λ a. c.in_default-at.ensures.none (drop 1 i.pending.items) (subst (λ gs. AreOf i.system.now gs i.left.now) first a);
       stays = refl;
     })
@@ -27,7 +27,7 @@ returns-then-self-eq0-clause-next c =
     let i = c.self.inside in
     let first = first-of i.pending.items c.in-Some.e.0 c.in-Some.ensures in
     let down = c.is_way_down.ensures.0 c.if-not-is_way_down.false in
-    subst (λ (w : Walking). HasNoObject w w) c.self.view_is (record {
+    subst (λ (w : Walking). HasNoObjects w w) c.self.view_is (record {
       never = no-way i.system.now c.known.ensures.sound c.in-Some.e.0 (drop 1 i.pending.items) i.pending.items i.left.now i.way c.in-Some-at.visit first c.self.invariant down c.if-self-eq0.true;
       stays = refl;
     })
@@ -44,7 +44,7 @@ returns-in_ok-put_below-clause-next c =
     let i = c.self.inside in
     let first = first-of i.pending.items c.in-Some.e.0 c.in-Some.ensures in
     let put = c.in_ok-put_below.ensures.ok c.in-Some.e.0 (drop 1 i.pending.items) first in
-    subst (λ (w : Walking). IsVisit w (record { system = i.system.now; waiting = c.put_below.new.pending.items; left = take (length i.left.now - 1) (drop 1 i.left.now); way = c.node_count-self-inside.result }) c.in-Some.e.0 c.in-Some-at.visit) c.self.view_is
+    subst (λ (w : Walking). IsVisitOfWalk w (record { system = i.system.now; waiting = c.put_below.new.pending.items; left = take (length i.left.now - 1) (drop 1 i.left.now); way = c.node_count-self-inside.result }) c.in-Some.e.0 c.in-Some-at.visit) c.self.view_is
     (visit-with-token i.system.now c.known.ensures.sound c.in-Some.e.0 (drop 1 i.pending.items) i.pending.items i.left.now i.way c.in-Some-at.visit first c.self.invariant c.in-Some-at.ensures.seen c.put_below.new.pending.items put (never-down c.is_way_down.result c.is_way_down.ensures.1 c.if-not-is_way_down.true) (take (length i.left.now - 1) (drop 1 i.left.now)) c.node_count-self-inside.result (rest i.left.now) c.node_count-self-inside.ensures.count)
 
 pub invariant_of-self-else-not-is_way_down : goal.invariant_of-self-else-not-is_way_down
@@ -65,5 +65,5 @@ returns-in_ok-put_below-2-clause-next c =
     let down = c.is_way_down.ensures.0 c.if-not-is_way_down.false in
     let some = c.if-self-eq0.false in
     let count : i.way ≡ suc (i.way - 1) = omega (arith, some) in
-    subst (λ (w : Walking). IsVisit w (record { system = i.system.now; waiting = c.put_below-else-not-is_way_down.new.pending.items; left = i.left.now; way = i.way - 1 }) c.in-Some.e.0 c.in-Some-at.visit) c.self.view_is
+    subst (λ (w : Walking). IsVisitOfWalk w (record { system = i.system.now; waiting = c.put_below-else-not-is_way_down.new.pending.items; left = i.left.now; way = i.way - 1 }) c.in-Some.e.0 c.in-Some-at.visit) c.self.view_is
     (visit-down i.system.now c.known.ensures.sound c.in-Some.e.0 (drop 1 i.pending.items) i.pending.items i.left.now i.way c.in-Some-at.visit first c.self.invariant c.in-Some-at.ensures.seen c.put_below-else-not-is_way_down.new.pending.items put (no-token-seen i.system.now c.in-Some.e.0 (drop 1 i.pending.items) i.left.now c.in-Some-at.visit down) (i.way - 1) count)

@@ -1,6 +1,6 @@
 use Rattle.std.proofs.Common.{subst, arith}
 use Rattle.bz_model.specs.Fraction.{ratio}
-use Rattle.bz_model.specs.Oracle.{IsSound}
+use Rattle.bz_model.specs.Oracle.{IsSoundTable}
 use Rattle.class_system.specs.Sound as sound
 use Rattle.rounded_map.specs.RoundedMap.{setting}
 use Rattle.oracle_memo.specs.Levels.{level_bounds_from}
@@ -12,7 +12,7 @@ use Rattle.oracle_memo.proofs.memo.MemoOracle.known.Goals as goal
 pub returns-clause-sound : goal.returns-clause-sound
 returns-clause-sound g c =
     let m = c.self.inside in
-    subst (λ (v : Memory). IsSound v.spec (ratio v.num v.den) g.row.F (λ level e. level_bounds_from (setting v.spec v.num v.den g.row.F) v.start v.base level e)) c.self.view_is (record {
+    subst (λ (v : Memory). IsSoundTable v.spec (ratio v.num v.den) g.row.F (λ level e. level_bounds_from (setting v.spec v.num v.den g.row.F) v.start v.base level e)) c.self.view_is (record {
       founded = c.known.ensures.well_founded;
       inhabited = c.known.ensures.inhabited;
       positive = m.x.num_in_limits.0;
