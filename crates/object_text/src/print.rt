@@ -30,7 +30,8 @@ pub fn print(
     labels: Option<&Labels>,
 ) -> Result<Vec<u8>, AllocError>
     requires in_range { c.0 < length founded.now.names }
-    requires labels { AreLabelsFor founded.now.mode shape.now.items (option_map (λ l. l.now) labels) }
+    requires labels { AreLabelsFor founded.now.mode shape.now.items
+        (option_map (λ l. l.now) labels) }
     requires is_of { IsOf founded.now c.0 shape.now.items }
     ensures text { IfOk result (λ text. (of : IsOf founded.now c.0 shape.now.items)
         → text.items ≡ object_text founded.now of.body of.object of.belongs
