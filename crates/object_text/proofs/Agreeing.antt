@@ -14,9 +14,9 @@ use Rattle.object_store.proofs.OneToOne.{one-of-class}
 use Rattle.object_store.proofs.Sizes.{size_of-tokens}
 use Rattle.object_text.specs.declared.fault.TextFault.{TextFault}
 use Rattle.object_text.specs.declared.fault.TextFault.TheVariants as fault
-use Rattle.object_text.specs.Labels.{HasOneForEach}
+use Rattle.object_text.specs.Labels.{HasOneForEach, listed}
 use Rattle.object_text.specs.Reading.{IsForm, BeginsSomeText, IsWrongAt, told, IsRead, TellsFaultAt, TellsFault}
-use Rattle.object_text.specs.BothWays.{listed, IsReprinted}
+use Rattle.object_text.specs.BothWays.{IsReprinted}
 use Rattle.object_text.proofs.FirstBytes.{is-plain}
 
 -- a class has one body

@@ -1,15 +1,10 @@
 -- Texts that are read and printed.
-use Rattle.std.specs.Prelude.{◌≡◌, ℕ, List, [], Option, Some, None}
+use Rattle.std.specs.Prelude.{◌≡◌, ℕ, List, Option}
 use Rattle.bz_model.specs.Spec.{Spec}
 use Rattle.bz_model.specs.ObjectText.{object_text}
 use Rattle.object_store.specs.declared.token.Token.{Token}
 use Rattle.object_store.specs.Tokens.{IsOf}
-use Rattle.object_text.specs.Labels.{HasOneForEach}
-
--- The labels in a list that may be missing.
-abbrev pub listed : Option (List ℕ) → List ℕ
-listed None = []
-listed (Some labels) = labels
+use Rattle.object_text.specs.Labels.{HasOneForEach, listed}
 
 -- The tokens are those of an object of the class, there is a label for each atom in labelled mode
 -- and none in unlabelled mode, and the text is the object's.

@@ -1,17 +1,54 @@
 //! Printing the object of a shape.
-ghost use Rattle.std.specs.Prelude.{◌≡◌, ◌<◌, [], length, IfOk};
+ghost use Rattle.std.specs.Prelude.{◌≡◌, ◌<◌, [], length, IfOk, option_map};
 ghost use Rattle.bz_model.specs.Spec.{Mode};
 ghost use Rattle.bz_model.specs.ObjectText.{object_text};
 ghost use Rattle.object_store.specs.Tokens.{IsOf};
-ghost use Rattle.object_text.specs.Labels.{HasOneForEach};
+ghost use Rattle.object_text.specs.Labels.{HasOneForEach, AreLabelsFor, listed};
 
 use crate::output::Output;
 use crate::print_stack::{Todo, Todos};
 use crate::walk::print_all;
 use class_system::ids::ClassId;
 use class_system::system::System;
+use labelling::labels::Labels;
 use object_store::shape::Shape;
 use std::alloc::{AllocError, Global};
+use well_founded::examination::Founded;
+
+/// The text of a shape of a class of a well-founded specification.
+///
+/// There are labels exactly in labelled mode: one for each atom, in token order. The labels of a
+/// drawn object are 1 to its size, and the text of any others is defined too. Parts of sets and
+/// cycles are put in order as `print_labelled` says.
+///
+/// It takes the steps and the memory of `print_labelled`, and fails only where memory runs out.
+pub fn print(
+    alloc: Global,
+    founded: &Founded,
+    c: ClassId,
+    shape: &Shape,
+    labels: Option<&Labels>,
+) -> Result<Vec<u8>, AllocError>
+    requires in_range { c.0 < length founded.now.names }
+    requires labels { AreLabelsFor founded.now.mode shape.now.items
+        (option_map (λ l. l.now) labels) }
+    requires is_of { IsOf founded.now c.0 shape.now.items }
+    ensures text { IfOk result (λ text. (of : IsOf founded.now c.0 shape.now.items)
+        → text.items ≡ object_text founded.now of.body of.object of.belongs
+        (listed (option_map (λ l. l.now) labels.entry))) }
+{
+    print_labelled(alloc, founded.system(), c, shape, listed(labels))
+}
+
+/// The labels, of which there are none where the list is missing.
+fn listed<'a>(labels: Option<&'a Labels>) -> &'a [u64]
+    ensures { result.now ≡ listed (option_map (λ l. l.now) labels.entry) }
+{
+    match labels {
+        Some(labels) => labels.items(),
+        None => &[],
+    }
+}
 
 /// The text of a shape of a class in an unlabelled specification.
 ///
