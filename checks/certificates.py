@@ -88,15 +88,13 @@ def seq_up(a, one):
 
 
 def terms_up(kind, a, one, last):
-    """The terms 0 to last of a number of parts; None where a power or a factorial term is above the greatest."""
+    """The terms 0 to last of a number of parts; None where one is above the greatest. A power may be above it."""
     power, out = one, []
     for j in range(last + 1):
         if j:
             power = above(power * a, j * one if kind == "Set" else one)
-        if power > GREATEST:
-            return None
         out.append(above(power, j) if kind == "Cyc" and j else power)
-    return out
+    return out if max(out) <= GREATEST else None
 
 
 def counted_up(kind, a, low, high, one):

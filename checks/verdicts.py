@@ -110,24 +110,29 @@ def terms_low(kind, a, one, last):
     power, out = one, []
     for j in range(last + 1):
         if j:
-            power = min(power * a // (j * one if kind == "Set" else one), GREATEST)
+            power = power * a // (j * one if kind == "Set" else one)
         out.append(power // j if kind == "Cyc" and j else power)
     return out
 
 
+def sum_low(terms, low):
+    """The sum from the term low on: 0 where one before it is above the greatest."""
+    return 0 if max(terms[:low], default=0) > GREATEST else min(sum(terms[low:]), GREATEST)
+
+
 def counted_low(kind, a, low, high, one):
     if high is not None:
-        return min(sum(terms_low(kind, a, one, high)[low:]), GREATEST)
+        return sum_low(terms_low(kind, a, one, high), low)
     if kind == "Seq":
         return min(terms_low(kind, a, one, low)[low] * seq_low(a, one) // one, GREATEST) if low else seq_low(a, one)
     if kind == "Set":
-        return min(sum(terms_low(kind, a, one, 127)[low:]), GREATEST)
+        return sum_low(terms_low(kind, a, one, 127), low)
     if a >= one:
         return GREATEST
     last, power = 1, a
     while power > 1 and last < 4096:
         last, power = last + 1, power * a // one
-    return min(sum(terms_low(kind, a, one, max(last, low - 1))[low:]), GREATEST)
+    return sum_low(terms_low(kind, a, one, max(last, low - 1)), low)
 
 
 def low_values(nodes, vector, x, one):
