@@ -128,7 +128,10 @@ fn parse(alloc: Global, mode: Mode, lines: &[Placed]) -> Result<Draft, Stop>
     let expects = Expects::Line;
     let mut reader = Reader { sums, expects };
     match reader.take_all(alloc, lines) {
-        Ok(None) => Ok(reader.sums.draft),
+        Ok(None) => {
+            let sums = reader.sums;
+            Ok(sums.draft)
+        }
         Ok(Some(place)) => Err(Stop::At(place)),
         Err(_) => Err(Stop::OutOfMemory),
     }
