@@ -1,6 +1,6 @@
 -- Names of which none stands twice, one by one.
 use Rattle.std.specs.Prelude.{slice_get}
-use Rattle.std.proofs.Common.{◌≡◌, ℕ, zero, suc, ◌<◌, List, [], ◌∷◌, ◌++◌, length, Some, arith, refl, sym, ◌∙◌, ap, ◌⊎◌, inl, inr}
+use Rattle.std.proofs.Common.{◌≡◌, ℕ, zero, suc, ◌<◌, List, [], ◌∷◌, ◌++◌, length, Some, arith, refl, sym, ◌∙◌, ap, ◌⊎◌, inl, inr, take}
 use Rattle.class_system.specs.Distinct.{AreDistinct, IsMissing}
 
 at-append : (xs ys : List (List ℕ)) (i : ℕ) (w : List ℕ) → slice_get xs i ≡ Some w → slice_get (xs ++ ys) i ≡ Some w
@@ -25,6 +25,30 @@ missing-before before ws w d = record {
       let h : i < length before = within before i w at in
       absurd (omega arith);
 }
+
+-- What stands in the first names stands in all, at that place.
+in-first : (names : List (List ℕ)) (n i : ℕ) (w : List ℕ) → slice_get (take n names) i ≡ Some w → (slice_get names i ≡ Some w) × (i < n)
+in-first [] zero i w e = absurd (cc)
+in-first [] (suc n) i w e = absurd (cc)
+in-first (x ∷ names) zero i w e = absurd (cc)
+in-first (x ∷ names) (suc n) zero w e = (e, omega arith)
+in-first (x ∷ names) (suc n) (suc i) w e = let h = in-first names n i w e in let few = h.1 in (h.0, omega (arith, few))
+
+-- Of names of which none stands twice, each is missing among the first ones before its place.
+pub missing-below : (names : List (List ℕ)) (i : ℕ) (w : List ℕ) → AreDistinct names → slice_get names i ≡ Some w → IsMissing w (take i names)
+missing-below names i w d at = record {
+  nowhere = λ k there.
+      let h = in-first names i k w there in
+      let few = h.1 in
+      let same : k ≡ i = d.once k i w h.0 at in
+      absurd (omega (arith, few, same));
+}
+
+-- The first names are one more with the name at the next place.
+pub first-more : (names : List (List ℕ)) (i : ℕ) (w : List ℕ) → slice_get names i ≡ Some w → take (suc i) names ≡ take i names ++ w ∷ []
+first-more [] i w e = absurd (cc)
+first-more (x ∷ names) zero w e = let same : x ≡ w = cc in ap (λ z. z ∷ []) same
+first-more (x ∷ names) (suc i) w e = ap (λ t. x ∷ t) (first-more names i w e)
 
 -- What stands in a list with one more name stands in the list, or is that name in the last place.
 in-one-more : (xs : List (List ℕ)) (x : List ℕ) (i : ℕ) (w : List ℕ) → slice_get (xs ++ x ∷ []) i ≡ Some w → (slice_get xs i ≡ Some w) ⊎ ((i ≡ length xs) × (x ≡ w))

@@ -4,7 +4,7 @@ use Rattle.std.specs.Prelude.{slice_get, codes}
 use Rattle.certificate.specs.declared.certificate.Header.{Header}
 use Rattle.certificate.specs.Patterns.{filled}
 use Rattle.certificate.specs.Lines.{Line, text_of, whole_line}
-use Rattle.certificate.specs.Certificates.{spec_lines, base_lines, header_lines}
+use Rattle.certificate.specs.Certificates.{spec_lines, base_lines, lines_below_version}
 
 -- The text of two lists of lines one after the other is the text of the first and then that of the
 -- second.
@@ -12,14 +12,13 @@ pub text-append : (xs ys : List Line) → text_of (xs ++ ys) ≡ text_of xs ++ t
 text-append [] ys = refl
 text-append (x ∷ xs) ys = ap (λ t. whole_line x ++ t) (text-append xs ys) ∙ sym (append_assoc (whole_line x) (text_of xs) (text_of ys))
 
--- the lines of a header, one after the other
-pub header-joined : (h : Header) (t0 t1 t2 t3 t4 t5 t6 t7 : List ℕ)
-    → t0 ≡ [] → t1 ≡ t0 ++ whole_line (Line.Version h.version) → t2 ≡ t1 ++ whole_line (Line.InMode h.mode)
-    → t3 ≡ t2 ++ text_of (spec_lines h.digest) → t4 ≡ t3 ++ whole_line (Line.X h.x.num h.x.den)
-    → t5 ≡ t4 ++ whole_line (Line.Fraction h.fraction) → t6 ≡ t5 ++ whole_line (Line.Window h.min h.max)
-    → t7 ≡ t6 ++ text_of (base_lines h.names h.base) → t7 ≡ text_of (header_lines h)
-header-joined h t0 t1 t2 t3 t4 t5 t6 t7 e0 e1 e2 e3 e4 e5 e6 e7 =
-    let v = whole_line (Line.Version h.version) in
+-- the lines of a header below its first, one after the other
+pub below-joined : (h : Header) (t0 t1 t2 t3 t4 t5 t6 : List ℕ)
+    → t1 ≡ t0 ++ whole_line (Line.InMode h.mode)
+    → t2 ≡ t1 ++ text_of (spec_lines h.digest) → t3 ≡ t2 ++ whole_line (Line.X h.x.num h.x.den)
+    → t4 ≡ t3 ++ whole_line (Line.Fraction h.fraction) → t5 ≡ t4 ++ whole_line (Line.Window h.min h.max)
+    → t6 ≡ t5 ++ text_of (base_lines h.names h.base) → t6 ≡ t0 ++ text_of (lines_below_version h)
+below-joined h t0 t1 t2 t3 t4 t5 t6 e1 e2 e3 e4 e5 e6 =
     let m = whole_line (Line.InMode h.mode) in
     let d = text_of (spec_lines h.digest) in
     let x = whole_line (Line.X h.x.num h.x.den) in
@@ -27,14 +26,13 @@ header-joined h t0 t1 t2 t3 t4 t5 t6 t7 e0 e1 e2 e3 e4 e5 e6 e7 =
     let w = whole_line (Line.Window h.min h.max) in
     let b = text_of (base_lines h.names h.base) in
     let tail = text-append (spec_lines h.digest) (Line.X h.x.num h.x.den ∷ Line.Fraction h.fraction ∷ Line.Window h.min h.max ∷ base_lines h.names h.base) in
-    joined t0 t1 t2 t3 t4 t5 t6 t7 v m d x f w b e0 e1 e2 e3 e4 e5 e6 e7 ∙ ap (λ t. v ++ (m ++ t)) (sym tail)
+    joined t0 t1 t2 t3 t4 t5 t6 m d x f w b e1 e2 e3 e4 e5 e6 ∙ ap (λ t. t0 ++ (m ++ t)) (sym tail)
   where
-    joined : (t0 t1 t2 t3 t4 t5 t6 t7 v m d x f w b : List ℕ) → t0 ≡ [] → t1 ≡ t0 ++ v → t2 ≡ t1 ++ m → t3 ≡ t2 ++ d → t4 ≡ t3 ++ x → t5 ≡ t4 ++ f → t6 ≡ t5 ++ w → t7 ≡ t6 ++ b → t7 ≡ v ++ (m ++ (d ++ (x ++ (f ++ (w ++ b)))))
-    joined t0 t1 t2 t3 t4 t5 t6 t7 v m d x f w b e0 e1 e2 e3 e4 e5 e6 e7 =
-        e7 ∙ ap (λ t. t ++ b) e6 ∙ append_assoc t5 w b ∙ ap (λ t. t ++ (w ++ b)) e5 ∙ append_assoc t4 f (w ++ b)
-        ∙ ap (λ t. t ++ (f ++ (w ++ b))) e4 ∙ append_assoc t3 x (f ++ (w ++ b)) ∙ ap (λ t. t ++ (x ++ (f ++ (w ++ b)))) e3
-        ∙ append_assoc t2 d (x ++ (f ++ (w ++ b))) ∙ ap (λ t. t ++ (d ++ (x ++ (f ++ (w ++ b))))) e2 ∙ append_assoc t1 m (d ++ (x ++ (f ++ (w ++ b))))
-        ∙ ap (λ t. t ++ (m ++ (d ++ (x ++ (f ++ (w ++ b)))))) e1 ∙ ap (λ t. (t ++ v) ++ (m ++ (d ++ (x ++ (f ++ (w ++ b)))))) e0
+    joined : (t0 t1 t2 t3 t4 t5 t6 m d x f w b : List ℕ) → t1 ≡ t0 ++ m → t2 ≡ t1 ++ d → t3 ≡ t2 ++ x → t4 ≡ t3 ++ f → t5 ≡ t4 ++ w → t6 ≡ t5 ++ b → t6 ≡ t0 ++ (m ++ (d ++ (x ++ (f ++ (w ++ b)))))
+    joined t0 t1 t2 t3 t4 t5 t6 m d x f w b e1 e2 e3 e4 e5 e6 =
+        e6 ∙ ap (λ t. t ++ b) e5 ∙ append_assoc t4 w b ∙ ap (λ t. t ++ (w ++ b)) e4 ∙ append_assoc t3 f (w ++ b)
+        ∙ ap (λ t. t ++ (f ++ (w ++ b))) e3 ∙ append_assoc t2 x (f ++ (w ++ b)) ∙ ap (λ t. t ++ (x ++ (f ++ (w ++ b)))) e2
+        ∙ append_assoc t1 d (x ++ (f ++ (w ++ b))) ∙ ap (λ t. t ++ (d ++ (x ++ (f ++ (w ++ b))))) e1 ∙ append_assoc t0 m (d ++ (x ++ (f ++ (w ++ b))))
 
 -- one class more
 base-more : (names : List (List ℕ)) (base : List ℕ) (i : ℕ) (name : List ℕ) → slice_get names i ≡ Some name → i < length base → base_lines (take (suc i) names) (take (suc i) base) ≡ base_lines (take i names) (take i base) ++ Line.Base name (get_or base i 0) ∷ []

@@ -1,6 +1,7 @@
 -- Certificates, and the lines that they consist of.
 use Rattle.std.specs.Prelude.{◌≡◌, ℕ, List, [], ◌∷◌, ◌++◌, length, flat_map, Option, Some, None}
 use Rattle.std.specs.List.{AllByRecursion}
+use Rattle.bz_model.specs.declared.cell.Cell.{Cell}
 use Rattle.bz_model.specs.Cell.{IsCell}
 use Rattle.bz_model.specs.Number.{IsPart}
 use Rattle.class_system.specs.Distinct.{AreDistinct}
@@ -26,17 +27,26 @@ abbrev pub base_lines : (names : List (List ℕ)) → (base : List ℕ) → List
 base_lines (name ∷ names) (value ∷ base) = Line.Base name value ∷ base_lines names base
 base_lines _ _ = []
 
--- The lines of a header.
-abbrev pub header_lines : Header → List Line
-header_lines h =
-    Line.Version h.version ∷ Line.InMode h.mode ∷ (spec_lines h.digest
+-- The lines of a header below its first, which names the version.
+abbrev pub lines_below_version : Header → List Line
+lines_below_version h =
+    Line.InMode h.mode ∷ (spec_lines h.digest
     ++ (Line.X h.x.num h.x.den ∷ Line.Fraction h.fraction ∷ Line.Window h.min h.max
     ∷ base_lines h.names h.base))
 
+-- The lines of a header.
+abbrev pub header_lines : Header → List Line
+header_lines h = Line.Version h.version ∷ lines_below_version h
+
+-- The lines of a kept object: its number, the place of its first bit and its size, its text, and
+-- its cells.
+abbrev pub object_lines : (number place size : ℕ) → (text : List ℕ) → List Cell → List Line
+object_lines number place size text cells =
+    Line.Object number place size ∷ Line.Text text ∷ Line.Cells cells ∷ []
+
 -- The lines of an entry.
 abbrev pub entry_lines : CertEntry → List Line
-entry_lines e = Line.Object e.number e.place e.size ∷ Line.Text e.text ∷ Line.Cells e.cells.items
-    ∷ []
+entry_lines e = object_lines e.number e.place e.size e.text e.cells.items
 
 -- The line of a number that was left open, where there is one.
 abbrev pub open_lines : Option Straddle → List Line

@@ -1,5 +1,6 @@
 pub mod Certificates
 pub mod Fields
+pub mod Headers
 pub mod Lines
 pub mod Patterns
 pub mod Ranges

@@ -1,7 +1,12 @@
 //! Digests of specifications.
-ghost use Rattle.std.specs.Prelude.{◌≡◌};
+ghost use Rattle.std.specs.Prelude.{◌≡◌, IfOk};
+ghost use Rattle.class_system.specs.CanonicalText.{canonical_text};
+ghost use Rattle.sha2.specs.Sha256.{sha256};
 ghost use Rattle.certificate.specs.Fields.{IsDigest};
 
+use class_system::system::System;
+use sha2::{Digest, Sha256};
+use std::alloc::AllocError;
 use std::marker::Model;
 
 /// The SHA-256 digest of a specification's canonical text, seen as the list of its 32 bytes.
@@ -36,4 +41,15 @@ impl SpecDigest {
     {
         &self.content
     }
+}
+
+/// The digest of a specification's canonical text.
+pub fn digest_of(system: &System) -> Result<SpecDigest, AllocError>
+    ensures digest { IfOk result (λ digest. digest ≡ sha256 (canonical_text system.now)) }
+    ensures fits { IfOk result IsDigest }
+{
+    let canonical = system.to_text()?;
+    let digest = SpecDigest::new(Sha256::digest(canonical.as_slice()));
+    let _bytes = digest.bytes();
+    Ok(digest)
 }

@@ -23,6 +23,7 @@ pub mod closing;
 pub mod digest;
 mod entry_tests;
 mod fields;
+pub mod header;
 pub mod laws;
 mod lines;
 mod pattern;

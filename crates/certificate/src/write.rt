@@ -1,12 +1,15 @@
-//! The texts of a certificate's header, entries and closing.
-ghost use Rattle.std.specs.Prelude.{◌≡◌, ◌<◌, ◌≤◌, ◌∷◌, ◌++◌, [], length, codes, IfOk, OnOk, take};
+//! The texts of a certificate's header, entries and closing: as texts of their own, or appended to a
+//! text.
+ghost use Rattle.std.specs.Prelude.{◌≡◌, ◌<◌, ◌≤◌, ◌∷◌, ◌++◌, [], length, codes, IfOk, OnOk, OnErr};
+ghost use Rattle.std.specs.Prelude.{take};
 ghost use Rattle.hex.specs.Hex.{encode_lower};
 ghost use Rattle.class_system.specs.CanonicalText.{mode_word};
 ghost use Rattle.class_system.specs.Views.{spec_mode};
 ghost use Rattle.certificate.specs.Patterns.{filled, places};
 ghost use Rattle.certificate.specs.Fields.{cells_text};
 ghost use Rattle.certificate.specs.Lines.{Line, text_of, whole_line, end_pattern, open_line};
-ghost use Rattle.certificate.specs.Certificates.{spec_lines, base_lines, header_lines, entry_lines};
+ghost use Rattle.certificate.specs.Certificates.{spec_lines, base_lines, lines_below_version};
+ghost use Rattle.certificate.specs.Certificates.{header_lines, object_lines, entry_lines};
 ghost use Rattle.certificate.specs.Certificates.{open_lines, closing_lines, FitsHeader};
 ghost use Rattle.certificate.specs.Certificates.{FitsClosing};
 
@@ -26,13 +29,26 @@ pub fn write_header(alloc: Global, h: &Header) -> Result<Vec<u8>, AllocError>
 {
     let mut text = Vec::new(alloc);
     push_line(&mut text, b"boltzmann #", &[u64::from(h.version)])?;
-    push_words(&mut text, b"mode ", mode_of(h.mode))?;
-    push_digest(alloc, &mut text, &h.digest)?;
-    push_line(&mut text, b"x #/#", &[h.x.num, h.x.den])?;
-    push_line(&mut text, b"fraction #", &[u64::from(h.fraction)])?;
-    push_line(&mut text, b"window # #", &[h.min, h.max])?;
-    push_base(&mut text, h)?;
+    push_below_version(alloc, &mut text, h)?;
     Ok(text)
+}
+
+/// Appends the lines of a header below its first, which names the version.
+///
+/// A refusal, which comes for want of memory alone, leaves the text unchanged.
+pub fn append_below_version(
+    alloc: Global,
+    text: &mut Vec<u8>,
+    h: &Header,
+) -> Result<(), AllocError>
+    requires { FitsHeader h.now }
+    ensures ok { OnOk result (text.new.items ≡ text.old.items
+        ++ text_of (lines_below_version h.now)) }
+    ensures err { OnErr result (text.new.items ≡ text.old.items) }
+{
+    let mut lines = Vec::new(alloc);
+    push_below_version(alloc, &mut lines, h)?;
+    text.extend_from_slice(lines.as_slice())
 }
 
 /// The lines of an entry.
@@ -40,14 +56,32 @@ pub fn write_entry(alloc: Global, e: &CertEntry) -> Result<Vec<u8>, AllocError>
     ensures { IfOk result (λ text. text.items ≡ text_of (entry_lines e.now)) }
 {
     let mut text = Vec::new(alloc);
-    push_line(
-        &mut text,
-        b"object # at # size #",
-        &[e.number, e.place, e.size],
-    )?;
-    push_words(&mut text, b"text ", e.text.bytes())?;
-    push_cells(&mut text, e.cells.items())?;
+    let object = e.text.bytes();
+    let cells = e.cells.items();
+    push_object(&mut text, e.number, e.place, e.size, object, cells)?;
     Ok(text)
+}
+
+/// Appends the lines of a kept object: its number, the place of its first bit and its size, its
+/// text, and its cells.
+///
+/// A refusal, which comes for want of memory alone, leaves the text unchanged.
+pub fn append_object(
+    alloc: Global,
+    text: &mut Vec<u8>,
+    number: u64,
+    place: u64,
+    size: u64,
+    object: &[u8],
+    cells: &[Cell],
+) -> Result<(), AllocError>
+    ensures ok { OnOk result (text.new.items ≡ text.old.items
+        ++ text_of (object_lines number place size object.now cells.now)) }
+    ensures err { OnErr result (text.new.items ≡ text.old.items) }
+{
+    let mut lines = Vec::new(alloc);
+    push_object(&mut lines, number, place, size, object, cells)?;
+    text.extend_from_slice(lines.as_slice())
 }
 
 /// The lines of a closing.
@@ -56,13 +90,66 @@ pub fn write_closing(alloc: Global, c: &Closing) -> Result<Vec<u8>, AllocError>
     ensures { IfOk result (λ text. text.items ≡ text_of (closing_lines c.now)) }
 {
     let mut text = Vec::new(alloc);
-    push_open(&mut text, c.straddle)?;
+    push_closing(&mut text, c)?;
+    Ok(text)
+}
+
+/// Appends the lines of a closing.
+///
+/// A refusal, which comes for want of memory alone, leaves the text unchanged.
+pub fn append_closing(alloc: Global, text: &mut Vec<u8>, c: &Closing) -> Result<(), AllocError>
+    ensures ok { OnOk result (text.new.items ≡ text.old.items ++ text_of (closing_lines c.now)) }
+    ensures err { OnErr result (text.new.items ≡ text.old.items) }
+{
+    let mut lines = Vec::new(alloc);
+    push_closing(&mut lines, c)?;
+    text.extend_from_slice(lines.as_slice())
+}
+
+/// Appends the lines of a header below its first; a refusal may leave some of them.
+fn push_below_version(alloc: Global, text: &mut Vec<u8>, h: &Header) -> Result<(), AllocError>
+    requires { FitsHeader h.now }
+    ensures { OnOk result (text.new.items ≡ text.old.items
+        ++ text_of (lines_below_version h.now)) }
+{
+    push_words(text, b"mode ", mode_of(h.mode))?;
+    push_digest(alloc, text, &h.digest)?;
+    push_line(text, b"x #/#", &[h.x.num, h.x.den])?;
+    push_line(text, b"fraction #", &[u64::from(h.fraction)])?;
+    push_line(text, b"window # #", &[h.min, h.max])?;
+    push_base(text, h)?;
+    Ok(())
+}
+
+/// Appends the lines of a kept object; a refusal may leave some of them.
+fn push_object(
+    text: &mut Vec<u8>,
+    number: u64,
+    place: u64,
+    size: u64,
+    object: &[u8],
+    cells: &[Cell],
+) -> Result<(), AllocError>
+    ensures { OnOk result (text.new.items ≡ text.old.items
+        ++ text_of (object_lines number place size object.now cells.now)) }
+{
+    push_line(text, b"object # at # size #", &[number, place, size])?;
+    push_words(text, b"text ", object)?;
+    push_cells(text, cells)?;
+    Ok(())
+}
+
+/// Appends the lines of a closing; a refusal may leave some of them.
+fn push_closing(text: &mut Vec<u8>, c: &Closing) -> Result<(), AllocError>
+    ensures { OnOk result (text.new.items ≡ text.old.items ++ text_of (closing_lines c.now)) }
+{
+    push_open(text, c.straddle)?;
     push_line(
-        &mut text,
+        text,
         pattern_of(c.word),
         &[c.kept, c.thrown, c.bits, c.turns],
     )?;
-    Ok(text)
+    Ok(())
 }
 
 /// Appends a line: a pattern filled with these numbers.

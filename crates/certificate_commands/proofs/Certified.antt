@@ -12,10 +12,11 @@ use Rattle.bz_model.specs.Cell.{AreCells}
 use Rattle.bz_model.specs.declared.cell.Cell.{Cell}
 use Rattle.bz_model.specs.Fraction as ratio
 use Rattle.bz_model.specs.ObjectText.{object_text}
-use Rattle.bz_model.specs.Spec.{Spec}
+use Rattle.bz_model.specs.Spec.{Spec, Mode}
 use Rattle.class_system.specs.CanonicalText.{canonical_text}
 use Rattle.class_system.specs.Distinct.{AreDistinct}
 use Rattle.class_system.specs.Sound.{IsSound}
+use Rattle.class_system.specs.Views.{spec_mode}
 use Rattle.labelling.specs.LabelsByBits.{bits_in}
 use Rattle.labelling.specs.Spelled.{LabellingsSpell}
 use Rattle.shape_sampler.specs.Visit.{Chooser}
@@ -37,16 +38,16 @@ use Rattle.certificate.specs.declared.certificate.CertEntry.{CertEntry}
 use Rattle.certificate.specs.declared.certificate.Certificate.{Certificate}
 use Rattle.certificate.specs.declared.closing.ClosingWord.TheVariants.{Done}
 use Rattle.certificate.specs.declared.reason.Verdict.TheVariants.{Valid}
-use Rattle.certificate.specs.Certificates.{header_lines, entry_lines, closing_lines, certificate_lines, IsCertificate, FitsEntry}
+use Rattle.certificate.specs.Certificates.{header_lines, object_lines, entry_lines, closing_lines, certificate_lines, IsCertificate, FitsEntry}
 use Rattle.certificate.specs.Checks.{checks, IsTextWith}
 use Rattle.certificate.specs.Completeness.{AreKept, IsOfDrawing}
 use Rattle.certificate.specs.Fields.{IsPrinted}
-use Rattle.certificate.specs.Lines.{text_of}
+use Rattle.certificate.specs.Headers.{code_mode, header_of}
+use Rattle.certificate.specs.Lines.{Line, whole_line, version_line, text_of}
 use Rattle.certificate.specs.Ranges.{EntryInRange, IsInRange}
 use Rattle.certificate.specs.Reading.{IsTextOf}
 use Rattle.certificate.specs.Verdicts.{FirstFails}
 use Rattle.certificate.proofs.Writing.{text-append}
-use Rattle.call_stages.specs.Lines as printed
 use Rattle.sample_command.specs.Drawn.{TapeMet, sampling, IsCourse, AreLinesOf, Lists, drawn_header}
 use Rattle.sample_command.specs.Drawn as drawn
 use Rattle.certificate_commands.proofs.Attempts.{few-thrown}
@@ -55,8 +56,12 @@ use Rattle.certificate_commands.proofs.Choosers.{redrawn-by}
 use Rattle.certificate_commands.proofs.InVersion2.{AreDigests}
 use Rattle.certificate_commands.proofs.KeptEntries.{entry-cells, IsBelow, all-below}
 use Rattle.certificate_commands.proofs.OnceNamed.{all-names}
-use Rattle.certificate_commands.proofs.SampleLines.{header_of, same-mode, entry-text, closing-text, header-text}
 use Rattle.certificate_commands.proofs.ShownTexts.{object-shown}
+
+-- the code's mode stands for it
+same-mode : (m : Mode) → spec_mode (code_mode m) ≡ m
+same-mode Mode.Unlabelled = refl
+same-mode Mode.Labelled = refl
 
 -- An entry with a text, as a certificate has it.
 abbrev pub cert_entry : Entry → (text : List ℕ) → CertEntry
@@ -92,11 +97,12 @@ pub record OfEntries (s : Spec) (es : List Entry) (lines : List ℕ) : Type 0 wh
   pub lines_are : lines ≡ text_of (flat_map entry_lines (cert_entries es texts))
 
 -- one text alone stands in the lines of an entry
-one-text : (number place size : ℕ) (cells : List Cell) (text other : List ℕ) → printed.entry_lines number place size text cells ≡ printed.entry_lines number place size other cells → text ≡ other
+one-text : (number place size : ℕ) (cells : List Cell) (text other : List ℕ) → text_of (object_lines number place size text cells) ≡ text_of (object_lines number place size other cells) → text ≡ other
 one-text number place size cells text other e =
-    let rest = printed.feed ++ printed.cells_line cells in
-    let behind = append_cancel_left (printed.object_line number place size) (codes "text " ++ (text ++ rest)) (codes "text " ++ (other ++ rest)) e in
-    append_cancel_right text other rest (append_cancel_left (codes "text ") (text ++ rest) (other ++ rest) behind)
+    let rest = text_of (Line.Cells cells ∷ []) in
+    let behind = append_cancel_left (whole_line (Line.Object number place size)) (whole_line (Line.Text text) ++ rest) (whole_line (Line.Text other) ++ rest) e in
+    let line = append_cancel_right (whole_line (Line.Text text)) (whole_line (Line.Text other)) rest behind in
+    append_cancel_left (codes "text ") text other (append_cancel_right (codes "text " ++ text) (codes "text " ++ other) (10 ∷ []) line)
 
 -- the text in an entry's lines
 entry-of : (s : Spec) (e : Entry) (lines : List ℕ) → AreLinesOf s e lines → (text : List ℕ) × IsTextWith s e.tokens e.labels text × (lines ≡ text_of (entry_lines (cert_entry e text)))
@@ -105,7 +111,7 @@ entry-of s e lines h =
     let text = object_text s of.body of.object of.belongs e.labels in (
       text,
       record { is_of = of; text_is = λ other. one-text e.number e.place e.size e.cells text (object_text s other.body other.object other.belongs e.labels) (sym (h.same of) ∙ h.same other) },
-      h.same of ∙ sym (entry-text (cert_entry e text)),
+      h.same of,
     )
 
 one-more : (s : Spec) (es : List Entry) (e : Entry) (all : List Entry) (front lines text : List ℕ) → OfEntries s es front → AreLinesOf s e lines → all ≡ es ++ e ∷ [] → text ≡ front ++ lines → OfEntries s all text
@@ -296,20 +302,17 @@ module _ (s : Spec) (sound : IsSound s) (once : AreDistinct s.names) (x : Fracti
       closing = sym all-counted;
     }
 
-    text-is : (lines : List ℕ) → lines ≡ text_of (flat_map entry_lines (cert_entries c.entries texts)) → drawn_header printed.certified_format (setting s x.num x.den F) base limits ++ (lines ++ drawn.closing_lines table c Ending.Done) ≡ text_of (certificate_lines cert)
+    text-is : (lines : List ℕ) → lines ≡ text_of (flat_map entry_lines (cert_entries c.entries texts)) → drawn_header (version_line 2) (setting s x.num x.den F) base limits ++ (lines ++ drawn.closing_lines table c Ending.Done) ≡ text_of (certificate_lines cert)
     text-is lines is =
         let entries = flat_map entry_lines (cert_entries c.entries texts) in
         let last = closing_lines cert.closing in
         let head = text_of (header_lines cert.header) in
-        let end = printed.end_line (codes "done") c.state.kept c.state.thrown c.state.attempt.used c.state.turns in
-        ap (λ t. t ++ (lines ++ end)) (sym (header-text s x F limits.min limits.max base one-each sound.bodies))
-        ∙ ap (λ t. head ++ (lines ++ t)) (sym (closing-text c.state.kept c.state.thrown c.state.attempt.used c.state.turns))
-        ∙ ap (λ t. head ++ (t ++ text_of last)) is
+        ap (λ t. head ++ (t ++ text_of last)) is
         ∙ ap (λ t. head ++ t) (sym (text-append entries last))
         ∙ sym (text-append (header_lines cert.header) (entries ++ last))
 
     -- what such a drawing wrote is its certificate's text, and all tests pass
-    pub certified : (lines text : List ℕ) → lines ≡ text_of (flat_map entry_lines (cert_entries c.entries texts)) → text ≡ drawn_header printed.certified_format (setting s x.num x.den F) base limits ++ (lines ++ drawn.closing_lines table c Ending.Done) → IsCertificateOf s F limits.count text
+    pub certified : (lines text : List ℕ) → lines ≡ text_of (flat_map entry_lines (cert_entries c.entries texts)) → text ≡ drawn_header (version_line 2) (setting s x.num x.den F) base limits ++ (lines ++ drawn.closing_lines table c Ending.Done) → IsCertificateOf s F limits.count text
     certified lines text is all = record {
       certificate = cert;
       is_text = record { is = is-certificate; in_range = in-range; text = all ∙ text-is lines is };

@@ -12,7 +12,6 @@ pub mod Attempts
 pub mod OnceNamed
 pub mod Bases
 pub mod KeptEntries
-pub mod SampleLines
 pub mod Certified
 pub mod SampleDone
 pub mod FastSamples

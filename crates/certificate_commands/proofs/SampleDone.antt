@@ -10,7 +10,7 @@ use Rattle.certificate.specs.declared.reason.Verdict.TheVariants.{Valid}
 use Rattle.certificate.specs.Certificates.{certificate_lines}
 use Rattle.certificate.specs.Checks.{checks}
 use Rattle.certificate.specs.Completeness.{IsOfDrawing}
-use Rattle.certificate.specs.Lines.{text_of}
+use Rattle.certificate.specs.Lines.{version_line, text_of}
 use Rattle.certificate.specs.Reading.{IsTextOf}
 use Rattle.certificate.specs.Verdicts.{FirstFails}
 use Rattle.class_system.specs.CanonicalText.{canonical_text}
@@ -27,7 +27,6 @@ use Rattle.rounded_map.specs.RoundedMap.{setting}
 use Rattle.size_window.specs.Drawing.{AreLimits, limits_of}
 use Rattle.size_window.specs.RunByBits.{Ending, Course}
 use Rattle.size_window.specs.declared.limits.Limits.{Limits}
-use Rattle.call_stages.specs.Lines.{certified_format}
 use Rattle.call_stages.specs.Stages.{Files, AreRead, FileRead, IsAccepted, Judged, Based, HasSpecification}
 use Rattle.call_stages.specs.Stages as stages
 use Rattle.call_stages.specs.declared.status.Status.{Status}
@@ -91,7 +90,7 @@ module _ (laws : CourseLaws) (valid : (s : Spec) (F : ℕ) (c : Certificate) →
 
   module _ (s : Spec) (bytes : List ℕ) (accepted : IsAccepted bytes s) (base : List ℕ) (has : base_of (setting s x.num x.den F) ≡ Some base) where
     abbrev header : List ℕ
-    header = drawn_header certified_format (setting s x.num x.den F) base (limits_of limits)
+    header = drawn_header (version_line 2) (setting s x.num x.den F) base (limits_of limits)
 
     -- a drawing that came to its end with Done
     at-end : (c : Course) (most : ℕ) (ending : Ending) (lines : List ℕ) → ending ≡ Ending.Done → IsDrawn s (ratio x.num x.den) F (level_bounds_from (setting s x.num x.den F) (zeros (setting s x.num x.den F)) base) (limits_of limits) in_call c most ending → Lists s c.entries lines → text ≡ header ++ (lines ++ drawn.closing_lines (level_bounds_from (setting s x.num x.den F) (zeros (setting s x.num x.den F)) base) c ending) → IsCertificateOf s F limits.count text

@@ -1,9 +1,6 @@
 //! The command `migrate`: a valid certificate in version 2.
 ghost use Rattle.std.specs.Prelude.{◌≡◌, ℕ, ◌≤◌, ◌++◌, List, IfOk, OnOk, flat_map};
-ghost use Rattle.class_system.specs.CanonicalText.{canonical_text};
-ghost use Rattle.sha2.specs.Sha256.{sha256};
 ghost use Rattle.certificate.specs.Certificates.{FitsHeader, FitsClosing};
-ghost use Rattle.certificate.specs.Fields.{IsDigest};
 ghost use Rattle.call_stages.specs.Ends.{EndsBy, output};
 ghost use Rattle.call_stages.specs.Outcomes.{MaySay};
 ghost use Rattle.call_stages.specs.Stages.{files};
@@ -19,10 +16,8 @@ use bz_outside::word::Word;
 use call_stages::report::{refused, written};
 use call_stages::status::Status;
 use certificate::certificate::{CertEntry, Certificate, Header};
-use certificate::digest::SpecDigest;
+use certificate::digest::digest_of;
 use certificate::write::{write_closing, write_entry, write_header};
-use class_system::system::System;
-use sha2::{Digest, Sha256};
 use std::alloc::{AllocError, Global};
 use std::sync::ledger::Ledger;
 use well_founded::examination::Founded;
@@ -129,17 +124,6 @@ fn in_version_2(alloc: Global, founded: &Founded, header: Header) -> Result<Head
         names,
         base,
     })
-}
-
-/// The digest of a specification's canonical text.
-fn digest_of(system: &System) -> Result<SpecDigest, AllocError>
-    ensures digest { IfOk result (λ digest. digest ≡ sha256 (canonical_text system.now)) }
-    ensures fits { IfOk result IsDigest }
-{
-    let canonical = system.to_text()?;
-    let digest = SpecDigest::new(Sha256::digest(canonical.as_slice()));
-    let _bytes = digest.bytes();
-    Ok(digest)
 }
 
 /// Appends the lines of entries, in order.

@@ -1,44 +1,26 @@
 -- A pool whose drawings have ended, and one so far, as the command tells of them.
 use Rattle.std.proofs.Common.{◌≡◌, ℕ, ◌+◌, ◌-◌, ◌≤◌, arith, List, map, refl, sym, ap, subst, ◌∙◌}
 use Rattle.std.specs.Prelude.{Option, Some}
-use Rattle.bz_model.specs.declared.cell.Bounds.{Bounds}
 use Rattle.bz_model.specs.Fraction.{ratio}
 use Rattle.bit_tape.specs.Tape.{TapeSource, bits_of}
 use Rattle.class_system.specs.Sound.{IsSound}
 use Rattle.size_window.specs.declared.ending.Ending.{Ending as Told}
 use Rattle.size_window.specs.declared.ending.Ending.TheVariants as told
-use Rattle.size_window.specs.declared.ending.Straddle.TheVariants as straddle
-use Rattle.size_window.specs.declared.turned.Turned.TheVariants as answer
 use Rattle.size_window.specs.RunByBits.{RunState}
 use Rattle.size_window.specs.Drawing.{AreLimits, ending_of}
-use Rattle.size_window.specs.Turn.{TellsOpen, entry_of, turns_of}
+use Rattle.size_window.specs.Turn.{entry_of, turns_of}
 use Rattle.session_pool.specs.Member.{MemberState}
 use Rattle.session_pool.specs.Interleaving.{Shared, setting, EndedRightly}
-use Rattle.call_stages.specs.Lines.{open_line}
 use Rattle.call_stages.specs.Stages.{files}
-use Rattle.sample_command.specs.Drawn.{Lists, closing_lines, open_lines}
-use Rattle.sample_command.specs.UnderWay.{met, has_failed, IsCourseSoFar, IsAtEnd, told_open}
+use Rattle.sample_command.specs.Drawn.{Lists, closing_lines}
+use Rattle.sample_command.specs.UnderWay.{met, has_failed, IsCourseSoFar, IsAtEnd}
 use Rattle.sample_command.proofs.AtTheEnd.{course-of, drawn-at-end, closing-is}
+use Rattle.sample_command.proofs.OneTurn.{open-told}
 use Rattle.sample_command.proofs.TapeEnds.{Chosen, EndLaws}
 use Rattle.pool_command.specs.PoolCommand.{PoolSetting, PoolCourse, AreInCall, IsCourseIn, IsDrawnIn, table_of}
 use Rattle.pool_command.specs.UnderWay.{AreMoments, IsMemberUnderWay, asked_until}
 use Rattle.pool_command.specs.Schedule.{asks_to_end}
 use Rattle.pool_command.specs.Pages.{closing_by}
-
--- the bounds that an ending tells are those of the table
-abbrev bounds : (lo hi : ℕ) → Bounds
-bounds lo hi = record { lo = lo; hi = hi }
-
-same-bounds : (b : Bounds) (lo hi : ℕ) → lo ≡ b.lo → hi ≡ b.hi → bounds lo hi ≡ b
-same-bounds b lo hi e f = ap (λ l. bounds l hi) e ∙ ap (λ h. bounds b.lo h) f
-
-open-told : (table : (level node : ℕ) → Bounds) (e : Told) → TellsOpen table (answer.Finished e) → told_open e ≡ open_lines table (ending_of e)
-open-told table told.Done h = refl
-open-told table told.TapeEnded h = refl
-open-told table (told.Undecided (straddle.Node node cell lo hi)) h = ap (λ b. open_line node.0 cell b) (same-bounds (table 6 node.0) lo hi h.lower h.upper)
-open-told table (told.Undecided (straddle.Label m cell)) h = refl
-open-told table told.TurnLimit h = refl
-open-told table told.ReadFault h = refl
 
 -- what the drawings of a pool over a base share
 abbrev pub shared_of : PoolSetting → (contents : List ℕ → Option (List ℕ)) → Shared

@@ -13,7 +13,7 @@ use Rattle.size_window.specs.RunByBits.{Course}
 use Rattle.size_window.specs.Drawing.{limits_of}
 use Rattle.size_window.specs.declared.limits.Limits.{Limits}
 use Rattle.call_stages.specs.Ends.{output, EndsBy}
-use Rattle.call_stages.specs.Lines.{certified_format}
+use Rattle.certificate.specs.Lines.{version_line}
 use Rattle.call_stages.specs.Outcomes.{IsOne}
 use Rattle.call_stages.specs.Stages.{Files, IsCalm, AreCalm, Based}
 use Rattle.call_stages.specs.declared.status.Status.{Status}
@@ -103,7 +103,7 @@ module _ (p : PoolSetting) (f : Files) (tapes : List (List ℕ)) (d e : ℕ → 
       ∙ ap (λ n. session_line i ++ ((e i).lines ++ closing_lines (table_of p) (e i).so_far.course n)) same.ending
 
   pub text-alike : drawings_text p (length tapes) d ≡ drawings_text p (length tapes) e
-  text-alike = ap (λ t. drawn_header certified_format p.setting p.base p.limits ++ t) (below-alike (session_lines (table_of p) d) (session_lines (table_of p) e) (length tapes) (λ i few. session-alike i (all-alike i few)))
+  text-alike = ap (λ t. drawn_header (version_line 2) p.setting p.base p.limits ++ t) (below-alike (session_lines (table_of p) d) (session_lines (table_of p) e) (length tapes) (λ i few. session-alike i (all-alike i few)))
 
   pub asks-alike : (i : ℕ) → i < length tapes → asks_of d i ≡ asks_of e i
   asks-alike i few = let same = all-alike i few in ap (λ c. asks_to_end (d i).ending c.state.turns) same.course ∙ ap (λ n. asks_to_end n (e i).so_far.course.state.turns) same.ending

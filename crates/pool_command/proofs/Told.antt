@@ -12,7 +12,8 @@ use Rattle.size_window.specs.Drawing.{AreLimits, ending_of}
 use Rattle.session_pool.specs.Member.{MemberState}
 use Rattle.session_pool.specs.Pool.{ending_at, ending_of_member, sources_of}
 use Rattle.session_pool.specs.Interleaving.{EndedRightly, RoseBy}
-use Rattle.call_stages.specs.Lines.{lines_below, certified_format}
+use Rattle.certificate.specs.Lines.{version_line}
+use Rattle.call_stages.specs.Lines.{lines_below}
 use Rattle.call_stages.specs.Outcomes.{IsWithin}
 use Rattle.call_stages.specs.Stages.{files}
 use Rattle.call_stages.specs.declared.status.Status.{Status}
@@ -156,7 +157,7 @@ module _ (p : PoolSetting) (contents : List ℕ → Option (List ℕ)) (begun be
         rose-from (failures_from name (λ i. (drawing-at i).ending) 0 names) (begun name) (before name) (n.counts name) (earlier name) (subst (λ k. RoseBy k (begun name) (n.counts name)) (sym same) (h.after.failed name))
 
     -- all have ended
-    pub ended-told : (schedule order header sessions text : List ℕ) (status : Status) → 1 ≤ length names → order ≡ ends_in (asked_by n.pool) [] (all_asked (asked_by n.pool) (named (length names) schedule) (length names)) → header ≡ drawn_header certified_format p.setting p.base p.limits → sessions ≡ header ++ lines_below (λ i. told_session n.pool i (lines i)) (length names) → text ≡ sessions ++ (order_line order ++ pool_end_line) → status ≡ first_status (λ i. status_by (ending_at n.pool i)) (length names) → IsWithin (PoolDrawn p (files contents before n.counts) names schedule) status text first n.ticks
+    pub ended-told : (schedule order header sessions text : List ℕ) (status : Status) → 1 ≤ length names → order ≡ ends_in (asked_by n.pool) [] (all_asked (asked_by n.pool) (named (length names) schedule) (length names)) → header ≡ drawn_header (version_line 2) p.setting p.base p.limits → sessions ≡ header ++ lines_below (λ i. told_session n.pool i (lines i)) (length names) → text ≡ sessions ++ (order_line order ++ pool_end_line) → status ≡ first_status (λ i. status_by (ending_at n.pool i)) (length names) → IsWithin (PoolDrawn p (files contents before n.counts) names schedule) status text first n.ticks
     ended-told schedule order header sessions text status some order_is header_is sessions_are text_is status_is = record {
       ticks = raising_ticks (length names) course-at;
       is = pooled.ended drawing-at (record { each = λ i name is. drawn-in-at i name is (slice_get n.pool i) refl; failed = all-failed }) (record {
@@ -166,7 +167,7 @@ module _ (p : PoolSetting) (contents : List ℕ → Option (List ℕ)) (begun be
             ∙ ap (λ t. t ++ (order_line order ++ pool_end_line)) (
             sessions_are
             ∙ ap (λ t. t ++ lines_below (λ i. told_session n.pool i (lines i)) (length names)) header_is
-            ∙ ap (λ t. drawn_header certified_format p.setting p.base p.limits ++ t) (below-alike (λ i. told_session n.pool i (lines i)) (session_lines (table_of p) drawing-at) (length names) (λ i few. session-at i few (slice_get n.pool i) refl)))
+            ∙ ap (λ t. drawn_header (version_line 2) p.setting p.base p.limits ++ t) (below-alike (λ i. told_session n.pool i (lines i)) (session_lines (table_of p) drawing-at) (length names) (λ i few. session-at i few (slice_get n.pool i) refl)))
             ∙ ap (λ o. drawings_text p (length names) drawing-at ++ (order_line o ++ pool_end_line)) (order_is ∙ order-alike (asks_of drawing-at) (asked_by n.pool) (length names) schedule some (λ i few. sym (asks-at i few (slice_get n.pool i) refl)));
         ticks_are = refl;
       });

@@ -6,19 +6,21 @@ use Rattle.object_store.specs.Tokens.{IsOf}
 use Rattle.session_pool.specs.Member.{MemberState}
 use Rattle.size_window.specs.declared.ending.Ending.{Ending}
 use Rattle.size_window.specs.Drawing.{ending_of}
+use Rattle.certificate.specs.Certificates.{closing_lines}
+use Rattle.certificate.specs.Lines.{text_of}
 use Rattle.size_window.specs.Turn.{HasLabels, entry_of}
-use Rattle.call_stages.specs.Lines.{end_line, lines_below}
+use Rattle.call_stages.specs.Lines.{lines_below}
 use Rattle.call_stages.specs.declared.status.Status.{Status}
-use Rattle.sample_command.specs.Drawn.{Lists, ending_word, ending_status}
-use Rattle.sample_command.specs.UnderWay.{told_open}
+use Rattle.sample_command.specs.Drawn.{Lists, ending_status}
+use Rattle.sample_command.specs.UnderWay.{told_closing}
 use Rattle.pool_command.specs.PoolCommand.{session_line}
 
 -- The closing of a drawing that ended; none while it goes on.
 abbrev pub closing_by : MemberState → Option Ending → List ℕ
 closing_by m None = []
 closing_by m (Some ending) =
-    told_open ending ++ end_line (ending_word (ending_of ending)) m.drawing.kept m.drawing.thrown
-    m.tape.used m.drawing.turns
+    text_of (closing_lines (told_closing ending m.drawing.kept m.drawing.thrown m.tape.used
+    m.drawing.turns))
 
 abbrev pub closing_of_member : Option MemberState → List ℕ
 closing_of_member None = []

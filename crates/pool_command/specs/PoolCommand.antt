@@ -7,6 +7,7 @@ use Rattle.bz_model.specs.Fraction.{ratio}
 use Rattle.bz_model.specs.declared.cell.Bounds.{Bounds}
 use Rattle.bz_model.specs.declared.fraction.Fraction.{Fraction}
 use Rattle.bit_tape.specs.Tape.{TapeSource}
+use Rattle.certificate.specs.Lines.{version_line}
 use Rattle.choice_draw.specs.Decision.{level_for}
 use Rattle.oracle_memo.specs.Levels.{level_bounds, cost_at}
 use Rattle.rounded_map.specs.RoundedMap.{Setting, setting}
@@ -17,7 +18,7 @@ use Rattle.size_window.specs.declared.limits.Limits.{Limits}
 use Rattle.sample_command.specs.Drawn.{IsCourse, IsDrawn, Lists, closing_lines, drawn_header}
 use Rattle.sample_command.specs.Drawn.{ending_status}
 use Rattle.sample_command.specs.UnderWay.{met}
-use Rattle.call_stages.specs.Lines.{feed, lines_below, certified_format}
+use Rattle.call_stages.specs.Lines.{feed, lines_below}
 use Rattle.call_stages.specs.Outcomes.{Outcome, Says}
 use Rattle.call_stages.specs.Refusals.{number_field}
 use Rattle.call_stages.specs.Stages.{Files, FileRead, Specified, Based}
@@ -148,7 +149,7 @@ asks_of drawings number = asks_to_end (drawings number).ending
 -- The text before the order: the header, and the lines of the n drawings.
 abbrev pub drawings_text : PoolSetting → (n : ℕ) → (drawings : ℕ → PoolDrawing) → List ℕ
 drawings_text p n drawings =
-    drawn_header certified_format p.setting p.base p.limits
+    drawn_header (version_line 2) p.setting p.base p.limits
     ++ lines_below (session_lines (table_of p) drawings) n
 
 -- The text of a pool: the header, the lines of the n drawings, the order in which they ended by the

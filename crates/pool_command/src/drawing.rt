@@ -110,7 +110,7 @@ fn reported<const F: u32, S: Shelf, L: Ledger>(
     a_trace_starts_with_its_drawing();
     a_course_uses_few_bits();
     the_tape_ends_where_its_bits_are_used();
-    let header = header::<F>(alloc, "boltzmann 2", system, x, limits, base.values())?;
+    let header = header::<F>(alloc, system, x, limits, base.values())?;
     let mut memo = Memo::make(alloc, founded, x, base)?;
     let tapes = tapes_over(alloc, names)?;
     let mut pool = Pool::make(alloc, founded, limits, tapes)?;

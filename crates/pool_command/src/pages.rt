@@ -14,7 +14,8 @@ ghost use Rattle.pool_command.specs.Pages.{told_session, closing_of_member, stat
 ghost use Rattle.pool_command.specs.Pages.{AreLinesOfMember, AreAppended, AllCanPrint};
 
 use call_stages::status::Status;
-use sample_command::entries::{append_entry, closing, status_of};
+use certificate::write::append_closing;
+use sample_command::entries::{append_entry, closing_of, status_of};
 use session_pool::pool::Pool;
 use size_window::turned::Entry;
 use std::alloc::{AllocError, Global};
@@ -78,7 +79,7 @@ fn append_session(
     let first = session_line(alloc, number)?;
     text.extend_from_slice(first.as_bytes())?;
     append_entries(alloc, founded, pool.result(number).entries, text)?;
-    append_closing(alloc, pool, number, text)?;
+    append_end(alloc, pool, number, text)?;
     Ok(())
 }
 
@@ -108,7 +109,7 @@ fn append_entries(
 }
 
 /// Appends the closing of a drawing, where it has ended.
-fn append_closing(
+fn append_end(
     alloc: Global,
     pool: &Pool,
     number: usize,
@@ -122,9 +123,8 @@ fn append_closing(
     let Some(ending) = drawing.ending else {
         return Ok(());
     };
-    let lines = closing(alloc, ending, drawing.counts, drawing.used)?;
-    text.extend_from_slice(lines.as_bytes())?;
-    Ok(())
+    let closing = closing_of(ending, drawing.counts, drawing.used);
+    append_closing(alloc, text, &closing)
 }
 
 /// The line of the order in which the drawings ended, and the last line.

@@ -8,9 +8,14 @@ use Rattle.bz_outside.specs.Outside.{Rose, Appends, AppendsFront}
 use Rattle.bit_tape.specs.Tape.{TapeState, Belongs, CountsFault, bits_of}
 use Rattle.choice_draw.specs.Decision.{level_for}
 use Rattle.class_system.specs.Sound.{IsSound}
+use Rattle.certificate.specs.declared.closing.Closing.{Closing}
+use Rattle.certificate.specs.declared.closing.ClosingWord.{ClosingWord}
+use Rattle.certificate.specs.Certificates as certificate
+use Rattle.certificate.specs.Lines.{text_of}
 use Rattle.shape_sampler.specs.Answer.{ChoosesBy}
 use Rattle.size_window.specs.declared.ending.Ending.{Ending as Told}
 use Rattle.size_window.specs.declared.ending.Ending.TheVariants as told
+use Rattle.size_window.specs.declared.ending.Straddle.{Straddle}
 use Rattle.size_window.specs.RunByBits.{Limits, RunState, Ending, start, at_start}
 use Rattle.size_window.specs.Drawing.{AreLimits, DrawingState, DrawingBelongs, state_of, ending_of}
 use Rattle.size_window.specs.Ideally.{chooser_of}
@@ -18,14 +23,13 @@ use Rattle.size_window.specs.Trace.{EndsAt, TracesStart}
 use Rattle.size_window.proofs.Turning.{if-told, attempt-used}
 use Rattle.size_window.proofs.Going.{goes-start}
 use Rattle.well_founded.specs.EmptyObjects.{has_empty}
-use Rattle.sample_command.specs.Drawn.{TapeMet, is_fault, IsCourse, IsDrawn, Drawn, Lists, closing_lines, open_lines, ending_word, ending_status}
+use Rattle.sample_command.specs.Drawn.{TapeMet, is_fault, IsCourse, IsDrawn, Drawn, Lists, closing_lines, straddle_of, closing_word, ending_status}
 use Rattle.sample_command.specs.Drawn as drawn
 use Rattle.call_stages.specs.Ends.{output, EndsBy, IsHeld}
 use Rattle.call_stages.specs.Ends as ends
-use Rattle.call_stages.specs.Lines.{end_line}
 use Rattle.call_stages.specs.Outcomes.{Says, MaySay}
 use Rattle.call_stages.specs.Outcomes as outcomes
-use Rattle.sample_command.specs.UnderWay.{has_failed, IsCourseSoFar, CanTurn, IsAtEnd, IsUnderWay, IsBroken, told_open}
+use Rattle.sample_command.specs.UnderWay.{has_failed, IsCourseSoFar, CanTurn, IsAtEnd, IsUnderWay, IsBroken, told_open, told_closing}
 use Rattle.call_stages.specs.Reports.{stop_status}
 use Rattle.call_stages.specs.declared.report.Stop.{Stop}
 use Rattle.call_stages.specs.declared.report.Stop.TheVariants as stop
@@ -90,9 +94,14 @@ same-fault (Some (told.Undecided straddle)) = refl
 same-fault (Some told.TurnLimit) = refl
 same-fault (Some told.ReadFault) = refl
 
--- lines of equal counts
-same-closing : (o p word : List ℕ) (k l m n u v r q : ℕ) → o ≡ p → k ≡ l → m ≡ n → u ≡ v → r ≡ q → o ++ end_line word k m u r ≡ p ++ end_line word l n v q
-same-closing o p word k l m n u v r q a b c d e = cc
+-- a closing
+abbrev closing : ClosingWord → Option Straddle → (kept thrown bits turns : ℕ) → Closing
+closing word straddle kept thrown bits turns = record { word = word; straddle = straddle; kept = kept; thrown = thrown; bits = bits; turns = turns }
+
+-- closings of equal counts
+same-closing : (word : ClosingWord) (o p : Option Straddle) (k l m n u v r q : ℕ) → o ≡ p → k ≡ l → m ≡ n → u ≡ v → r ≡ q → closing word o k m u r ≡ closing word p l n v q
+same-closing word o p k l m n u v r q a b c d e =
+    ap (λ z. closing word z k m u r) a ∙ ap (λ z. closing word p z m u r) b ∙ ap (λ z. closing word p l z u r) c ∙ ap (λ z. closing word p l n z r) d ∙ ap (closing word p l n v) e
 
 module _ (s : Spec) (x : Fraction) (F : ℕ) (table : (level node : ℕ) → Bounds) (limits : Limits) (t : TapeMet) (chosen : Chosen s F table) (d : DrawingState) (used most : ℕ) (h : IsCourseSoFar s x F table limits (bits_of t.source t.contents) d used most) where
   ending-is : h.course.state.ending ≡ option_map ending_of d.ending
@@ -132,14 +141,14 @@ module _ (s : Spec) (x : Fraction) (F : ℕ) (table : (level node : ℕ) → Bou
       }
 
   -- the lines after the last object
-  pub closing-is : (e : Told) (kept thrown bits turns : ℕ) → IsAtEnd table limits d e → kept ≡ d.kept → thrown ≡ d.thrown → bits ≡ used → turns ≡ d.turns → told_open e ++ end_line (ending_word (ending_of e)) kept thrown bits turns ≡ closing_lines table h.course (ending_of e)
+  pub closing-is : (e : Told) (kept thrown bits turns : ℕ) → IsAtEnd table limits d e → kept ≡ d.kept → thrown ≡ d.thrown → bits ≡ used → turns ≡ d.turns → text_of (certificate.closing_lines (told_closing e kept thrown bits turns)) ≡ closing_lines table h.course (ending_of e)
   closing-is e kept thrown bits turns end is_kept is_thrown are_bits are_turns =
       let at = h.drawing.state in
       let c = h.course in
       let kept_at : c.state.kept ≡ d.kept = ap (λ (st : RunState). st.kept) at in
       let thrown_at : c.state.thrown ≡ d.thrown = ap (λ (st : RunState). st.thrown) at in
       let turns_at : c.state.turns ≡ d.turns = ap (λ (st : RunState). st.turns) at in
-      same-closing (told_open e) (open_lines table (ending_of e)) (ending_word (ending_of e)) kept c.state.kept thrown c.state.thrown bits c.state.attempt.used turns c.state.turns end.open_is (is_kept ∙ sym kept_at) (is_thrown ∙ sym thrown_at) (are_bits ∙ sym used-is) (are_turns ∙ sym turns_at)
+      ap (λ (z : Closing). text_of (certificate.closing_lines z)) (same-closing (closing_word (ending_of e)) (told_open e) (straddle_of table (ending_of e)) kept c.state.kept thrown c.state.thrown bits c.state.attempt.used turns c.state.turns end.open_is (is_kept ∙ sym kept_at) (is_thrown ∙ sym thrown_at) (are_bits ∙ sym used-is) (are_turns ∙ sym turns_at))
 
 -- a drawing that is under way, of which a prefix was written, may be broken off
 pub broken-off : (s : Spec) (x : Fraction) (F : ℕ) (table : (level node : ℕ) → Bounds) (limits : Limits) (told : Option (ℕ → Option Bool)) (d : DrawingState) (used raised : ℕ) (header : List ℕ) (from now after : Option (List ℕ)) (page : List ℕ) (h : IsUnderWay s x F table limits told d used raised header from now page) → AppendsFront from after (header ++ h.lines) → IsBroken s x F table limits told d used raised header from after

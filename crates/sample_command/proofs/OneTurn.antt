@@ -2,13 +2,16 @@
 use Rattle.std.proofs.Common.{◌≡◌, ℕ, zero, suc, ◌+◌, ◌-◌, ◌*◌, ◌≤◌, max, arith, Bool, List, [], ◌++◌, append-nil, refl, sym, ◌∙◌, ap, subst}
 use Rattle.std.specs.Prelude.{Option, Some, None, IfSome, option_to_list}
 use Rattle.bz_model.specs.declared.cell.Bounds.{Bounds}
+use Rattle.bz_model.specs.declared.cell.Cell.{Cell}
 use Rattle.bz_model.specs.Fraction.{Fraction}
 use Rattle.bz_model.specs.Spec.{Spec}
 use Rattle.bit_tape.specs.Tape.{TapeState, Belongs}
+use Rattle.class_system.specs.declared.ids.ExprId.{ExprId}
 use Rattle.class_system.specs.Sound.{IsSound}
 use Rattle.object_store.specs.Tokens.{IsOf}
 use Rattle.size_window.specs.declared.ending.Ending.{Ending as Told}
 use Rattle.size_window.specs.declared.ending.Ending.TheVariants as told
+use Rattle.size_window.specs.declared.ending.Straddle.{Straddle}
 use Rattle.size_window.specs.declared.ending.Straddle.TheVariants as straddle
 use Rattle.size_window.specs.declared.turned.Turned.{Turned as Answer}
 use Rattle.size_window.specs.declared.turned.Turned.TheVariants as answer
@@ -18,10 +21,9 @@ use Rattle.size_window.specs.Follows.{GoesIdeally}
 use Rattle.size_window.specs.Trace.{TurnsContinue}
 use Rattle.size_window.specs.Turn.{IsTurn, IsCounted, told_entry, turns_by, turns_of, ending_by, TellsOpen, is_fault, node_bits, most_bits}
 use Rattle.size_window.proofs.Going.{ideal-fits}
-use Rattle.sample_command.specs.Drawn.{AreLinesOf, Lists, open_lines}
+use Rattle.sample_command.specs.Drawn.{AreLinesOf, Lists, straddle_of}
 use Rattle.sample_command.specs.Drawn as drawn
 use Rattle.sample_command.specs.UnderWay.{IsCourseSoFar, HasCourse, CanTurn, IsAtEnd, has_failed, told_open}
-use Rattle.call_stages.specs.Lines.{open_line}
 use Rattle.sample_command.proofs.KeptObjects.{kept-is-of}
 
 -- the lines of the entry that a turn kept, if it kept one
@@ -70,17 +72,15 @@ module _ (s : Spec) (x : Fraction) (F : ℕ) (table : (level node : ℕ) → Bou
     pub lines-on : (lines more : List ℕ) → Lists s p.course.entries lines → Appended s (told_entry a) more → Lists s so-far-on.course.entries (lines ++ more)
     lines-on lines more l appended = subst (λ es. Lists s es (lines ++ more)) (sym entries-on) (lists-on s p.course.entries lines more (told_entry a) l appended)
 
--- the bounds that an ending tells are those of the table
-abbrev bounds : (lo hi : ℕ) → Bounds
-bounds lo hi = record { lo = lo; hi = hi }
+-- the number that an ending tells, with these bounds
+abbrev at_node : ExprId → Cell → (lo hi : ℕ) → Option Straddle
+at_node node cell lo hi = Some (straddle.Node node cell lo hi)
 
-same-bounds : (b : Bounds) (lo hi : ℕ) → lo ≡ b.lo → hi ≡ b.hi → bounds lo hi ≡ b
-same-bounds b lo hi e f = ap (λ l. bounds l hi) e ∙ ap (λ h. bounds b.lo h) f
-
-open-told : (table : (level node : ℕ) → Bounds) (e : Told) → TellsOpen table (answer.Finished e) → told_open e ≡ open_lines table (ending_of e)
+-- the number that an ending tells has the bounds of the table
+pub open-told : (table : (level node : ℕ) → Bounds) (e : Told) → TellsOpen table (answer.Finished e) → told_open e ≡ straddle_of table (ending_of e)
 open-told table told.Done h = refl
 open-told table told.TapeEnded h = refl
-open-told table (told.Undecided (straddle.Node node cell lo hi)) h = ap (λ b. open_line node.0 cell b) (same-bounds (table 6 node.0) lo hi h.lower h.upper)
+open-told table (told.Undecided (straddle.Node node cell lo hi)) h = ap (λ l. at_node node cell l hi) h.lower ∙ ap (at_node node cell (table 6 node.0).lo) h.upper
 open-told table (told.Undecided (straddle.Label m cell)) h = refl
 open-told table told.TurnLimit h = refl
 open-told table told.ReadFault h = refl

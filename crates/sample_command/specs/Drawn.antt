@@ -1,6 +1,6 @@
 -- Drawings: what they are functions of, why they end, and what they write.
 use Rattle.std.specs.Prelude.{◌≡◌, ℕ, ◌*◌, Bool, true, false, List, [], ◌∷◌, ◌++◌, length, Option}
-use Rattle.std.specs.Prelude.{Some, IfSome, codes}
+use Rattle.std.specs.Prelude.{Some, None, IfSome, codes}
 use Rattle.bz_model.specs.Fraction.{Fraction}
 use Rattle.bz_model.specs.Spec.{Spec}
 use Rattle.bz_model.specs.ObjectText.{object_text}
@@ -8,6 +8,8 @@ use Rattle.bz_model.specs.declared.cell.Bounds.{Bounds}
 use Rattle.bit_tape.specs.Given.{HasBits, Gave}
 use Rattle.bit_tape.specs.Tape.{TapeSource, bits_of, CountsFault, HasFault}
 use Rattle.object_store.specs.Tokens.{IsOf}
+use Rattle.size_window.specs.declared.ending.Straddle.{Straddle}
+use Rattle.size_window.specs.declared.ending.Straddle.TheVariants as straddle
 use Rattle.size_window.specs.RunByBits.{Limits, Sampling, Entry, Course, Ending, Open}
 use Rattle.size_window.specs.Ideally.{chooser_of}
 use Rattle.well_founded.specs.EmptyObjects.{has_empty}
@@ -15,9 +17,15 @@ use Rattle.size_window.specs.Follows.{Follows}
 use Rattle.size_window.specs.Trace.{Spells, EndsAt, IsCourseOver}
 use Rattle.choice_draw.specs.Decision.{level_for}
 use Rattle.rounded_map.specs.RoundedMap.{Setting}
+use Rattle.certificate.specs.declared.closing.Closing.{Closing}
+use Rattle.certificate.specs.declared.closing.ClosingWord.{ClosingWord}
+use Rattle.certificate.specs.declared.closing.ClosingWord.TheVariants as closing
+use Rattle.certificate.specs.Certificates.{object_lines}
+use Rattle.certificate.specs.Certificates as certificate
+use Rattle.certificate.specs.Headers.{drawn_lines}
+use Rattle.certificate.specs.Lines.{text_of}
 use Rattle.call_stages.specs.Outcomes.{Says}
-use Rattle.call_stages.specs.Lines.{header_lines, window_line, base_lines, entry_lines, open_line}
-use Rattle.call_stages.specs.Lines.{open_label_line, end_line}
+use Rattle.call_stages.specs.Lines.{feed}
 use Rattle.call_stages.specs.declared.status.Status.{Status}
 
 -- A drawing is a function of the specification, a table of bounds of its nodes in units of 2^-F,
@@ -91,13 +99,14 @@ pub record IsDrawn (s : Spec) (x : Fraction) (F : ℕ) (table : (level node : �
     pub out_of_turns : ending ≡ Ending.TurnLimit → c.state.turns ≡ limits.turns
     pub used_up : ending ≡ Ending.TapeEnded → AreAll t.source t.contents c.state.attempt.used
 
--- The lines of an entry state its number, place and size, its object's text, and its cells. The
--- object is the one that its tokens spell, in whichever way that is seen.
+-- The lines of an entry are those of a certificate: they state its number, place and size, its
+-- object's text, and its cells. The object is the one that its tokens spell, in whichever way that
+-- is seen.
 pub record AreLinesOf (s : Spec) (e : Entry) (lines : List ℕ) : Type 0 where
   pub is_of : IsOf s 0 e.tokens
   pub same : (of : IsOf s 0 e.tokens)
-      → lines ≡ entry_lines e.number e.place e.size
-      (object_text s of.body of.object of.belongs e.labels) e.cells
+      → lines ≡ text_of (object_lines e.number e.place e.size
+      (object_text s of.body of.object of.belongs e.labels) e.cells)
 
 -- The lines of entries, in order.
 pub data Lists (s : Spec) : List Entry → List ℕ → Type 0 where
@@ -107,7 +116,15 @@ pub data Lists (s : Spec) : List Entry → List ℕ → Type 0 where
       → AreLinesOf s last lines → entries ≡ before ++ last ∷ [] → text ≡ front ++ lines
       → Lists s entries text
 
--- Why a drawing ended, as its last line states it.
+-- Why a drawing ended, as a certificate names it.
+abbrev pub closing_word : Ending → ClosingWord
+closing_word Ending.Done = closing.Done
+closing_word Ending.TapeEnded = closing.TapeEnded
+closing_word (Ending.Undecided left_open) = closing.Undecided
+closing_word Ending.TurnLimit = closing.TurnLimit
+closing_word Ending.ReadFault = closing.ReadFault
+
+-- The same as a word.
 abbrev pub ending_word : Ending → List ℕ
 ending_word Ending.Done = codes "done"
 ending_word Ending.TapeEnded = codes "tape-ended"
@@ -123,24 +140,35 @@ ending_status (Ending.Undecided left_open) = Status.Undecided
 ending_status Ending.TurnLimit = Status.TurnLimit
 ending_status Ending.ReadFault = Status.ReadFault
 
--- The line of a number that was left open: at a node, with the node's bounds at level 6, or for a
--- label. Other endings have none.
-abbrev pub open_lines : (table : (level node : ℕ) → Bounds) → Ending → List ℕ
-open_lines table (Ending.Undecided (Open.AtNode node cell)) = open_line node cell (table 6 node)
-open_lines table (Ending.Undecided (Open.AtLabel m cell)) = open_label_line m cell
-open_lines table ending = []
+-- The number that was left open, if one was: at a node, with the node's bounds at level 6, or for a
+-- label.
+abbrev pub straddle_of : (table : (level node : ℕ) → Bounds) → Ending → Option Straddle
+straddle_of table (Ending.Undecided (Open.AtNode node cell)) =
+    Some (straddle.Node (record { 0 = node }) cell (table 6 node).lo (table 6 node).hi)
+straddle_of table (Ending.Undecided (Open.AtLabel m cell)) = Some (straddle.Label m cell)
+straddle_of table ending = None
 
--- The lines after the last object: that of a number that was left open, if one was, and how the
--- drawing ended.
+-- The closing of a drawing: why it ended, the number that was left open, if one was, and its counts.
+abbrev pub closing_of : (table : (level node : ℕ) → Bounds) → Course → Ending → Closing
+closing_of table c ending =
+    record {
+      word = closing_word ending;
+      straddle = straddle_of table ending;
+      kept = c.state.kept;
+      thrown = c.state.thrown;
+      bits = c.state.attempt.used;
+      turns = c.state.turns;
+    }
+
+-- The lines after the last object are those of a certificate's closing.
 abbrev pub closing_lines : (table : (level node : ℕ) → Bounds) → Course → Ending → List ℕ
-closing_lines table c ending = open_lines table ending
-    ++ end_line (ending_word ending) c.state.kept c.state.thrown c.state.attempt.used c.state.turns
+closing_lines table c ending = text_of (certificate.closing_lines (closing_of table c ending))
 
--- The lines before the first object: the header that begins with this format, the window of sizes,
--- and the base.
+-- The lines before the first object: the format, and below it the lines of a certificate's header,
+-- which state the specification, x, the fraction bits, the window of sizes, and the base.
 abbrev pub drawn_header : (format : List ℕ) → Setting → (base : List ℕ) → Limits → List ℕ
-drawn_header format t base limits = header_lines format t.spec t.num t.den t.bits
-    ++ (window_line limits.min limits.max ++ base_lines t.spec base)
+drawn_header format t base limits = (format ++ feed)
+    ++ text_of (drawn_lines t.spec t.num t.den t.bits limits.min limits.max base)
 
 -- Objects are drawn by a table of bounds whose levels cost so much to raise, after these lines of a
 -- header. The drawing comes to its end: the header, the lines of the kept objects and the closing

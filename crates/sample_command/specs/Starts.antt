@@ -4,7 +4,8 @@ use Rattle.std.specs.Prelude.{◌≡◌, ℕ, ◌+◌, ◌*◌, Bool, true, fals
 use Rattle.kleene_lower.specs.Lower.{zeros}
 use Rattle.fast_lower.specs.FastVector.{fast_vector}
 use Rattle.rounded_map.specs.RoundedMap.{Setting}
-use Rattle.call_stages.specs.Lines.{certified_format, fast_format}
+use Rattle.certificate.specs.Lines.{version_line}
+use Rattle.call_stages.specs.Lines.{fast_format}
 use Rattle.call_stages.specs.Outcomes.{Outcome, Says}
 use Rattle.call_stages.specs.Refusals.{no_fast_line}
 use Rattle.call_stages.specs.declared.status.Status.{Status}
@@ -14,9 +15,9 @@ abbrev pub start_of : (fast : Bool) → Setting → (base : List ℕ) → Option
 start_of false t base = Some (zeros t)
 start_of true t base = fast_vector t base
 
--- The first line of a drawing.
+-- The first line of a drawing: that of a certificate, or with `--fast` one that `verify` refuses.
 abbrev pub format_of : (fast : Bool) → List ℕ
-format_of false = certified_format
+format_of false = version_line 2
 format_of true = fast_format
 
 -- The most steps of the search for a start. For a fast vector these are 4096 upper sweeps and a

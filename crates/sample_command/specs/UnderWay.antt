@@ -10,14 +10,14 @@ use Rattle.class_system.specs.Sound.{IsSound}
 use Rattle.size_window.specs.declared.ending.Ending.{Ending}
 use Rattle.size_window.specs.declared.ending.Ending.TheVariants.{Done, Undecided, TurnLimit}
 use Rattle.size_window.specs.declared.ending.Ending.TheVariants.{ReadFault}
-use Rattle.size_window.specs.declared.ending.Straddle.TheVariants as straddle
+use Rattle.size_window.specs.declared.ending.Straddle.{Straddle}
 use Rattle.size_window.specs.RunByBits.{Limits, Course, Entry}
 use Rattle.size_window.specs.Drawing.{DrawingState, DrawingBelongs, state_of, ending_of}
 use Rattle.size_window.specs.Follows.{GoesIdeally}
 use Rattle.size_window.specs.Trace.{HasTrace}
-use Rattle.sample_command.specs.Drawn.{TapeMet, Lists, open_lines}
+use Rattle.certificate.specs.declared.closing.Closing.{Closing}
+use Rattle.sample_command.specs.Drawn.{TapeMet, Lists, straddle_of, closing_word}
 use Rattle.call_stages.specs.Ends.{IsHeld}
-use Rattle.call_stages.specs.Lines.{open_line, open_label_line}
 
 -- A tape over a shelf, in a call that began with these counts.
 abbrev pub met : (source : TapeSource) (contents : List ℕ → Option (List ℕ)) (before now : List ℕ
@@ -60,13 +60,22 @@ pub record CanTurn (s : Spec) (x : Fraction) (contents : List ℕ
   pub ahead : Belongs contents tape
   pub so_far : HasCourse s x limits d tape.used
 
--- The line of a number that was left open, with the bounds that the ending states of a node. Other
--- endings have none.
-abbrev pub told_open : Ending → List ℕ
-told_open (Undecided (straddle.Node node cell lo hi)) =
-    open_line node.0 cell (record { lo = lo; hi = hi })
-told_open (Undecided (straddle.Label m cell)) = open_label_line m cell
-told_open _ = []
+-- The number that was left open, if one was, with the bounds that the ending states of a node.
+abbrev pub told_open : Ending → Option Straddle
+told_open (Undecided straddle) = Some straddle
+told_open ending = None
+
+-- The closing of a drawing that came to this end with these counts.
+abbrev pub told_closing : Ending → (kept thrown bits turns : ℕ) → Closing
+told_closing ending kept thrown bits turns =
+    record {
+      word = closing_word (ending_of ending);
+      straddle = told_open ending;
+      kept = kept;
+      thrown = thrown;
+      bits = bits;
+      turns = turns;
+    }
 
 -- A drawing has come to this end, and states why.
 pub record IsAtEnd (table : (level node : ℕ)
@@ -74,7 +83,7 @@ pub record IsAtEnd (table : (level node : ℕ)
   pub ended : d.ending ≡ Some ending
   pub kept : ending ≡ Done → d.kept ≡ limits.count
   pub out_of_turns : ending ≡ TurnLimit → d.turns ≡ limits.turns
-  pub open_is : told_open ending ≡ open_lines table (ending_of ending)
+  pub open_is : told_open ending ≡ straddle_of table (ending_of ending)
 
 -- A drawing is under way: its levels are raised for the bits that its numbers were given, and of
 -- the header with the lines of its entries a part was written and the rest is held back.

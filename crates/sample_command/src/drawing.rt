@@ -1,21 +1,22 @@
 //! Drawings, whose lines are written while they go on.
 ghost use Rattle.std.specs.Prelude.{◌≡◌, ◌≢◌, ◌+◌, ℕ, ◌≤◌, [], ◌++◌, List, length, max, Option};
-ghost use Rattle.std.specs.Prelude.{None, Some, IfOk, IfErr, OnErr, IfSome, IfNone, string_bytes};
+ghost use Rattle.std.specs.Prelude.{None, Some, IfOk, IfErr, OnErr, IfSome, IfNone};
 ghost use Rattle.bz_model.specs.Fraction.{IsFractionBits};
 ghost use Rattle.bz_model.specs.Oracle.{AreCosts, LeavesOracle};
 ghost use Rattle.bz_outside.specs.Outside.{Rose};
 ghost use Rattle.bit_tape.specs.Tape.{Belongs, LeavesTape, bits_of};
+ghost use Rattle.certificate.specs.Certificates.{closing_lines};
+ghost use Rattle.certificate.specs.Lines.{text_of};
 ghost use Rattle.oracle_memo.specs.Levels.{cost_at, costs};
 ghost use Rattle.size_window.specs.Drawing.{AreLimits, ending_of, limits_of};
-ghost use Rattle.sample_command.specs.Drawn.{Drawn, ending_word, ending_status};
+ghost use Rattle.sample_command.specs.Drawn.{Drawn, ending_status};
 ghost use Rattle.call_stages.specs.Ends.{EndsBy, output};
-ghost use Rattle.call_stages.specs.Lines.{end_line};
 ghost use Rattle.call_stages.specs.Outcomes.{MaySay};
 ghost use Rattle.sample_command.specs.UnderWay.{met, has_failed, CanTurn, IsAtEnd, IsUnderWay};
-ghost use Rattle.sample_command.specs.UnderWay.{IsBroken, GoesOn, told_open};
+ghost use Rattle.sample_command.specs.UnderWay.{IsBroken, GoesOn, told_closing};
 ghost use Rattle.call_stages.specs.declared.report.Stop.TheVariants as stop;
 
-use crate::entries::{append_entry, closing, status_of};
+use crate::entries::{append_entry, closing_of, status_of};
 use bit_tape::tape::Tape;
 use bz_model::oracle::Oracle;
 use bz_model::steps::Steps;
@@ -24,6 +25,7 @@ use bz_outside::sink::Sink;
 use call_stages::page::send_enough;
 use call_stages::report::{Stop, written};
 use call_stages::status::Status;
+use certificate::write::append_closing;
 use size_window::drawing::Drawing;
 use size_window::ending::Ending;
 use size_window::laws::{
@@ -103,16 +105,13 @@ fn finished<K: Sink>(
     out: &mut K,
 ) -> Status
     ensures ends { EndsBy (MaySay (ending_status (ending_of ending))
-        (page.items ++ (told_open ending ++ end_line (ending_word (ending_of ending)) counts.kept
-        counts.thrown bits counts.turns)) 0)
+        (page.items ++ text_of (closing_lines
+        (told_closing ending counts.kept counts.thrown bits counts.turns))) 0)
         (output (K.written out.old) (K.written out.new) (K.faults out.old) (K.faults out.new) 0 0)
         result }
     ensures writes { K.faults out.old ≤ K.faults out.new }
 {
-    let Ok(lines) = closing(alloc, ending, counts, bits) else {
-        return Status::OutOfMemory;
-    };
-    match page.extend_from_slice(lines.as_bytes()) {
+    match append_closing(alloc, &mut page, &closing_of(ending, counts, bits)) {
         Ok(()) => written(out, status_of(ending), page.as_slice()),
         Err(_) => Status::OutOfMemory,
     }

@@ -7,6 +7,8 @@
 //! exactly where the drawing ended so. `specs/SampleCommand.antt` is the command as stages, and
 //! `specs/Starts.antt` what `--fast` changes: the first line, and the vector from which the lower
 //! sweeps start. No clause says how long a drawing takes.
+//!
+//! What is printed are the lines of a certificate, by the writers of that crate (`entries`).
 #![tactic(auto)]
 
 pub mod drawing;

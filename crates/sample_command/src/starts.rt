@@ -15,7 +15,7 @@ ghost use Rattle.sample_command.specs.Starts.{start_of, start_ticks, Started};
 ghost use Rattle.sample_command.specs.UnderWay.{met};
 
 use crate::drawing::drawn;
-use crate::entries::header;
+use crate::entries::{fast_header, header};
 use bit_tape::tape::Tape;
 use bz_model::fraction::Fraction;
 use bz_model::steps::Steps;
@@ -95,7 +95,7 @@ fn drawn_from_zero<const F: u32, S: Shelf, K: Sink, L: Ledger>(
 {
     let system = founded.system();
     system.known();
-    let Ok(header) = header::<F>(alloc, "boltzmann 2", system, x, limits, base.values()) else {
+    let Ok(header) = header::<F>(alloc, system, x, limits, base.values()) else {
         return Status::OutOfMemory;
     };
     let Ok(mut memo) = Memo::make(alloc, founded, x, base) else {
@@ -198,7 +198,7 @@ fn drawn_from<const F: u32, S: Shelf, K: Sink, L: Ledger>(
 {
     let system = founded.system();
     system.known();
-    let Ok(header) = header::<F>(alloc, "boltzmann fast", system, x, limits, base.values()) else {
+    let Ok(header) = fast_header::<F>(alloc, system, x, limits, base.values()) else {
         return Status::OutOfMemory;
     };
     let Ok(mut memo) = FastMemo::make(alloc, founded, x, base, start) else {

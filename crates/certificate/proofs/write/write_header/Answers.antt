@@ -1,15 +1,14 @@
--- Line after line.
+-- The first line, and those below it.
 use Rattle.std.proofs.Common.{◌∙◌, ap, ◌++◌, ◌∷◌, []}
 use Rattle.std.specs.Prelude.{codes}
+use Rattle.certificate.specs.Certificates.{lines_below_version}
+use Rattle.certificate.specs.Lines.{text_of}
 use Rattle.certificate.specs.Patterns.{filled}
-use Rattle.certificate.proofs.Writing.{header-joined}
 use Rattle.certificate.proofs.write.write_header.Goals as goal
 
 pub returns : goal.returns
 returns c =
-    header-joined c.args.h.now c.new-text.result.items c.push_line.new.text.items c.push_words.new.text.items c.push_digest.new.text.items c.push_line-2.new.text.items c.push_line-3.new.text.items c.push_line-4.new.text.items c.push_base.new.text.items
-    c.new-text.ensures.items (c.in_ok-push_line.ensures ∙ ap (λ v. c.new-text.result.items ++ (filled (codes "boltzmann #") (v ∷ []) ++ 10 ∷ [])) c.from.ensures)
-    (c.in_ok-push_words.ensures ∙ ap (λ w. c.push_line.new.text.items ++ ((codes "mode " ++ w) ++ 10 ∷ [])) c.mode_of.ensures)
-    c.in_ok-push_digest.ensures c.in_ok-push_line-2.ensures
-    (c.in_ok-push_line-3.ensures ∙ ap (λ v. c.push_line-2.new.text.items ++ (filled (codes "fraction #") (v ∷ []) ++ 10 ∷ [])) c.from-2.ensures)
-    c.in_ok-push_line-4.ensures c.in_ok-push_base.ensures
+    let rest = text_of (lines_below_version c.args.h.now) in
+    c.in_ok-push_below_version.ensures
+    ∙ ap (λ t. t ++ rest) (c.in_ok-push_line.ensures ∙ ap (λ v. c.new-text.result.items ++ (filled (codes "boltzmann #") (v ∷ []) ++ 10 ∷ [])) c.from.ensures)
+    ∙ ap (λ t. (t ++ (filled (codes "boltzmann #") (c.args.h.now.version ∷ []) ++ 10 ∷ [])) ++ rest) c.new-text.ensures.items

@@ -7,7 +7,7 @@ use Rattle.class_system.specs.Sound.{IsSound}
 use Rattle.oracle_memo.specs.Levels.{level_bounds_from, costs}
 use Rattle.oracle_memo.specs.Memos.{Memory}
 use Rattle.rounded_map.specs.RoundedMap.{setting}
-use Rattle.call_stages.specs.Lines.{certified_format}
+use Rattle.certificate.specs.Lines.{version_line}
 use Rattle.sample_command.specs.Drawn.{drawn_header}
 use Rattle.sample_command.proofs.TapeEnds.{EndLaws}
 use Rattle.session_pool.specs.Interleaving as session
@@ -105,8 +105,8 @@ returns-clause-ok g c = λ before below.
     let page = c.in_ok-text.ensures in
     let header =
     c.in_ok-header.ensures
-    ∙ ap (λ (s : Spec). drawn_header certified_format (setting s c.args.x.num c.args.x.den g.row.F) c.values.result.now limits) c.system-system.ensures.system
-    ∙ ap (λ (entries : List ℕ). drawn_header certified_format t entries limits) c.values.ensures.entries in
+    ∙ ap (λ (s : Spec). drawn_header (version_line 2) (setting s c.args.x.num c.args.x.den g.row.F) c.values.result.now limits) c.system-system.ensures.system
+    ∙ ap (λ (entries : List ℕ). drawn_header (version_line 2) t entries limits) c.values.ensures.entries in
     ended-told p content counts before names c.args.steps.now chosen below (all_asked (asked_by c.take_turns.new.pool) (named (length names) c.args.schedule.now) (length names)) (moment (session.setting c.take_turns.new.oracle.spec (ratio c.take_turns.new.oracle.num c.take_turns.new.oracle.den) g.row.F (level_bounds_from (setting c.take_turns.new.oracle.spec c.take_turns.new.oracle.num c.take_turns.new.oracle.den g.row.F) c.take_turns.new.oracle.start c.take_turns.new.oracle.base) (g.S.Shelf.content c.take_turns.new.shelf)) (g.S.Shelf.faults c.take_turns.new.shelf) costs c.take_turns.new.oracle.raised c.take_turns.new.steps c.take_turns.new.pool) over.under_way.so_far c.take_turns.ensures.can.number
     page.1.lines page.1.lists over.ended laws sound c.requires.limits
     c.args.schedule.now c.as_slice.result.now c.in_ok-header.header.items page.0 c.in_ok-text.text.items c.first_status.result c.requires.number.0 (c.as_slice.ensures.value ∙ over.under_way.order_is) header page.1.text_is page.2 c.first_status.ensures

@@ -12,7 +12,7 @@ loop-entry-init c = ([], drawn.none refl refl, sym (append-nil c.args.text.now.i
 
 -- those of one more entry are
 pub loop-entry-preserved : goal.loop-entry-preserved
-loop-entry-preserved c = entry-appended c.args.founded.now c.args.entries.now c.loop-entry.entry-index c.entry-item.result c.args.text.now.items c.loop-entry.text.items c.append_entry.new.page.items (omega arith) c.entry-item.is c.loop-entry.invariant c.in_ok-append_entry.ensures
+loop-entry-preserved c = entry-appended c.args.founded.now c.args.entries.now c.loop-entry.entry-index c.entry-item.result c.args.text.now.items c.loop-entry.text.items c.append_entry.new.page.items (omega arith) c.entry-item.is c.loop-entry.invariant c.in_ok-append_entry.ensures.ok
 
 -- all are
 pub returns : goal.returns

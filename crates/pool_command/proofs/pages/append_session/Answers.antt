@@ -11,4 +11,4 @@ append_entries-requires-clause-labels c = (printable-at c.args.founded.now c.arg
 
 -- its lines are appended
 pub returns : goal.returns
-returns c = session-appended c.args.founded.now c.args.pool.now c.args.number c.result.result.entries.now c.args.text.now.items c.extend_from_slice.new.self.items c.append_entries.new.text.items c.append_closing.new.text.items c.as_bytes.result.now c.result.ensures.entries (c.as_bytes.ensures.value ∙ c.in_ok-first.ensures) c.in_ok-extend_from_slice.ensures.items c.in_ok-append_entries.ensures c.in_ok-append_closing.ensures
+returns c = session-appended c.args.founded.now c.args.pool.now c.args.number c.result.result.entries.now c.args.text.now.items c.extend_from_slice.new.self.items c.append_entries.new.text.items c.append_end.new.text.items c.as_bytes.result.now c.result.ensures.entries (c.as_bytes.ensures.value ∙ c.in_ok-first.ensures) c.in_ok-extend_from_slice.ensures.items c.in_ok-append_entries.ensures c.in_ok-append_end.ensures

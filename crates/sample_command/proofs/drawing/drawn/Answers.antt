@@ -1,15 +1,15 @@
-use Rattle.std.proofs.Common.{◌≤◌, ◌+◌, ◌++◌, List, ℕ, refl, subst}
+use Rattle.std.proofs.Common.{◌≤◌, ◌+◌, List, ℕ, refl, subst}
 use Rattle.bit_tape.specs.Tape.{bits_of}
 use Rattle.bit_tape.proofs.Leaving.{counts-kept}
 use Rattle.bz_model.specs.Oracle.{cost_between}
 use Rattle.class_system.specs.Sound.{IsSound}
 use Rattle.oracle_memo.specs.Levels.{cost_at}
-use Rattle.size_window.specs.Drawing.{ending_of, limits_of}
+use Rattle.size_window.specs.Drawing.{limits_of}
 use Rattle.size_window.specs.RunByBits.{Limits}
 use Rattle.well_founded.specs.EmptyObjects.{has_empty}
-use Rattle.sample_command.specs.Drawn.{ending_word}
-use Rattle.call_stages.specs.Lines.{end_line}
-use Rattle.sample_command.specs.UnderWay.{met, has_failed, IsUnderWay, IsAtEnd, IsBroken, told_open}
+use Rattle.certificate.specs.Certificates.{closing_lines}
+use Rattle.certificate.specs.Lines.{text_of}
+use Rattle.sample_command.specs.UnderWay.{met, has_failed, IsUnderWay, IsAtEnd, IsBroken, told_closing}
 use Rattle.sample_command.proofs.AtTheEnd.{starts, starts-under-way, no-drawing, closing-is, ends-drawn, ends-stopped}
 use Rattle.sample_command.proofs.Turns.{costs-from-none}
 use Rattle.sample_command.proofs.drawing.drawn.Goals as goal
@@ -42,7 +42,7 @@ returns-in-Ok-draw_to_the_end-clause-ends g c =
     let under = starts-under-way c.a_trace_starts_with_its_drawing.ensures s x g.row.F table d.limits told d c.args.tape.used (g.O.Oracle.raised c.args.oracle.now) header header (g.K.Sink.written c.args.out.now) c.requires.unused c.in-Ok.ensures.start refl c.in-Ok.ensures.atoms c.requires.none_raised refl in
     let over = subst (λ (l : Limits). IsUnderWay s x g.row.F table l told now used raised header (g.K.Sink.written c.args.out.now) (g.K.Sink.written c.draw_to_the_end.new.out) c.draw_to_the_end.new.page.items) c.in-Ok.ensures.limits (c.in-Ok-draw_to_the_end.ensures.under_way header (g.K.Sink.written c.args.out.now) under) in
     let end = subst (λ (l : Limits). IsAtEnd table l now ending) c.in-Ok.ensures.limits c.in-Ok-draw_to_the_end.ensures.ended in
-    let closing = told_open ending ++ end_line (ending_word (ending_of ending)) c.counts.result.kept c.counts.result.thrown c.used.result c.counts.result.turns in
+    let closing = text_of (closing_lines (told_closing ending c.counts.result.kept c.counts.result.thrown c.used.result c.counts.result.turns)) in
     let few = costs-from-none (g.O.Oracle.raised c.args.oracle.now) raised c.args.steps.now c.draw_to_the_end.new.steps c.requires.none_raised c.draw_to_the_end.ensures.levels (subst (λ (k : List ℕ). c.draw_to_the_end.new.steps ≤ c.args.steps.now + cost_between k (g.O.Oracle.raised c.args.oracle.now) raised) c.requires.costs c.draw_to_the_end.ensures.oracle.ticks) in
     ends-drawn cost_at s x g.row.F table lim tape chosen now used raised header (g.K.Sink.written c.args.out.now) (g.K.Sink.written c.draw_to_the_end.new.out) c.draw_to_the_end.new.page.items ending over end (record { few = c.a_course_uses_few_bits.ensures; files = c.the_tape_ends_where_its_bits_are_used.ensures.files; seeds = c.the_tape_ends_where_its_bits_are_used.ensures.seeds }) sound c.requires.limits c.draw_to_the_end.ensures.tape.faults (g.K.Sink.faults c.args.out.now) (g.K.Sink.faults c.draw_to_the_end.new.out) c.draw_to_the_end.ensures.writes c.args.steps.now c.draw_to_the_end.new.steps few closing
     (closing-is s x g.row.F table lim tape chosen now used over.most over.so_far ending c.counts.result.kept c.counts.result.thrown c.used.result c.counts.result.turns end c.counts.ensures.kept c.counts.ensures.thrown c.used.ensures c.counts.ensures.turns)

@@ -37,7 +37,7 @@ returns-in-Going-clause-goes_on g c =
 -- an object was kept, and its lines are appended
 pub returns-in-Ok-clause-under_way : goal.returns-in-Ok-clause-under_way
 returns-in-Ok-clause-under_way g c =
-    let (more, of, lines) = c.in-Ok.ensures in
+    let (more, of, lines) = c.in-Ok.ensures.ok in
     let told = bits_of c.args.tape.now.source (g.S.Shelf.content c.args.shelf.now) in
     λ header start now p.
     subst (IsUnderWay c.args.founded.now (g.O.Oracle.x c.args.oracle.now) g.row.F (g.O.Oracle.table c.args.oracle.now) c.args.drawing.now.limits told c.turn.new.self c.turn.new.tape.used (g.O.Oracle.raised c.turn.new.oracle) header start now) (sym lines)

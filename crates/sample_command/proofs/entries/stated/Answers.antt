@@ -1,0 +1,6 @@
+use Rattle.std.proofs.Common.{◌∙◌}
+use Rattle.sample_command.proofs.entries.stated.Goals as goal
+
+-- there is a value for each name
+pub header_of-requires : goal.header_of-requires
+header_of-requires g c = c.requires ∙ c.known.ensures.sound.bodies
