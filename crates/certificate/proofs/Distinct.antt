@@ -1,6 +1,6 @@
 -- Names of which none stands twice, one by one.
 use Rattle.std.specs.Prelude.{slice_get}
-use Rattle.std.proofs.Common.{◌≡◌, ℕ, zero, suc, ◌<◌, List, [], ◌∷◌, ◌++◌, length, Some, arith, refl, sym, ◌∙◌, ap, ◌⊎◌, inl, inr, take}
+use Rattle.std.proofs.Common.{◌≡◌, ℕ, zero, suc, ◌<◌, List, [], ◌∷◌, ◌++◌, length, Some, arith, refl, sym, ◌∙◌, ap, ◌⊎◌, inl, inr, take, subst, ◌+◌, add-one}
 use Rattle.class_system.specs.Distinct.{AreDistinct, IsMissing}
 
 at-append : (xs ys : List (List ℕ)) (i : ℕ) (w : List ℕ) → slice_get xs i ≡ Some w → slice_get (xs ++ ys) i ≡ Some w
@@ -35,7 +35,7 @@ in-first (x ∷ names) (suc n) zero w e = (e, omega arith)
 in-first (x ∷ names) (suc n) (suc i) w e = let h = in-first names n i w e in let few = h.1 in (h.0, omega (arith, few))
 
 -- Of names of which none stands twice, each is missing among the first ones before its place.
-pub missing-below : (names : List (List ℕ)) (i : ℕ) (w : List ℕ) → AreDistinct names → slice_get names i ≡ Some w → IsMissing w (take i names)
+missing-below : (names : List (List ℕ)) (i : ℕ) (w : List ℕ) → AreDistinct names → slice_get names i ≡ Some w → IsMissing w (take i names)
 missing-below names i w d at = record {
   nowhere = λ k there.
       let h = in-first names i k w there in
@@ -45,10 +45,19 @@ missing-below names i w d at = record {
 }
 
 -- The first names are one more with the name at the next place.
-pub first-more : (names : List (List ℕ)) (i : ℕ) (w : List ℕ) → slice_get names i ≡ Some w → take (suc i) names ≡ take i names ++ w ∷ []
+first-more : (names : List (List ℕ)) (i : ℕ) (w : List ℕ) → slice_get names i ≡ Some w → take (suc i) names ≡ take i names ++ w ∷ []
 first-more [] i w e = absurd (cc)
 first-more (x ∷ names) zero w e = let same : x ≡ w = cc in ap (λ z. z ∷ []) same
 first-more (x ∷ names) (suc i) w e = ap (λ t. x ∷ t) (first-more names i w e)
+
+-- A copy of the first names doesn't have the name at the next place yet.
+pub missing_next : (names copied : List (List ℕ)) (i : ℕ) (name word : List ℕ) → AreDistinct names → copied ≡ take i names → slice_get names i ≡ Some name → word ≡ name → IsMissing word copied
+missing_next names copied i name word d are at is = subst (IsMissing word) (sym are) (missing-below names i word d (at ∙ ap Some (sym is)))
+
+-- With that name it is a copy of one more.
+pub copied_next : (names copied next : List (List ℕ)) (i : ℕ) (name word : List ℕ) → copied ≡ take i names → slice_get names i ≡ Some name → word ≡ name → next ≡ copied ++ word ∷ [] → next ≡ take (i + 1) names
+copied_next names copied next i name word are at is more =
+    more ∙ ap (λ t. t ++ word ∷ []) are ∙ sym (first-more names i word (at ∙ ap Some (sym is))) ∙ ap (λ n. take n names) (sym (add-one i))
 
 -- What stands in a list with one more name stands in the list, or is that name in the last place.
 in-one-more : (xs : List (List ℕ)) (x : List ℕ) (i : ℕ) (w : List ℕ) → slice_get (xs ++ x ∷ []) i ≡ Some w → (slice_get xs i ≡ Some w) ⊎ ((i ≡ length xs) × (x ≡ w))

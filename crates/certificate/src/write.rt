@@ -1,5 +1,5 @@
-//! The texts of a certificate's header, entries and closing: as texts of their own, or appended to a
-//! text.
+//! The texts of a certificate's header, entries and closing: as texts of their own, or appended to
+//! another.
 ghost use Rattle.std.specs.Prelude.{◌≡◌, ◌<◌, ◌≤◌, ◌∷◌, ◌++◌, [], length, codes, IfOk, OnOk, OnErr};
 ghost use Rattle.std.specs.Prelude.{take};
 ghost use Rattle.hex.specs.Hex.{encode_lower};

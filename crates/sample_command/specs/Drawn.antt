@@ -148,7 +148,8 @@ straddle_of table (Ending.Undecided (Open.AtNode node cell)) =
 straddle_of table (Ending.Undecided (Open.AtLabel m cell)) = Some (straddle.Label m cell)
 straddle_of table ending = None
 
--- The closing of a drawing: why it ended, the number that was left open, if one was, and its counts.
+-- The closing of a drawing: why it ended, the number that was left open, if one was, and how much
+-- was kept, thrown away, used and turned.
 abbrev pub closing_of : (table : (level node : ℕ) → Bounds) → Course → Ending → Closing
 closing_of table c ending =
     record {

@@ -1,7 +1,7 @@
 //! The lines of a drawing: before its objects, of each object, and after them.
 //!
-//! They are those of a certificate, and its writers print them; only the first line of a drawing from
-//! a fast vector is another one.
+//! They are those of a certificate, and its writers print them. Only the first line of a drawing
+//! from a fast vector is another one.
 ghost use Rattle.std.specs.Prelude.{◌≡◌, ◌++◌, List, ℕ, length, None, Some, IfOk, OnErr};
 ghost use Rattle.certificate.specs.Certificates.{FitsHeader};
 ghost use Rattle.certificate.specs.Headers.{header_of};
