@@ -4,7 +4,7 @@ use Rattle.std.specs.Prelude.{slice_get, codes}
 use Rattle.certificate.specs.declared.certificate.Header.{Header}
 use Rattle.certificate.specs.Patterns.{filled}
 use Rattle.certificate.specs.Lines.{Line, text_of, whole_line}
-use Rattle.certificate.specs.Certificates.{spec_lines, base_lines, lines_below_version}
+use Rattle.certificate.specs.Certificates.{spec_lines, base_lines, lines_below_version, lines_above_window, lines_without_window}
 
 -- The text of two lists of lines one after the other is the text of the first and then that of the
 -- second.
@@ -12,27 +12,49 @@ pub text-append : (xs ys : List Line) → text_of (xs ++ ys) ≡ text_of xs ++ t
 text-append [] ys = refl
 text-append (x ∷ xs) ys = ap (λ t. whole_line x ++ t) (text-append xs ys) ∙ sym (append_assoc (whole_line x) (text_of xs) (text_of ys))
 
--- the lines of a header below its first, one after the other
-pub below-joined : (h : Header) (t0 t1 t2 t3 t4 t5 t6 : List ℕ)
-    → t1 ≡ t0 ++ whole_line (Line.InMode h.mode)
+-- The lines of a header above its window follow one another.
+pub above-joined : (h : Header) (t0 t1 t2 t3 t4 : List ℕ) → t1 ≡ t0 ++ whole_line (Line.InMode h.mode)
     → t2 ≡ t1 ++ text_of (spec_lines h.digest) → t3 ≡ t2 ++ whole_line (Line.X h.x.num h.x.den)
-    → t4 ≡ t3 ++ whole_line (Line.Fraction h.fraction) → t5 ≡ t4 ++ whole_line (Line.Window h.min h.max)
-    → t6 ≡ t5 ++ text_of (base_lines h.names h.base) → t6 ≡ t0 ++ text_of (lines_below_version h)
-below-joined h t0 t1 t2 t3 t4 t5 t6 e1 e2 e3 e4 e5 e6 =
+    → t4 ≡ t3 ++ whole_line (Line.Fraction h.fraction) → t4 ≡ t0 ++ text_of (lines_above_window h)
+above-joined h t0 t1 t2 t3 t4 e1 e2 e3 e4 =
     let m = whole_line (Line.InMode h.mode) in
     let d = text_of (spec_lines h.digest) in
     let x = whole_line (Line.X h.x.num h.x.den) in
     let f = whole_line (Line.Fraction h.fraction) in
-    let w = whole_line (Line.Window h.min h.max) in
-    let b = text_of (base_lines h.names h.base) in
-    let tail = text-append (spec_lines h.digest) (Line.X h.x.num h.x.den ∷ Line.Fraction h.fraction ∷ Line.Window h.min h.max ∷ base_lines h.names h.base) in
-    joined t0 t1 t2 t3 t4 t5 t6 m d x f w b e1 e2 e3 e4 e5 e6 ∙ ap (λ t. t0 ++ (m ++ t)) (sym tail)
+    let tail = text-append (spec_lines h.digest) (Line.X h.x.num h.x.den ∷ Line.Fraction h.fraction ∷ []) in
+    joined t0 t1 t2 t3 t4 m d x f e1 e2 e3 e4 ∙ ap (λ t. t0 ++ (m ++ (d ++ (x ++ t)))) (sym (append-nil f)) ∙ ap (λ t. t0 ++ (m ++ t)) (sym tail)
   where
-    joined : (t0 t1 t2 t3 t4 t5 t6 m d x f w b : List ℕ) → t1 ≡ t0 ++ m → t2 ≡ t1 ++ d → t3 ≡ t2 ++ x → t4 ≡ t3 ++ f → t5 ≡ t4 ++ w → t6 ≡ t5 ++ b → t6 ≡ t0 ++ (m ++ (d ++ (x ++ (f ++ (w ++ b)))))
-    joined t0 t1 t2 t3 t4 t5 t6 m d x f w b e1 e2 e3 e4 e5 e6 =
-        e6 ∙ ap (λ t. t ++ b) e5 ∙ append_assoc t4 w b ∙ ap (λ t. t ++ (w ++ b)) e4 ∙ append_assoc t3 f (w ++ b)
-        ∙ ap (λ t. t ++ (f ++ (w ++ b))) e3 ∙ append_assoc t2 x (f ++ (w ++ b)) ∙ ap (λ t. t ++ (x ++ (f ++ (w ++ b)))) e2
-        ∙ append_assoc t1 d (x ++ (f ++ (w ++ b))) ∙ ap (λ t. t ++ (d ++ (x ++ (f ++ (w ++ b))))) e1 ∙ append_assoc t0 m (d ++ (x ++ (f ++ (w ++ b))))
+    joined : (t0 t1 t2 t3 t4 m d x f : List ℕ) → t1 ≡ t0 ++ m → t2 ≡ t1 ++ d → t3 ≡ t2 ++ x → t4 ≡ t3 ++ f → t4 ≡ t0 ++ (m ++ (d ++ (x ++ f)))
+    joined t0 t1 t2 t3 t4 m d x f e1 e2 e3 e4 =
+        e4 ∙ ap (λ t. t ++ f) e3 ∙ append_assoc t2 x f ∙ ap (λ t. t ++ (x ++ f)) e2
+        ∙ append_assoc t1 d (x ++ f) ∙ ap (λ t. t ++ (d ++ (x ++ f))) e1 ∙ append_assoc t0 m (d ++ (x ++ f))
+
+-- three texts after a text
+three-after : (t0 t1 t2 t3 a b c : List ℕ) → t1 ≡ t0 ++ a → t2 ≡ t1 ++ b → t3 ≡ t2 ++ c → t3 ≡ t0 ++ (a ++ (b ++ c))
+three-after t0 t1 t2 t3 a b c e1 e2 e3 = e3 ∙ ap (λ t. t ++ c) e2 ∙ append_assoc t1 b c ∙ ap (λ t. t ++ (b ++ c)) e1 ∙ append_assoc t0 a (b ++ c)
+
+-- The lines of a header below its first follow one another.
+pub below-joined : (h : Header) (t0 t1 t2 t3 : List ℕ) → t1 ≡ t0 ++ text_of (lines_above_window h)
+    → t2 ≡ t1 ++ whole_line (Line.Window h.min h.max) → t3 ≡ t2 ++ text_of (base_lines h.names h.base)
+    → t3 ≡ t0 ++ text_of (lines_below_version h)
+below-joined h t0 t1 t2 t3 e1 e2 e3 =
+    let above = lines_above_window h in
+    let rest = Line.Window h.min h.max ∷ base_lines h.names h.base in
+    three-after t0 t1 t2 t3 (text_of above) (whole_line (Line.Window h.min h.max)) (text_of (base_lines h.names h.base)) e1 e2 e3
+    ∙ ap (λ t. t0 ++ t) (sym (text-append above rest))
+    ∙ ap (λ ls. t0 ++ (whole_line (Line.InMode h.mode) ++ text_of ls)) (append_assoc (spec_lines h.digest) (Line.X h.x.num h.x.den ∷ Line.Fraction h.fraction ∷ []) rest)
+
+-- The lines of a header without its window follow one another.
+pub without-joined : (h : Header) (t0 t1 t2 t3 : List ℕ) → t0 ≡ [] → t1 ≡ t0 ++ whole_line (Line.Version h.version)
+    → t2 ≡ t1 ++ text_of (lines_above_window h) → t3 ≡ t2 ++ text_of (base_lines h.names h.base)
+    → t3 ≡ text_of (lines_without_window h)
+without-joined h t0 t1 t2 t3 e0 e1 e2 e3 =
+    let above = lines_above_window h in
+    let base = base_lines h.names h.base in
+    let v = whole_line (Line.Version h.version) in
+    three-after t0 t1 t2 t3 v (text_of above) (text_of base) e1 e2 e3
+    ∙ ap (λ t. t ++ (v ++ (text_of above ++ text_of base))) e0
+    ∙ ap (λ t. v ++ t) (sym (text-append above base))
 
 -- one class more
 base-more : (names : List (List ℕ)) (base : List ℕ) (i : ℕ) (name : List ℕ) → slice_get names i ≡ Some name → i < length base → base_lines (take (suc i) names) (take (suc i) base) ≡ base_lines (take i names) (take i base) ++ Line.Base name (get_or base i 0) ∷ []

@@ -34,6 +34,17 @@ lines_below_version h =
     ++ (Line.X h.x.num h.x.den ∷ Line.Fraction h.fraction ∷ Line.Window h.min h.max
     ∷ base_lines h.names h.base))
 
+-- Those of them above the window.
+abbrev pub lines_above_window : Header → List Line
+lines_above_window h =
+    Line.InMode h.mode ∷ (spec_lines h.digest
+    ++ (Line.X h.x.num h.x.den ∷ Line.Fraction h.fraction ∷ []))
+
+-- The lines of a header without its window.
+abbrev pub lines_without_window : Header → List Line
+lines_without_window h =
+    Line.Version h.version ∷ (lines_above_window h ++ base_lines h.names h.base)
+
 -- The lines of a header.
 abbrev pub header_lines : Header → List Line
 header_lines h = Line.Version h.version ∷ lines_below_version h

@@ -1,4 +1,4 @@
--- The header that a drawing prints.
+-- The header of what is printed from a specification.
 use Rattle.std.specs.Prelude.{ℕ, List, ◌∷◌, Some}
 use Rattle.bz_model.specs.declared.fraction.Fraction.{Fraction}
 use Rattle.bz_model.specs.Spec.{Spec}
@@ -37,3 +37,9 @@ abbrev pub drawn_lines : Spec → (num den fraction min max : ℕ) → (base : L
 drawn_lines s num den fraction min max base =
     Line.InMode (code_mode s.mode) ∷ Line.Spec (sha256 (canonical_text s)) ∷ Line.X num den
     ∷ Line.Fraction fraction ∷ Line.Window min max ∷ base_lines s.names base
+
+-- The lines of that header without its window.
+abbrev pub bounded_lines : Spec → (num den fraction : ℕ) → (base : List ℕ) → List Line
+bounded_lines s num den fraction base =
+    Line.Version 2 ∷ Line.InMode (code_mode s.mode) ∷ Line.Spec (sha256 (canonical_text s))
+    ∷ Line.X num den ∷ Line.Fraction fraction ∷ base_lines s.names base

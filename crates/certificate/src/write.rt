@@ -9,6 +9,7 @@ ghost use Rattle.certificate.specs.Patterns.{filled, places};
 ghost use Rattle.certificate.specs.Fields.{cells_text};
 ghost use Rattle.certificate.specs.Lines.{Line, text_of, whole_line, end_pattern, open_line};
 ghost use Rattle.certificate.specs.Certificates.{spec_lines, base_lines, lines_below_version};
+ghost use Rattle.certificate.specs.Certificates.{lines_above_window, lines_without_window};
 ghost use Rattle.certificate.specs.Certificates.{header_lines, object_lines, entry_lines};
 ghost use Rattle.certificate.specs.Certificates.{open_lines, closing_lines, FitsHeader};
 ghost use Rattle.certificate.specs.Certificates.{FitsClosing};
@@ -30,6 +31,18 @@ pub fn write_header(alloc: Global, h: &Header) -> Result<Vec<u8>, AllocError>
     let mut text = Vec::new(alloc);
     push_line(&mut text, b"boltzmann #", &[u64::from(h.version)])?;
     push_below_version(alloc, &mut text, h)?;
+    Ok(text)
+}
+
+/// The lines of a header without its window.
+pub fn write_without_window(alloc: Global, h: &Header) -> Result<Vec<u8>, AllocError>
+    requires { FitsHeader h.now }
+    ensures { IfOk result (λ text. text.items ≡ text_of (lines_without_window h.now)) }
+{
+    let mut text = Vec::new(alloc);
+    push_line(&mut text, b"boltzmann #", &[u64::from(h.version)])?;
+    push_above_window(alloc, &mut text, h)?;
+    push_base(&mut text, h)?;
     Ok(text)
 }
 
@@ -112,12 +125,22 @@ fn push_below_version(alloc: Global, text: &mut Vec<u8>, h: &Header) -> Result<(
     ensures { OnOk result (text.new.items ≡ text.old.items
         ++ text_of (lines_below_version h.now)) }
 {
+    push_above_window(alloc, text, h)?;
+    push_line(text, b"window # #", &[h.min, h.max])?;
+    push_base(text, h)?;
+    Ok(())
+}
+
+/// Appends the lines of a header between its first and its window; a refusal may leave some of
+/// them.
+fn push_above_window(alloc: Global, text: &mut Vec<u8>, h: &Header) -> Result<(), AllocError>
+    ensures { OnOk result (text.new.items ≡ text.old.items
+        ++ text_of (lines_above_window h.now)) }
+{
     push_words(text, b"mode ", mode_of(h.mode))?;
     push_digest(alloc, text, &h.digest)?;
     push_line(text, b"x #/#", &[h.x.num, h.x.den])?;
     push_line(text, b"fraction #", &[u64::from(h.fraction)])?;
-    push_line(text, b"window # #", &[h.min, h.max])?;
-    push_base(text, h)?;
     Ok(())
 }
 
