@@ -1,4 +1,4 @@
-//! The header that a drawing prints.
+//! The header of what is printed from a specification.
 ghost use Rattle.std.specs.Prelude.{◌≡◌, length, IfOk};
 ghost use Rattle.certificate.specs.Certificates.{FitsHeader};
 ghost use Rattle.certificate.specs.Headers.{header_of};

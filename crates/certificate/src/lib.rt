@@ -1,10 +1,11 @@
 //! Certificates: what a drawing prints, as values and as text.
 //!
-//! `certificate` and `closing` have the values, `write` gives their lines, `read` reads them. The
-//! lines
-//! and their texts are defined in `specs/Lines.antt`, a certificate's lines in
-//! `specs/Certificates.antt`. A line of words and numbers is a pattern with numbers put in
-//! (`specs/Patterns.antt`).
+//! `certificate` and `closing` have the values, and `header` makes the header of what is printed
+//! from a specification. `write` gives their lines, as texts of their own or appended to another,
+//! so that a drawing is printed object by object; `read` reads them. The lines and their texts are
+//! defined in `specs/Lines.antt`, a certificate's lines in `specs/Certificates.antt`, those of a
+//! drawing's header in `specs/Headers.antt`. A line of words and numbers is a pattern with numbers
+//! put in (`specs/Patterns.antt`).
 //!
 //! A text is read exactly: what is read has this text, and a refusal names the first bad line
 //! (`specs/Reading.antt`). `specs/Stages.antt` says which line may stand next; `stages` reads the
