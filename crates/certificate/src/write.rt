@@ -49,11 +49,7 @@ pub fn write_without_window(alloc: Global, h: &Header) -> Result<Vec<u8>, AllocE
 /// Appends the lines of a header below its first, which names the version.
 ///
 /// A refusal, which comes for want of memory alone, leaves the text unchanged.
-pub fn append_below_version(
-    alloc: Global,
-    text: &mut Vec<u8>,
-    h: &Header,
-) -> Result<(), AllocError>
+pub fn append_below_version(alloc: Global, text: &mut Vec<u8>, h: &Header) -> Result<(), AllocError>
     requires { FitsHeader h.now }
     ensures ok { OnOk result (text.new.items ≡ text.old.items
         ++ text_of (lines_below_version h.now)) }
