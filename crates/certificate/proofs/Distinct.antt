@@ -55,8 +55,8 @@ pub missing_next : (names copied : List (List ℕ)) (i : ℕ) (name word : List 
 missing_next names copied i name word d are at is = subst (IsMissing word) (sym are) (missing-below names i word d (at ∙ ap Some (sym is)))
 
 -- With that name it is a copy of one more.
-pub copied_next : (names copied next : List (List ℕ)) (i : ℕ) (name word : List ℕ) → copied ≡ take i names → slice_get names i ≡ Some name → word ≡ name → next ≡ copied ++ word ∷ [] → next ≡ take (i + 1) names
-copied_next names copied next i name word are at is more =
+pub copied-next : (names copied next : List (List ℕ)) (i : ℕ) (name word : List ℕ) → copied ≡ take i names → slice_get names i ≡ Some name → word ≡ name → next ≡ copied ++ word ∷ [] → next ≡ take (i + 1) names
+copied-next names copied next i name word are at is more =
     more ∙ ap (λ t. t ++ word ∷ []) are ∙ sym (first-more names i word (at ∙ ap Some (sym is))) ∙ ap (λ n. take n names) (sym (add-one i))
 
 -- What stands in a list with one more name stands in the list, or is that name in the last place.

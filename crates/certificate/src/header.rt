@@ -45,7 +45,7 @@ pub fn header_of(
 }
 
 /// The names of a specification's classes, in order.
-#[tactic(auto, using(crate::proofs::Distinct::missing_next, crate::proofs::Distinct::copied_next))]
+#[tactic(auto, using(crate::proofs::Distinct::missing_next))]
 fn names_of(alloc: Global, system: &System) -> Result<Names, AllocError>
     ensures { IfOk result (λ names. names ≡ system.now.names) }
 {
