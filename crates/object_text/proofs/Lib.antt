@@ -3,6 +3,7 @@ pub mod Steps
 pub mod Ways
 pub mod Tokens
 pub mod PartTexts
+pub mod LastFrames
 pub mod StableOrder
 pub mod LabelParts
 mod Digits

@@ -8,9 +8,14 @@ ghost use Rattle.object_text.specs.Output.{blank, grown, opened, parted, closed,
 ghost use Rattle.object_text.specs.Output.{closer};
 
 use itoa::Buffer;
+use smallvec::SmallVec;
 use std::alloc::{AllocError, Global};
+use std::default::MadeWith;
 use std::marker::Model;
 use std::mem;
+
+/// Up to this many parts of a set or a cycle are kept in the value itself: most have few.
+const SHORT: usize = 4;
 
 /// What is arranged: the parts of a set, or those of a cycle.
 #[derive(Clone, Copy)]
@@ -34,12 +39,21 @@ impl Model for Part {
     ghost view = { λ p. record { least = p.least; text = p.text.items } };
 }
 
+impl MadeWith<Global> for Part {
+    fn made_with(alloc: Global) -> Part {
+        Part {
+            least: 0,
+            text: Vec::new(alloc),
+        }
+    }
+}
+
 /// A set or cycle that is being printed: the text before it, and its finished parts.
 #[derive(Drop)]
 struct Frame {
     least: u64,
     text: Vec<u8>,
-    parts: Vec<Part>,
+    parts: SmallVec<Part, SHORT>,
 }
 
 impl Model for Frame {
@@ -130,7 +144,7 @@ impl Output {
         let frame = Frame {
             least: self.least,
             text: mem::replace(&mut self.text, Vec::new(alloc)),
-            parts: Vec::new(alloc),
+            parts: SmallVec::new(alloc),
         };
         self.least = 0;
         self.frames.push(frame)?;
@@ -147,16 +161,10 @@ impl Output {
             text: mem::replace(&mut self.text, Vec::new(alloc)),
         };
         self.least = 0;
-        let Some(frame) = self.frames.pop() else {
+        let Some(frame) = self.frames.last_mut() else {
             return Ok(());
         };
-        let Frame {
-            least,
-            text,
-            mut parts,
-        } = frame;
-        parts.push(part)?;
-        self.frames.push_reserved(Frame { least, text, parts });
+        frame.parts.push(part)?;
         Ok(())
     }
 
@@ -180,7 +188,11 @@ impl Output {
 }
 
 /// Appends the parts of a set or a cycle in canonical order, between its brackets.
-fn write_parts(text: &mut Vec<u8>, form: Form, mut parts: Vec<Part>) -> Result<(), AllocError>
+fn write_parts(
+    text: &mut Vec<u8>,
+    form: Form,
+    mut parts: SmallVec<Part, SHORT>,
+) -> Result<(), AllocError>
     ensures { OnOk result (text.new.items
         ≡ text.old.items ++ (opener form ∷ spaced (arranged form parts.items) ++ closer form
         ∷ [])) }
@@ -203,14 +215,15 @@ fn write_parts(text: &mut Vec<u8>, form: Form, mut parts: Vec<Part>) -> Result<(
 }
 
 /// Puts parts in the order of their least labels.
-fn sort(parts: &mut Vec<Part>) -> Result<(), AllocError>
+fn sort(parts: &mut SmallVec<Part, SHORT>) -> Result<(), AllocError>
     ensures { OnOk result (parts.new.items ≡ arranged Form.Set parts.old.items) }
 {
-    parts.sort_by_key(|part| part.least)
+    let alloc = *parts.allocator();
+    parts.sort_by_key(alloc, |part| part.least)
 }
 
 /// Turns parts so that the one with the least label comes first.
-fn rotate(parts: &mut Vec<Part>)
+fn rotate(parts: &mut SmallVec<Part, SHORT>)
     ensures { parts.new.items ≡ arranged Form.Cycle parts.old.items }
 {
     let least = least_label(parts);
