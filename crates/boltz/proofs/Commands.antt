@@ -1,6 +1,6 @@
 -- What words stand for, why they stand for none, and which limits a drawing has.
 use Rattle.std.proofs.Common.{length, ◌+◌, Bool, ◌≡◌, ◌≢◌, ℕ, ◌≤◌, ◌⊎◌, List, [], ◌∷◌, refl, ap, arith, inl, inr}
-use Rattle.size_window.specs.Drawing.{AreLimitsAsked as AreWithin, limits_of}
+use Rattle.size_window.specs.Drawing.{AreLimits as AreWithin, limits_of}
 use Rattle.size_window.specs.declared.limits.Limits.{Limits}
 use Rattle.command_words.specs.Values.{IsSet}
 use Rattle.command_words.specs.Words.{Given, Takes}

@@ -6,7 +6,7 @@ use Rattle.bz_model.specs.Fraction.{ratio}
 use Rattle.bz_model.specs.Oracle.{Encloses, IsSoundTable}
 use Rattle.bz_model.specs.Spec.{Spec, body_of}
 use Rattle.bz_model.specs.Object.{Object, Belongs}
-use Rattle.class_system.specs.Sound.{IsSoundTable as IsSoundSpec}
+use Rattle.class_system.specs.Sound.{IsSound as IsSoundSpec}
 use Rattle.class_system.proofs.Soundness.{body_in_range}
 use Rattle.bz_laws.proofs.Weights.{bound-pos}
 use Rattle.kleene_lower.specs.Lower.{zeros}

@@ -8,7 +8,7 @@ use Rattle.bit_tape.proofs.NewTapes.{belongs_new}
 use Rattle.bz_model.specs.Fraction.{ratio}
 use Rattle.kleene_lower.specs.Lower.{zeros}
 use Rattle.oracle_memo.specs.Memos.{Memory}
-use Rattle.rounded_map.specs.RoundedMap.{Shared as Rounded}
+use Rattle.rounded_map.specs.RoundedMap.{Setting as Rounded}
 use Rattle.rounded_map.specs.RoundedMap as rounded
 use Rattle.choice_draw.specs.Decision.{level_for}
 use Rattle.oracle_memo.specs.Levels.{level_bounds_from, costs}
