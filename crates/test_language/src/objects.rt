@@ -1,14 +1,14 @@
 //! Objects of small specifications, whose texts were found by hand from the rules.
-ghost use Rattle.std.specs.Prelude.{IsTrue};
-ghost use Rattle.object_text.specs.Labels.{HasOneForEach};
+ghost use Rattle.std.specs.Prelude.{IsTrue, option_map};
+ghost use Rattle.object_text.specs.Labels.{AreLabelsFor};
 
 use crate::specifications::founded_of;
 use class_system::draft::Mode;
 use class_system::ids::ClassId;
-use class_system::system::System;
+use labelling::labels::Labels;
 use object_store::shape::Shape;
 use object_store::token::Token;
-use object_text::print::print_labelled;
+use object_text::print::print;
 use object_text::read::{ReadObject, read};
 use std::alloc::Global;
 use std::test::Fail;
@@ -41,62 +41,65 @@ pub fn shape_of(alloc: Global, text: &str) -> Result<Shape, Fail> {
     Ok(shape)
 }
 
-fn labels_of(alloc: Global, text: &str) -> Result<Vec<u64>, Fail> {
-    let mut labels = Vec::new(alloc);
+fn labels_of(alloc: Global, text: &str) -> Result<Labels, Fail> {
+    let mut labels = Labels::new(alloc);
     for word in text.split_whitespace() {
         labels.push(word.parse::<u64>().ok().ok_or("no label")?)?;
     }
     Ok(labels)
 }
 
-/// Whether there are as many labels as there must be.
-fn has_labels(system: &System, shape: &Shape, labels: &[u64]) -> bool
-    ensures { IsTrue result → HasOneForEach system.now.mode shape.now.items labels.now }
+/// Whether there are labels exactly in labelled mode, and then one for each atom.
+fn has_labels(founded: &Founded, shape: &Shape, labels: Option<&Labels>) -> bool
+    ensures { IsTrue result → AreLabelsFor founded.now.mode shape.now.items
+        (option_map (λ l. l.now) labels.entry) }
 {
-    match system.mode() {
-        Mode::Unlabelled => labels.is_empty(),
-        Mode::Labelled => labels.len() as u64 == shape.size(),
+    match (founded.system().mode(), labels) {
+        (Mode::Unlabelled, None) => true,
+        (Mode::Labelled, Some(labels)) => labels.items().len() as u64 == shape.size(),
+        _ => false,
     }
 }
 
 /// The text of an object of the first class, or `none` where the tokens are of none.
-fn printed(alloc: Global, system: &System, shape: &Shape, labels: &[u64]) -> Result<Vec<u8>, Fail> {
+fn printed(
+    alloc: Global,
+    founded: &Founded,
+    shape: &Shape,
+    labels: Option<&Labels>,
+) -> Result<Vec<u8>, Fail> {
     let class = ClassId(0);
-    if system.class_count() == 0 || !has_labels(system, shape, labels) {
-        return Err(Fail::from("no class, or too few labels"));
+    let system = founded.system();
+    if system.class_count() == 0 || !has_labels(founded, shape, labels) {
+        return Err(Fail::from("no class, or not the labels that it wants"));
     }
     if !shape.is_of(system, class)? {
         return Ok(Vec::from_slice(alloc, b"none")?);
     }
-    Ok(print_labelled(alloc, system, class, shape, labels)?)
+    Ok(print(alloc, founded, class, shape, labels)?)
 }
 
-/// The text of the object with these tokens, and with labels as they are written.
+/// The text of the object with these tokens, and in labelled mode with labels as they are written.
 fn printed_with(
     alloc: Global,
-    system: &System,
+    founded: &Founded,
     shape: &Shape,
     labels: &str,
 ) -> Result<Vec<u8>, Fail> {
-    let labels = labels_of(alloc, labels)?;
-    printed(alloc, system, shape, &labels)
-}
-
-/// The text of the object with tokens and labels as they are written.
-fn printed_from(
-    alloc: Global,
-    system: &System,
-    tokens: &str,
-    labels: &str,
-) -> Result<Vec<u8>, Fail> {
-    let shape = shape_of(alloc, tokens)?;
-    printed_with(alloc, system, &shape, labels)
+    match founded.system().mode() {
+        Mode::Unlabelled => printed(alloc, founded, shape, None),
+        Mode::Labelled => {
+            let labels = labels_of(alloc, labels)?;
+            printed(alloc, founded, shape, Some(&labels))
+        }
+    }
 }
 
 /// The text of the object of a specification, with tokens and labels as they are written.
 fn printed_of(alloc: Global, spec: &str, tokens: &str, labels: &str) -> Result<Vec<u8>, Fail> {
     let founded = founded_of(alloc, spec)?;
-    printed_from(alloc, founded.system(), tokens, labels)
+    let shape = shape_of(alloc, tokens)?;
+    printed_with(alloc, &founded, &shape, labels)
 }
 
 /// What is read as an object of the first class, or the fault.
