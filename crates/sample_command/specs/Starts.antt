@@ -1,11 +1,11 @@
 -- The class vector from which the lower sweeps of a drawing start: zero, or with `--fast` the fast
 -- vector of the base.
 use Rattle.std.specs.Prelude.{◌≡◌, ℕ, ◌+◌, ◌*◌, Bool, true, false, List, [], Option, Some, None}
+use Rattle.std.specs.Prelude.{codes}
 use Rattle.kleene_lower.specs.Lower.{zeros}
 use Rattle.fast_lower.specs.FastVector.{fast_vector}
 use Rattle.rounded_map.specs.RoundedMap.{Setting}
 use Rattle.certificate.specs.Lines.{version_line}
-use Rattle.call_stages.specs.Lines.{fast_format}
 use Rattle.call_stages.specs.Outcomes.{Outcome, Says}
 use Rattle.call_stages.specs.Refusals.{no_fast_line}
 use Rattle.call_stages.specs.declared.status.Status.{Status}
@@ -14,6 +14,10 @@ use Rattle.call_stages.specs.declared.status.Status.{Status}
 abbrev pub start_of : (fast : Bool) → Setting → (base : List ℕ) → Option (List ℕ)
 start_of false t base = Some (zeros t)
 start_of true t base = fast_vector t base
+
+-- The first line of a drawing whose lower sweeps start from a fast vector.
+abbrev pub fast_format : List ℕ
+fast_format = codes "boltzmann fast"
 
 -- The first line of a drawing: that of a certificate, or with `--fast` one that `verify` refuses.
 abbrev pub format_of : (fast : Bool) → List ℕ

@@ -10,7 +10,7 @@ ghost use Rattle.object_store.specs.Tokens.{IsOf};
 ghost use Rattle.rounded_map.specs.RoundedMap.{setting};
 ghost use Rattle.size_window.specs.Drawing.{ending_of, limits_of};
 ghost use Rattle.size_window.specs.Turn.{entry_of, HasLabels, labels_of as labels_told};
-ghost use Rattle.call_stages.specs.Lines.{fast_format};
+ghost use Rattle.sample_command.specs.Starts.{fast_format};
 ghost use Rattle.sample_command.specs.Drawn.{closing_word as word_told, ending_word, ending_status};
 ghost use Rattle.sample_command.specs.Drawn.{drawn_header, AreLinesOf};
 ghost use Rattle.sample_command.specs.UnderWay.{told_open, told_closing};
