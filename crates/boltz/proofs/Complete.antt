@@ -26,7 +26,7 @@ use Rattle.boltz.specs.Answers as answers
 use Rattle.boltz.specs.Commands.{Specifies, AreRefused}
 use Rattle.boltz.specs.Complete.{IsGiven, IsFit, AsksToPrint, IsUnfit, undisturbed, IsDrawable, IsBoundable, IsBaseless, IsWithoutFast}
 use Rattle.boltz.specs.Complete as complete
-use Rattle.sample_command.specs.Drawn.{TapeMet, HasFailed, Drawn, Lists, drawn_header, closing_lines, ending_status}
+use Rattle.sample_command.specs.Drawn.{TapeMet, HasFailed, Drawn, Lists, drawn_header, closing_text, ending_status}
 use Rattle.sample_command.specs.Drawn as drawn
 use Rattle.bulk_command.specs.BulkText.{bulk_text}
 use Rattle.bulk_command.specs.BulkCommand.{BulkDrawn}
@@ -150,7 +150,7 @@ baseless w s x F status text ticks (complete.to_draw file word limits fast fit n
     baseless-only (t s) (DrawnOver fast (t s) (limits_of limits) met) none status text ticks memory (fit-only w asked file s fit (λ s. Based (t s) (DrawnOver fast (t s) (limits_of limits) met)) status text ticks memory (outcome-of w asked fit.named status text ticks memory h))
 
 -- a drawing over a tape that is known is the undisturbed one
-drawn-only : (cost : ℕ → ℕ) (header : List ℕ) (a : Setting) (base start : List ℕ) (limits : Window) (t : TapeMet) (bits : ℕ → Option Bool) (turns : ℕ) (ending : Ending) → bits_of t.source t.contents ≡ Some bits → ¬ (HasFailed t) → (undisturbed a base start limits bits turns).state.ending ≡ Some ending → (status : Status) (text : List ℕ) (ticks : ℕ) → status ≢ Status.OutOfMemory → Drawn cost header a.spec (ratio a.num a.den) a.bits (level_bounds_from a start base) limits t status text ticks → (status ≡ ending_status ending) × ((lines : List ℕ) × Lists a.spec (undisturbed a base start limits bits turns).entries lines × (text ≡ header ++ (lines ++ closing_lines (level_bounds_from a start base) (undisturbed a base start limits bits turns) ending)))
+drawn-only : (cost : ℕ → ℕ) (header : List ℕ) (a : Setting) (base start : List ℕ) (limits : Window) (t : TapeMet) (bits : ℕ → Option Bool) (turns : ℕ) (ending : Ending) → bits_of t.source t.contents ≡ Some bits → ¬ (HasFailed t) → (undisturbed a base start limits bits turns).state.ending ≡ Some ending → (status : Status) (text : List ℕ) (ticks : ℕ) → status ≢ Status.OutOfMemory → Drawn cost header a.spec (ratio a.num a.den) a.bits (level_bounds_from a start base) limits t status text ticks → (status ≡ ending_status ending) × ((lines : List ℕ) × Lists a.spec (undisturbed a base start limits bits turns).entries lines × (text ≡ header ++ (lines ++ closing_text (level_bounds_from a start base) (undisturbed a base start limits bits turns) ending)))
 drawn-only cost header a base start limits t bits turns ending are_known calm ends status text ticks memory (drawn.so_far c given first others lines h e l says) = absurd (memory says.status_is)
 drawn-only cost header a base start limits t bits turns ending are_known calm ends status text ticks memory (drawn.no_memory says) = absurd (memory says.status_is)
 drawn-only cost header a base start limits t bits turns ending are_known calm ends status text ticks memory (drawn.ended c given d lines h l says) =
@@ -159,13 +159,13 @@ drawn-only cost header a base start limits t bits turns ending are_known calm en
       (
         lines,
         subst (λ (z : Course). Lists a.spec z.entries lines) same.0 l,
-        says.text_is ∙ ap (λ (z : Course). header ++ (lines ++ closing_lines (level_bounds_from a start base) z d)) same.0 ∙ ap (λ z. header ++ (lines ++ closing_lines (level_bounds_from a start base) (undisturbed a base start limits bits turns) z)) same.1,
+        says.text_is ∙ ap (λ (z : Course). header ++ (lines ++ closing_text (level_bounds_from a start base) z d)) same.0 ∙ ap (λ z. header ++ (lines ++ closing_text (level_bounds_from a start base) (undisturbed a base start limits bits turns) z)) same.1,
       ),
     )
 
 -- A drawing that the words ask for and that ends is answered by its header, kept objects' lines,
 -- closing and its ending's status, unless memory runs out.
-pub draws : (w : World) (s : Spec) (x : Fraction) (F : FractionBits) (fast : Bool) (turns : ℕ) (limits : Limits) (base start : List ℕ) (bits : ℕ → Option Bool) (ending : Ending) (status : Status) (text : List ℕ) (ticks : ℕ) → IsDrawable w s x F fast limits base start bits turns ending → status ≢ Status.OutOfMemory → Answers w status text ticks → (status ≡ ending_status ending) × ((lines : List ℕ) × Lists s (undisturbed (setting s x.num x.den (fraction_bits F)) base start (limits_of limits) bits turns).entries lines × (text ≡ drawn_header (format_of fast) (setting s x.num x.den (fraction_bits F)) base (limits_of limits) ++ (lines ++ closing_lines (level_bounds_from (setting s x.num x.den (fraction_bits F)) start base) (undisturbed (setting s x.num x.den (fraction_bits F)) base start (limits_of limits) bits turns) ending)))
+pub draws : (w : World) (s : Spec) (x : Fraction) (F : FractionBits) (fast : Bool) (turns : ℕ) (limits : Limits) (base start : List ℕ) (bits : ℕ → Option Bool) (ending : Ending) (status : Status) (text : List ℕ) (ticks : ℕ) → IsDrawable w s x F fast limits base start bits turns ending → status ≢ Status.OutOfMemory → Answers w status text ticks → (status ≡ ending_status ending) × ((lines : List ℕ) × Lists s (undisturbed (setting s x.num x.den (fraction_bits F)) base start (limits_of limits) bits turns).entries lines × (text ≡ drawn_header (format_of fast) (setting s x.num x.den (fraction_bits F)) base (limits_of limits) ++ (lines ++ closing_text (level_bounds_from (setting s x.num x.den (fraction_bits F)) start base) (undisturbed (setting s x.num x.den (fraction_bits F)) base start (limits_of limits) bits turns) ending)))
 draws w s x F fast turns limits base start bits ending status text ticks p memory h =
     let asked = command.Sample p.file x p.word limits F fast in
     let t = λ (s : Spec). setting s x.num x.den (fraction_bits F) in

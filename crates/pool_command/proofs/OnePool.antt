@@ -19,7 +19,7 @@ use Rattle.call_stages.specs.Stages.{Files, IsCalm, AreCalm, Based}
 use Rattle.call_stages.specs.declared.status.Status.{Status}
 use Rattle.call_stages.proofs.Endings as endings
 use Rattle.call_stages.proofs.OneReading.{one-read, one-specified, one-based}
-use Rattle.sample_command.specs.Drawn.{HasFailed, is_fault, IsDrawn, ending_status, closing_lines, drawn_header}
+use Rattle.sample_command.specs.Drawn.{HasFailed, is_fault, IsDrawn, ending_status, closing_text, drawn_header}
 use Rattle.sample_command.specs.UnderWay.{met}
 use Rattle.sample_command.proofs.OneDrawing.{one-course, one-list}
 use Rattle.session_pool.specs.Interleaving.{times}
@@ -98,9 +98,9 @@ module _ (p : PoolSetting) (f : Files) (tapes : List (List ℕ)) (d e : ℕ → 
 
   session-alike : (i : ℕ) → ArePrintedAlike (d i) (e i) → session_lines (table_of p) d i ≡ session_lines (table_of p) e i
   session-alike i same =
-      ap (λ ls. session_line i ++ (ls ++ closing_lines (table_of p) (d i).so_far.course (d i).ending)) same.lines
-      ∙ ap (λ c. session_line i ++ ((e i).lines ++ closing_lines (table_of p) c (d i).ending)) same.course
-      ∙ ap (λ n. session_line i ++ ((e i).lines ++ closing_lines (table_of p) (e i).so_far.course n)) same.ending
+      ap (λ ls. session_line i ++ (ls ++ closing_text (table_of p) (d i).so_far.course (d i).ending)) same.lines
+      ∙ ap (λ c. session_line i ++ ((e i).lines ++ closing_text (table_of p) c (d i).ending)) same.course
+      ∙ ap (λ n. session_line i ++ ((e i).lines ++ closing_text (table_of p) (e i).so_far.course n)) same.ending
 
   pub text-alike : drawings_text p (length tapes) d ≡ drawings_text p (length tapes) e
   text-alike = ap (λ t. drawn_header (version_line 2) p.setting p.base p.limits ++ t) (below-alike (session_lines (table_of p) d) (session_lines (table_of p) e) (length tapes) (λ i few. session-alike i (all-alike i few)))

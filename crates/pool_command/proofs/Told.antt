@@ -17,7 +17,7 @@ use Rattle.call_stages.specs.Lines.{lines_below}
 use Rattle.call_stages.specs.Outcomes.{IsWithin}
 use Rattle.call_stages.specs.Stages.{files}
 use Rattle.call_stages.specs.declared.status.Status.{Status}
-use Rattle.sample_command.specs.Drawn.{closing_lines, drawn_header, ending_status}
+use Rattle.sample_command.specs.Drawn.{closing_text, drawn_header, ending_status}
 use Rattle.sample_command.proofs.TapeEnds.{Chosen, EndLaws}
 use Rattle.pool_command.specs.PoolCommand.{PoolSetting, PoolCourse, PoolDrawing, AreCoursesIn, IsCourseIn, IsDrawnIn, PoolDrawn, table_of, greatest_below, raising_ticks, session_line, session_lines, failures_from, first_status, asks_of, drawings_text, order_line, pool_end_line}
 use Rattle.pool_command.specs.PoolCommand as pooled
@@ -122,14 +122,14 @@ module _ (p : PoolSetting) (contents : List ℕ → Option (List ℕ)) (begun be
         (subst (λ f. IsDrawnIn p (files contents before n.counts) (get_or names i []) (record { so_far = course-from i (Some m) at; ending = f; lines = lines i })) (sym (ap end-of e.1))
         (drawn-in p contents begun n.counts before chosen earlier m (h.mosts i) (h.each i m at) (get_or names i []) (source-at n.pool names i m h.after.same_sources at) e.0 e.1 right laws sound are (lines i) its))
 
-    session-at : (i : ℕ) → i < length names → (o : Option MemberState) (at : slice_get n.pool i ≡ o) → session_line i ++ (lines i ++ closing_of_member o) ≡ session_line i ++ (lines i ++ closing_lines (table_of p) (drawing-from i o at).so_far.course (drawing-from i o at).ending)
+    session-at : (i : ℕ) → i < length names → (o : Option MemberState) (at : slice_get n.pool i ≡ o) → session_line i ++ (lines i ++ closing_of_member o) ≡ session_line i ++ (lines i ++ closing_text (table_of p) (drawing-from i o at).so_far.course (drawing-from i o at).ending)
     session-at i few None at = absurd (within-pool i few at)
     session-at i few (Some m) at =
         let e = ended-as m.drawing.ending (subst (λ o. IsSome (ending_of_member o)) at (ended i few)) in
         let right = rightly-of i m at e.0 e.1 in
         ap (λ c. session_line i ++ (lines i ++ c))
         (closing-same p contents begun n.counts before chosen earlier m (h.mosts i) (h.each i m at) (get_or names i []) (source-at n.pool names i m h.after.same_sources at) e.0 e.1 right
-        ∙ ap (closing_lines (table_of p) (course-from i (Some m) at).course) (sym (ap end-of e.1)))
+        ∙ ap (closing_text (table_of p) (course-from i (Some m) at).course) (sym (ap end-of e.1)))
 
     asks-at : (i : ℕ) → i < length names → (o : Option MemberState) (at : slice_get n.pool i ≡ o) → asks_to_end (drawing-from i o at).ending (drawing-from i o at).so_far.course.state.turns ≡ asked_of_member o
     asks-at i few None at = absurd (within-pool i few at)

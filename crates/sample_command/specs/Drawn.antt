@@ -20,8 +20,7 @@ use Rattle.rounded_map.specs.RoundedMap.{Setting}
 use Rattle.certificate.specs.declared.closing.Closing.{Closing}
 use Rattle.certificate.specs.declared.closing.ClosingWord.{ClosingWord}
 use Rattle.certificate.specs.declared.closing.ClosingWord.TheVariants as closing
-use Rattle.certificate.specs.Certificates.{object_lines}
-use Rattle.certificate.specs.Certificates as certificate
+use Rattle.certificate.specs.Certificates.{object_lines, closing_lines}
 use Rattle.certificate.specs.Headers.{drawn_lines}
 use Rattle.certificate.specs.Lines.{text_of}
 use Rattle.call_stages.specs.Outcomes.{Says}
@@ -161,9 +160,9 @@ closing_of table c ending =
       turns = c.state.turns;
     }
 
--- The lines after the last object are those of a certificate's closing.
-abbrev pub closing_lines : (table : (level node : ℕ) → Bounds) → Course → Ending → List ℕ
-closing_lines table c ending = text_of (certificate.closing_lines (closing_of table c ending))
+-- The text after the last object is that of a certificate's closing.
+abbrev pub closing_text : (table : (level node : ℕ) → Bounds) → Course → Ending → List ℕ
+closing_text table c ending = text_of (closing_lines (closing_of table c ending))
 
 -- The lines before the first object: the format, and below it the lines of a certificate's header,
 -- which state the specification, x, the fraction bits, the window of sizes, and the base.
@@ -181,7 +180,7 @@ pub data Drawn (cost : (level : ℕ) → ℕ) (header : List ℕ) (s : Spec) (x 
     (text : List ℕ) (ticks : ℕ) : Type 0 where
   ended : (course : Course) (most : ℕ) (ending : Ending) (lines : List ℕ)
       → IsDrawn s x F table limits t course most ending → Lists s course.entries lines
-      → Says (ending_status ending) (header ++ (lines ++ closing_lines table course ending))
+      → Says (ending_status ending) (header ++ (lines ++ closing_text table course ending))
       (cost (level_for most)) status text ticks
       → Drawn cost header s x F table limits t status text ticks
   so_far : (course : Course) (most : ℕ) (first others : List Entry) (lines : List ℕ)
