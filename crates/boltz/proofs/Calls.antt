@@ -4,7 +4,7 @@ use Rattle.std.specs.Prelude.{Bool, Option, Some, None, option_map}
 use Rattle.bz_model.specs.Spec.{Spec}
 use Rattle.bz_outside.specs.Outside.{Rose, Appends}
 use Rattle.bit_tape.specs.Bits.{file_bit, seed_bit}
-use Rattle.bit_tape.specs.Tape.{bits_of}
+use Rattle.bit_tape.specs.Tape.{bits_of_source}
 use Rattle.command_words.specs.Commands.{IsCommand, Refuses}
 use Rattle.command_words.specs.Fractions.{fraction_bits}
 use Rattle.command_words.specs.declared.command.Command.{Command}
@@ -45,7 +45,7 @@ use Rattle.rank_commands.proofs.OneOutcome.{one-count, one-unrank, one-rank}
 use Rattle.call_stages.proofs.OneReading.{one-said, one-specified, one-based}
 
 -- the tape of a sample is known, and no read of it failed
-pub known-bits : (f : Files) (word : TapeWord) → AreCalm f (tape_files word) → (bits : ℕ → Option Bool) × (bits_of (source_of word) f.content ≡ Some bits)
+pub known-bits : (f : Files) (word : TapeWord) → AreCalm f (tape_files word) → (bits : ℕ → Option Bool) × (bits_of_source (source_of word) f.content ≡ Some bits)
 known-bits f (tape.File name) calm = (file_bit calm.0.bytes, ap (option_map file_bit) calm.0.known)
 known-bits f (tape.Seed seed) calm = (seed_bit seed, refl)
 

@@ -5,7 +5,7 @@ ghost use Rattle.bz_model.specs.Spec.{node_at, range_at, IsInRange};
 ghost use Rattle.bz_model.specs.Cell.{IsCell};
 ghost use Rattle.bz_model.specs.Oracle.{LeavesOracle};
 ghost use Rattle.class_system.specs.Views.{spec_range};
-ghost use Rattle.bit_tape.specs.Tape.{Belongs, LeavesTape, bits_of};
+ghost use Rattle.bit_tape.specs.Tape.{BelongsToShelf, LeavesTape, bits_of_source};
 ghost use Rattle.choice_draw.specs.Decision.{level_for, level_of};
 ghost use Rattle.choice_draw.specs.Answer.{IsDraw};
 ghost use Rattle.choice_draw.specs.IdealOfCell.{IsIdealOfCell, IsOverOfCell};
@@ -51,10 +51,10 @@ pub fn draw_count<const F: u32, O: Oracle<F>, S: Shelf, L: Ledger>(
     requires counted { IsCountedNode system.now node.0 }
     requires room { room ≤ 1000000 }
     requires spec { O.spec oracle.old ≡ system.now }
-    requires belongs { Belongs (S.content shelf.old) tape.old }
+    requires belongs { BelongsToShelf (S.content shelf.old) tape.old }
 
     ensures drawn { IsDraw (count_decision system.now F (O.table oracle.old) node.0 room)
-        (bits_of tape.old.source (S.content shelf.old))
+        (bits_of_source tape.old.source (S.content shelf.old))
         tape.old.used tape.new.used (told_count result tape.new.used) }
     ensures ideal { OnCount result (λ i cell.
         IsIdealOfCell system.now (O.x oracle.old) node.0 cell i) }
@@ -97,10 +97,10 @@ pub fn draw_count_kept<const F: u32, O: Oracle<F>, S: Shelf, L: Ledger>(
     requires counted { IsCountedNode system.now node.0 }
     requires room { room ≤ 1000000 }
     requires spec { O.spec oracle.old ≡ system.now }
-    requires belongs { Belongs (S.content shelf.old) tape.old }
+    requires belongs { BelongsToShelf (S.content shelf.old) tape.old }
 
     ensures drawn { IsDraw (count_decision system.now F (O.table oracle.old) node.0 room)
-        (bits_of tape.old.source (S.content shelf.old))
+        (bits_of_source tape.old.source (S.content shelf.old))
         tape.old.used tape.new.used (told_count result tape.new.used) }
     ensures ideal { OnCount result (λ i cell.
         IsIdealOfCell system.now (O.x oracle.old) node.0 cell i) }
@@ -146,10 +146,10 @@ fn draw_by_rows<const F: u32, O: Oracle<F>, S: Shelf, L: Ledger>(
     requires counted { IsCountedNode system.now node.0 }
     requires room { room ≤ 1000000 }
     requires spec { O.spec oracle.old ≡ system.now }
-    requires belongs { Belongs (S.content shelf.old) tape.old }
+    requires belongs { BelongsToShelf (S.content shelf.old) tape.old }
 
     ensures drawn { IsDraw (count_decision system.now F (O.table oracle.old) node.0 room)
-        (bits_of tape.old.source (S.content shelf.old))
+        (bits_of_source tape.old.source (S.content shelf.old))
         tape.old.used tape.new.used (told_count result tape.new.used) }
     ensures ideal { OnCount result (λ i cell.
         IsIdealOfCell system.now (O.x oracle.old) node.0 cell i) }

@@ -6,7 +6,7 @@ use Rattle.bz_model.specs.Fraction.{Fraction}
 use Rattle.bz_model.specs.Spec.{Spec, body_of}
 use Rattle.bz_outside.specs.Outside.{ReadFailed}
 use Rattle.bit_tape.specs.Given.{HasBits}
-use Rattle.bit_tape.specs.Tape.{TapeSource, CountsFault, bits_of}
+use Rattle.bit_tape.specs.Tape.{TapeSource, CountsFault, bits_of_source}
 use Rattle.choice_draw.specs.Draw.{bit_of}
 use Rattle.shape_sampler.specs.declared.stepped.Stepped.{Stepped}
 use Rattle.shape_sampler.specs.declared.stepped.Stepped.TheVariants.{Moved, Made, Overshot, Straddles, Ended, ReadFault, OutOfMemory}
@@ -35,8 +35,8 @@ pub same-shelf : (a b : List ℕ) (before now : List ℕ → Option (List ℕ)) 
 same-shelf a b before now is there same = let e : Some b ≡ Some a = ap (λ (f : List ℕ → Option (List ℕ)). f []) (sym there ∙ same ∙ is) in cc
 
 -- the bits of a tape that is still of its source, over the same shelf
-pub still-told : (source first : TapeSource) (a b : List ℕ) (bits : Option (ℕ → Option Bool)) → source ≡ first → b ≡ a → bits_of first (λ name. Some a) ≡ bits → bits_of source (λ name. Some b) ≡ bits
-still-told source first a b bits same shelf told = ap (λ t. bits_of t (λ name. Some b)) same ∙ ap (λ sh. bits_of first (λ name. Some sh)) shelf ∙ told
+pub still-told : (source first : TapeSource) (a b : List ℕ) (bits : Option (ℕ → Option Bool)) → source ≡ first → b ≡ a → bits_of_source first (λ name. Some a) ≡ bits → bits_of_source source (λ name. Some b) ≡ bits
+still-told source first a b bits same shelf told = ap (λ t. bits_of_source t (λ name. Some b)) same ∙ ap (λ sh. bits_of_source first (λ name. Some sh)) shelf ∙ told
 
 first-at : (xs : List ℕ) (x : ℕ) → slice_get xs 0 ≡ Some x → slice_index xs 0 ≡ x
 first-at [] x is = let no : ⊥ = cc in absurd no

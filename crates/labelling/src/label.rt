@@ -1,7 +1,7 @@
 //! Labellings.
 ghost use Rattle.std.specs.Prelude.{◌≡◌, ◌≢◌, ◌+◌, ◌*◌, ◌≤◌, []};
 ghost use Rattle.bz_model.specs.Labels.{numbers_from};
-ghost use Rattle.bit_tape.specs.Tape.{Belongs, LeavesTape, bits_of};
+ghost use Rattle.bit_tape.specs.Tape.{BelongsToShelf, LeavesTape, bits_of_source};
 ghost use Rattle.labelling.specs.Answer.{IsLabelling, OnLabels, AreIdealLabels, AreCellsOf};
 ghost use Rattle.labelling.specs.Answer.{StraddlesAt, is_fault};
 
@@ -24,11 +24,11 @@ use std::alloc::Global;
 /// were.
 pub fn label<S: Shelf>(alloc: Global, n: u64, tape: &mut Tape, shelf: &mut S) -> Labelled
     requires within_limit { n ≤ 1000000 }
-    requires belongs { Belongs (S.content shelf.old) tape.old }
+    requires belongs { BelongsToShelf (S.content shelf.old) tape.old }
 
     ensures no_memory { result ≡ Labelled.OutOfMemory
         → (tape.new ≡ tape.old) × (shelf.new ≡ shelf.old) }
-    ensures labelled { IsLabelling (bits_of tape.old.source (S.content shelf.old)) n
+    ensures labelled { IsLabelling (bits_of_source tape.old.source (S.content shelf.old)) n
         tape.old.used result tape.new.used }
     ensures ideal { OnLabels result (λ labels cells. AreIdealLabels n labels cells) }
     ensures cells { OnLabels result (λ labels cells. AreCellsOf n cells) }
@@ -48,9 +48,9 @@ pub fn label<S: Shelf>(alloc: Global, n: u64, tape: &mut Tape, shelf: &mut S) ->
 fn give_all<S: Shelf>(mut progress: Progress, n: u64, tape: &mut Tape, shelf: &mut S) -> Labelled
     requires within_limit { n ≤ 1000000 }
     requires begun { progress ≡ record { remaining = numbers_from 1 n; given = []; cells = [] } }
-    requires belongs { Belongs (S.content shelf.old) tape.old }
+    requires belongs { BelongsToShelf (S.content shelf.old) tape.old }
 
-    ensures labelled { IsLabelling (bits_of tape.old.source (S.content shelf.old)) n
+    ensures labelled { IsLabelling (bits_of_source tape.old.source (S.content shelf.old)) n
         tape.old.used result tape.new.used }
     ensures some_memory { result ≢ Labelled.OutOfMemory }
     ensures ideal { OnLabels result (λ labels cells. AreIdealLabels n labels cells) }

@@ -2,7 +2,7 @@
 use Rattle.std.proofs.Common.{◌≡◌, ℕ, ◌+◌, ◌-◌, ◌≤◌, arith, List, map, refl, sym, ap, subst, ◌∙◌}
 use Rattle.std.specs.Prelude.{Option, Some}
 use Rattle.bz_model.specs.Fraction.{ratio}
-use Rattle.bit_tape.specs.Tape.{TapeSource, bits_of}
+use Rattle.bit_tape.specs.Tape.{TapeSource, bits_of_source}
 use Rattle.class_system.specs.Sound.{IsSound}
 use Rattle.size_window.specs.declared.ending.Ending.{Ending as Told}
 use Rattle.size_window.specs.declared.ending.Ending.TheVariants as told
@@ -37,7 +37,7 @@ asks-are told.ReadFault turns = omega arith
 -- a drawing of a pool is one of the command
 module _ (p : PoolSetting) (contents : List ℕ → Option (List ℕ)) (begun counts before : List ℕ → ℕ) (chosen : Chosen p.setting.spec p.setting.bits (table_of p)) (earlier : (other : List ℕ) → before other ≤ begun other) (m : MemberState) (most : ℕ) (h : IsMemberUnderWay (shared_of p contents) p.limits begun counts m most) (name : List ℕ) (source : m.tape.source ≡ TapeSource.Named name) where
   abbrev pub SoFarOver : TapeSource → Type 0
-  SoFarOver s = IsCourseSoFar p.setting.spec (ratio p.setting.num p.setting.den) p.setting.bits (table_of p) p.limits (bits_of s contents) m.drawing m.tape.used most
+  SoFarOver s = IsCourseSoFar p.setting.spec (ratio p.setting.num p.setting.den) p.setting.bits (table_of p) p.limits (bits_of_source s contents) m.drawing m.tape.used most
 
   pub over-name : (q : SoFarOver (TapeSource.Named name)) × (q.course.entries ≡ map entry_of m.entries)
   over-name = subst (λ s. (q : SoFarOver s) × (q.course.entries ≡ map entry_of m.entries)) source (h.so_far, h.entries)

@@ -5,7 +5,7 @@ use Rattle.std.specs.List.{All}
 use Rattle.std.proofs.lemmas.List.{map-append}
 use Rattle.std.proofs.lemmas.List.Elements.{All-push}
 use Rattle.bz_model.specs.Spec.{Mode}
-use Rattle.bit_tape.specs.Tape.{TapeSource, CountsFault, bits_of}
+use Rattle.bit_tape.specs.Tape.{TapeSource, CountsFault, bits_of_source}
 use Rattle.class_system.specs.Sound.{IsSound}
 use Rattle.size_window.specs.declared.ending.Ending.{Ending as Told}
 use Rattle.size_window.specs.declared.ending.Ending.TheVariants as told
@@ -81,18 +81,18 @@ module _ (w : Shared) (before now : List ℕ → ℕ) (m later : MemberState) (p
       go (Some e) is = let same = turns-are in let by = end-counts h.told e (ends-by ∙ is) in let one = few-turns e in omega (arith, same, by, one)
 
   module _ (limits : Limits) (most : ℕ) (law : TurnsContinue) (sound : IsSound w.spec) (begun : List ℕ → ℕ) (rose : (name : List ℕ) → begun name ≤ before name) (grew : (name : List ℕ) → before name ≤ now name) (p : IsMemberUnderWay w limits begun before m most) where
-    tells : TellsTurn w.spec w.x w.F w.table limits (bits_of m.tape.source w.contents) m.drawing later.drawing m.tape.used later.tape.used h.told
+    tells : TellsTurn w.spec w.x w.F w.table limits (bits_of_source m.tape.source w.contents) m.drawing later.drawing m.tape.used later.tape.used h.told
     tells = record { law = law; sound = sound; within = p.so_far.drawing.within; turn = h.turn; counted = h.counted }
 
     abbrev later_most : ℕ
     later_most = max most (bits_to_nodes m later)
 
-    abbrev on : IsCourseSoFar w.spec w.x w.F w.table limits (bits_of m.tape.source w.contents) later.drawing later.tape.used later_most
-    on = so-far-on w.spec w.x w.F w.table limits (bits_of m.tape.source w.contents) m.drawing later.drawing m.tape.used later.tape.used h.told tells most p.so_far
+    abbrev on : IsCourseSoFar w.spec w.x w.F w.table limits (bits_of_source m.tape.source w.contents) later.drawing later.tape.used later_most
+    on = so-far-on w.spec w.x w.F w.table limits (bits_of_source m.tape.source w.contents) m.drawing later.drawing m.tape.used later.tape.used h.told tells most p.so_far
 
     entries-are : on.course.entries ≡ map entry_of later.entries
     entries-are =
-        entries-on w.spec w.x w.F w.table limits (bits_of m.tape.source w.contents) m.drawing later.drawing m.tape.used later.tape.used h.told tells most p.so_far
+        entries-on w.spec w.x w.F w.table limits (bits_of_source m.tape.source w.contents) m.drawing later.drawing m.tape.used later.tape.used h.told tells most p.so_far
         ∙ ap (λ es. es ++ option_to_list (told_entry h.told)) p.entries
         ∙ ap (λ es. map entry_of m.entries ++ es) (kept-told h.told)
         ∙ sym (map-append entry_of m.entries (kept_in h.told))
@@ -117,7 +117,7 @@ module _ (w : Shared) (before now : List ℕ → ℕ) (m later : MemberState) (p
 
     pub member-on : IsMemberUnderWay w limits begun now later later_most
     member-on =
-        let moved = subst (λ source. (q : IsCourseSoFar w.spec w.x w.F w.table limits (bits_of source w.contents) later.drawing later.tape.used later_most) × (q.course.entries ≡ map entry_of later.entries)) (sym h.source) (on, entries-are) in
+        let moved = subst (λ source. (q : IsCourseSoFar w.spec w.x w.F w.table limits (bits_of_source source w.contents) later.drawing later.tape.used later_most) × (q.course.entries ≡ map entry_of later.entries)) (sym h.source) (on, entries-are) in
         record {
           so_far = moved.0;
           entries = moved.1;

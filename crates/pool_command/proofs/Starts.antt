@@ -3,7 +3,7 @@ use Rattle.std.proofs.Common.{◌≡◌, ℕ, zero, suc, ◌≤◌, max, arith, 
 use Rattle.std.specs.Prelude.{Option, Some, None, option_map}
 use Rattle.std.specs.List.{All}
 use Rattle.std.proofs.lemmas.Option.{slice_get_within, get_or_from_slice_get}
-use Rattle.bit_tape.specs.Tape.{TapeSource, TapeState, Belongs, bits_of}
+use Rattle.bit_tape.specs.Tape.{TapeSource, TapeState, BelongsToShelf, bits_of_source}
 use Rattle.bit_tape.proofs.NewTapes.{belongs_new}
 use Rattle.bz_model.specs.Fraction.{ratio}
 use Rattle.kleene_lower.specs.Lower.{zeros}
@@ -41,8 +41,8 @@ new-under-way starts w limits counts m new unused =
       moments = subst (λ o. AreMoments m.tape.source (has_failed o) counts counts) (sym going) (record { before = counts; now = counts; since = λ name. omega arith; until = λ name. omega arith; reads = refl });
     }
   where
-    started : HasTrace w.spec w.x w.F w.table limits (bits_of m.tape.source w.contents) 0 m.drawing m.tape.used 0 at_start
-    started = subst (λ used. HasTrace w.spec w.x w.F w.table limits (bits_of m.tape.source w.contents) 0 m.drawing used 0 at_start) (sym unused) (starts w.spec w.x w.F w.table limits (bits_of m.tape.source w.contents) m.drawing new.state new.same_limits new.atoms)
+    started : HasTrace w.spec w.x w.F w.table limits (bits_of_source m.tape.source w.contents) 0 m.drawing m.tape.used 0 at_start
+    started = subst (λ used. HasTrace w.spec w.x w.F w.table limits (bits_of_source m.tape.source w.contents) 0 m.drawing used 0 at_start) (sym unused) (starts w.spec w.x w.F w.table limits (bits_of_source m.tape.source w.contents) m.drawing new.state new.same_limits new.atoms)
 
 -- nothing is the greatest of none
 greatest-none : (n : ℕ) → greatest_below (λ i. 0) n ≡ 0
@@ -78,7 +78,7 @@ tapes-unused (n ∷ names) zero d lt = refl
 tapes-unused (n ∷ names) (suc k) d lt = tapes-unused names k d (omega (arith, lt))
 
 -- The tapes over given names, before any bit is used, all belong to the contents of the files.
-pub tapes-belong : (contents : List ℕ → Option (List ℕ)) (names : List (List ℕ)) → All (Belongs contents) (map tape_over names)
+pub tapes-belong : (contents : List ℕ → Option (List ℕ)) (names : List (List ℕ)) → All (BelongsToShelf contents) (map tape_over names)
 tapes-belong contents [] k d lt = absurd (omega (arith, lt))
 tapes-belong contents (n ∷ names) zero d lt = belongs_new contents (TapeSource.Named n) 0
 tapes-belong contents (n ∷ names) (suc k) d lt = tapes-belong contents names k d (omega (arith, lt))

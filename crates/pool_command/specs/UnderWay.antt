@@ -4,7 +4,7 @@ use Rattle.std.specs.Prelude.{map, slice_get, Option, Some, None, IsSome}
 use Rattle.std.specs.List.{All}
 use Rattle.bz_model.specs.Fraction.{Fraction}
 use Rattle.bz_model.specs.Spec.{Spec}
-use Rattle.bit_tape.specs.Tape.{TapeSource, TapeState, CountsFault, bits_of}
+use Rattle.bit_tape.specs.Tape.{TapeSource, TapeState, CountsFault, bits_of_source}
 use Rattle.choice_draw.specs.Decision.{level_for}
 use Rattle.class_system.specs.Sound.{IsSound}
 use Rattle.oracle_memo.specs.Levels.{cost_at, costs}
@@ -59,7 +59,7 @@ pub record AreMoments (source : TapeSource) (failed : Bool)
 -- kept, each with labels as the mode wants them.
 pub record IsMemberUnderWay (w : Shared) (limits : Limits) (begun counts : List ℕ → ℕ)
     (m : MemberState) (most : ℕ) : Type 0 where
-  pub so_far : IsCourseSoFar w.spec w.x w.F w.table limits (bits_of m.tape.source w.contents)
+  pub so_far : IsCourseSoFar w.spec w.x w.F w.table limits (bits_of_source m.tape.source w.contents)
       m.drawing m.tape.used most
   pub entries : so_far.course.entries ≡ map entry_of m.entries
   pub labels : All (HasLabels w.spec.mode) m.entries

@@ -5,7 +5,7 @@ use Rattle.bz_model.specs.declared.cell.Bounds.{Bounds}
 use Rattle.bz_model.specs.declared.cell.Cell.{Cell}
 use Rattle.bz_model.specs.Fraction.{Fraction}
 use Rattle.bz_model.specs.Spec.{Spec}
-use Rattle.bit_tape.specs.Tape.{TapeState, Belongs}
+use Rattle.bit_tape.specs.Tape.{TapeState, BelongsToShelf}
 use Rattle.class_system.specs.declared.ids.ExprId.{ExprId}
 use Rattle.class_system.specs.Sound.{IsSound}
 use Rattle.object_store.specs.Tokens.{IsOf}
@@ -108,7 +108,7 @@ at-end s x contents table limits d now tape e can counted done turn_limit tells_
 }
 
 -- a drawing that goes on can make another turn
-pub can-turn-on : (s : Spec) (x : Fraction) (F : ℕ) (table : (level node : ℕ) → Bounds) (limits : Limits) (told : Option (ℕ → Option Bool)) (contents : List ℕ → Option (List ℕ)) (d now : DrawingState) (before_tape tape : TapeState) (a : Answer) → TellsTurn s x F table limits told d now before_tape.used tape.used a → CanTurn s x contents limits d before_tape → turns_by None a ≡ 1 → ending_by d.ending a ≡ d.ending → DrawingBelongs s x now → Belongs contents tape → CanTurn s x contents limits now tape × (now.turns ≡ d.turns + 1)
+pub can-turn-on : (s : Spec) (x : Fraction) (F : ℕ) (table : (level node : ℕ) → Bounds) (limits : Limits) (told : Option (ℕ → Option Bool)) (contents : List ℕ → Option (List ℕ)) (d now : DrawingState) (before_tape tape : TapeState) (a : Answer) → TellsTurn s x F table limits told d now before_tape.used tape.used a → CanTurn s x contents limits d before_tape → turns_by None a ≡ 1 → ending_by d.ending a ≡ d.ending → DrawingBelongs s x now → BelongsToShelf contents tape → CanTurn s x contents limits now tape × (now.turns ≡ d.turns + 1)
 can-turn-on s x F table limits told contents d now before_tape tape a h can one same belongs ahead = (
   record {
     sound = can.sound;

@@ -6,7 +6,7 @@ use Rattle.bz_model.specs.Spec.{Spec}
 use Rattle.bz_model.specs.ObjectText.{object_text}
 use Rattle.bz_model.specs.declared.cell.Bounds.{Bounds}
 use Rattle.bit_tape.specs.Given.{HasBits, Gave}
-use Rattle.bit_tape.specs.Tape.{TapeSource, bits_of, CountsFault, HasFault}
+use Rattle.bit_tape.specs.Tape.{TapeSource, bits_of_source, CountsFault, HasFault}
 use Rattle.object_store.specs.Tokens.{IsOf}
 use Rattle.size_window.specs.declared.ending.Straddle.{Straddle}
 use Rattle.size_window.specs.declared.ending.Straddle.TheVariants as straddle
@@ -68,8 +68,8 @@ pub record IsCourse (s : Spec) (x : Fraction) (F : ℕ) (table : (level node : �
     → Bounds) (limits : Limits) (t : TapeMet) (c : Course) (most : ℕ) : Type 0 where
   pub follows : Follows s x limits c
   pub given : List Bool
-  pub gave : Gave (bits_of t.source t.contents) 0 c.state.attempt.used given
-  pub ends : IfSome (bits_of t.source t.contents) (EndsAt c.state.ending c.state.attempt.used)
+  pub gave : Gave (bits_of_source t.source t.contents) 0 c.state.attempt.used given
+  pub ends : IfSome (bits_of_source t.source t.contents) (EndsAt c.state.ending c.state.attempt.used)
   pub spells : Spells c given
   pub turns : ℕ
   pub faults : ℕ → Option ℕ

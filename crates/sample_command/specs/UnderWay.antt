@@ -4,7 +4,7 @@ use Rattle.bz_model.specs.Fraction.{Fraction}
 use Rattle.bz_model.specs.Spec.{Spec}
 use Rattle.bz_model.specs.declared.cell.Bounds.{Bounds}
 use Rattle.bz_outside.specs.Outside.{AppendsFront}
-use Rattle.bit_tape.specs.Tape.{TapeState, TapeSource, Belongs}
+use Rattle.bit_tape.specs.Tape.{TapeState, TapeSource, BelongsToShelf}
 use Rattle.choice_draw.specs.Decision.{level_for}
 use Rattle.class_system.specs.Sound.{IsSound}
 use Rattle.size_window.specs.declared.ending.Ending.{Ending}
@@ -57,7 +57,7 @@ pub record CanTurn (s : Spec) (x : Fraction) (contents : List ℕ
   pub belongs : DrawingBelongs s x d
   pub within : d.limits ≡ limits
   pub goes_on : d.ending ≡ None
-  pub ahead : Belongs contents tape
+  pub ahead : BelongsToShelf contents tape
   pub so_far : HasCourse s x limits d tape.used
 
 -- The number that was left open, if one was, with the bounds that the ending states of a node.

@@ -5,7 +5,7 @@ use Rattle.bz_model.specs.declared.cell.Bounds.{Bounds}
 use Rattle.bz_model.specs.Fraction.{Fraction}
 use Rattle.bz_model.specs.Spec.{Spec}
 use Rattle.std.proofs.lemmas.Option.{same_Some}
-use Rattle.bit_tape.specs.Tape.{CountsFault, bits_of}
+use Rattle.bit_tape.specs.Tape.{CountsFault, bits_of_source}
 use Rattle.bit_tape.proofs.GivenBits.{gave-none}
 use Rattle.choice_draw.proofs.ToldDraws.{on_any}
 use Rattle.size_window.specs.declared.ending.Ending.{Ending as Told}
@@ -66,7 +66,7 @@ ended-member : (s : Spec) (x : Fraction) (F : ℕ) (table : (level node : ℕ) �
 ended-member s x F table contents counts m ending is = record {
   told = turned.Finished ending;
   made = λ e. absurd (cc);
-  turn = ended-turn s x F table (bits_of m.tape.source contents) m.drawing m.tape.used ending is;
+  turn = ended-turn s x F table (bits_of_source m.tape.source contents) m.drawing m.tape.used ending is;
   again = subst (λ o. IfSome o (λ e. (turned.Finished ending ≡ turned.Finished e) × (m ≡ m))) (sym is) (refl, refl);
   counted = ended-counted m.drawing ending is;
   next = tt;

@@ -6,7 +6,7 @@ use Rattle.std.specs.Str.{bytes_eq}
 use Rattle.bz_model.specs.declared.cell.Bounds.{Bounds}
 use Rattle.bz_model.specs.Fraction.{Fraction}
 use Rattle.bz_model.specs.Spec.{Spec}
-use Rattle.bit_tape.specs.Tape.{TapeSource, bits_of, HasFault}
+use Rattle.bit_tape.specs.Tape.{TapeSource, bits_of_source, HasFault}
 use Rattle.shape_sampler.specs.Visit.{Chooser}
 use Rattle.shape_sampler.specs.Answer.{ChoosesBy}
 use Rattle.size_window.specs.declared.ending.Ending.{Ending}
@@ -61,7 +61,7 @@ pub record IsMemberAfter (w : Shared) (limits : Limits) (begun counts : List ℕ
     (m : MemberState) : Type 0 where
   pub most : ℕ
   pub course : Course
-  pub trace : HasTrace w.spec w.x w.F w.table limits (bits_of m.tape.source w.contents) turns
+  pub trace : HasTrace w.spec w.x w.F w.table limits (bits_of_source m.tape.source w.contents) turns
       m.drawing m.tape.used most course
   pub entries : course.entries ≡ map entry_of m.entries
   pub asked : WasAsked turns m.drawing m.drawing.ending
@@ -122,6 +122,6 @@ AreAlikeWhere Premise =
     → (begun_then counts_then : List ℕ → ℕ) (others : List ℕ) (other : List MemberState)
     → IsPoolAfter w limits sources begun_then counts_then others other
     → (number : ℕ) (m n : MemberState) → slice_get pool number ≡ Some m
-    → slice_get other number ≡ Some n → IsSome (bits_of m.tape.source w.contents)
+    → slice_get other number ≡ Some n → IsSome (bits_of_source m.tape.source w.contents)
     → m.drawing.ending ≢ Some ReadFault → n.drawing.ending ≢ Some ReadFault
     → Premise (times number turns) (times number others) m n → AreAlikeMembers m n

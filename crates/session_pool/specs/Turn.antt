@@ -4,7 +4,7 @@ use Rattle.std.specs.Prelude.{Option, Some, None, IfSome}
 use Rattle.bz_model.specs.declared.cell.Bounds.{Bounds}
 use Rattle.bz_model.specs.Fraction.{Fraction}
 use Rattle.bz_model.specs.Spec.{Spec}
-use Rattle.bit_tape.specs.Tape.{bits_of, CountsFault}
+use Rattle.bit_tape.specs.Tape.{bits_of_source, CountsFault}
 use Rattle.size_window.specs.declared.ending.Ending.{Ending}
 use Rattle.size_window.specs.declared.ending.Ending.TheVariants.{Done, TurnLimit}
 use Rattle.size_window.specs.declared.turned.Entry.{Entry}
@@ -45,7 +45,7 @@ pub record IsMemberTurn (s : Spec) (x : Fraction) (F : ℕ) (table : (level node
     (answer : Pooled) (later : MemberState) : Type 0 where
   pub told : Turned
   pub made : told ≢ turned.OutOfMemory
-  pub turn : IsTurn s x F table (bits_of m.tape.source contents) m.drawing m.tape.used told
+  pub turn : IsTurn s x F table (bits_of_source m.tape.source contents) m.drawing m.tape.used told
       later.drawing later.tape.used
   pub again : IfSome m.drawing.ending (λ ending. (told ≡ turned.Finished ending) × (later ≡ m))
   pub counted : IsCounted m.drawing told later.drawing

@@ -5,7 +5,7 @@ use Rattle.std.proofs.lemmas.Option.{get_or_from_slice_get}
 use Rattle.bz_model.specs.Fraction.{Fraction}
 use Rattle.bz_model.specs.Spec.{Spec, Node, node_at, body_of}
 use Rattle.bz_model.specs.Cell.{AreCells}
-use Rattle.bit_tape.specs.Tape.{TapeState, Belongs, LeavesTape}
+use Rattle.bit_tape.specs.Tape.{TapeState, BelongsToShelf, LeavesTape}
 use Rattle.bit_tape.proofs.GivenBits.{gave-none}
 use Rattle.bit_tape.proofs.Leaving.{leaves-none}
 use Rattle.choice_draw.proofs.ToldDraws.{on_any}
@@ -79,7 +79,7 @@ plain-no_fault Ended stopped plain = refl
 plain-no_fault ReadFault stopped plain = absurd plain
 
 -- it leaves tape and shelf as they were
-pub plain-tape : {S : Type 0} (contents : S → List ℕ → Option (List ℕ)) (counts : S → List ℕ → ℕ) (shelf : S) (tape : TapeState) (answer : Stepped) (stopped : Option Stepped) → IsPlainAnswer answer → Belongs (contents shelf) tape → LeavesTape contents counts (is_fault answer stopped) shelf shelf tape tape
+pub plain-tape : {S : Type 0} (contents : S → List ℕ → Option (List ℕ)) (counts : S → List ℕ → ℕ) (shelf : S) (tape : TapeState) (answer : Stepped) (stopped : Option Stepped) → IsPlainAnswer answer → BelongsToShelf (contents shelf) tape → LeavesTape contents counts (is_fault answer stopped) shelf shelf tape tape
 plain-tape contents counts shelf tape answer stopped plain belongs = subst (λ b. LeavesTape contents counts b shelf shelf tape tape) (plain-no_fault answer stopped plain) (leaves-none contents counts shelf tape belongs)
 
 -- so does an answer that is given again
@@ -92,7 +92,7 @@ fault-again (Straddles node cell) stopped is = refl
 fault-again Ended stopped is = refl
 fault-again ReadFault stopped is = ap (is_fault ReadFault) (sym is)
 
-pub again-tape : {S : Type 0} (contents : S → List ℕ → Option (List ℕ)) (counts : S → List ℕ → ℕ) (shelf : S) (tape : TapeState) (stop : Stepped) (stopped : Option Stepped) → stopped ≡ Some stop → Belongs (contents shelf) tape → LeavesTape contents counts (is_fault stop stopped) shelf shelf tape tape
+pub again-tape : {S : Type 0} (contents : S → List ℕ → Option (List ℕ)) (counts : S → List ℕ → ℕ) (shelf : S) (tape : TapeState) (stop : Stepped) (stopped : Option Stepped) → stopped ≡ Some stop → BelongsToShelf (contents shelf) tape → LeavesTape contents counts (is_fault stop stopped) shelf shelf tape tape
 again-tape contents counts shelf tape stop stopped is belongs = subst (λ b. LeavesTape contents counts b shelf shelf tape tape) (fault-again stop stopped is) (leaves-none contents counts shelf tape belongs)
 
 -- a visit by every chooser that takes no number was given no bit, and is the one over any bits

@@ -6,7 +6,7 @@ ghost use Rattle.bz_model.specs.Fraction.{Fraction, IsFractionBits};
 ghost use Rattle.bz_model.specs.Spec.{Spec, Node, node_at, body_of};
 ghost use Rattle.bz_model.specs.Oracle.{LeavesOracle};
 ghost use Rattle.class_system.specs.Views.{number};
-ghost use Rattle.bit_tape.specs.Tape.{Belongs, LeavesTape, bits_of};
+ghost use Rattle.bit_tape.specs.Tape.{BelongsToShelf, LeavesTape, bits_of_source};
 ghost use Rattle.choice_draw.specs.Decision.{IsUnion, level_for};
 ghost use Rattle.count_draw.specs.Kinds.{IsCountedNode};
 ghost use Rattle.shape_sampler.specs.Visit.{leaf_visited};
@@ -185,7 +185,7 @@ impl Session {
         requires spec { O.spec oracle.old ≡ founded.now }
         requires session { SessionBelongs founded.now (O.x oracle.old) self.old }
         requires pending { self.old.pending ≢ [] }
-        requires tape { Belongs (S.content shelf.old) tape.old }
+        requires tape { BelongsToShelf (S.content shelf.old) tape.old }
 
         ensures again { IfSome self.old.stopped (λ stop. (result ≡ stop) × (self.new ≡ self.old)) }
         ensures stopped { IsSome self.old.stopped
@@ -197,7 +197,7 @@ impl Session {
             → Draws result self.old self.new tape.old.used tape.new.used }
         ensures exact { self.old.stopped ≡ None
             → IsVisitByBits founded.now F (O.table oracle.old)
-            (bits_of tape.old.source (S.content shelf.old))
+            (bits_of_source tape.old.source (S.content shelf.old))
             self.old tape.old.used result self.new tape.new.used }
         ensures ideal { IsIdealAnswer founded.now (O.x oracle.old) result self.new }
         ensures session { SessionBelongs founded.now (O.x oracle.old) self.new }
@@ -329,14 +329,14 @@ impl Session {
         requires few { length parts.now ≤ 64 }
         requires running { self.old.stopped ≡ None }
         requires first { slice_get self.old.pending 0 ≡ Some node.0 }
-        requires tape { Belongs (S.content shelf.old) tape.old }
+        requires tape { BelongsToShelf (S.content shelf.old) tape.old }
 
         ensures no_memory { result ≡ Stepped.OutOfMemory → (self.new ≡ self.old)
             × (tape.new ≡ tape.old) × (oracle.new ≡ oracle.old) × (shelf.new ≡ shelf.old) }
         ensures leaves { Leaves result self.old self.new }
         ensures draws { Draws result self.old self.new tape.old.used tape.new.used }
         ensures exact { IsVisitByBits system.now F (O.table oracle.old)
-            (bits_of tape.old.source (S.content shelf.old))
+            (bits_of_source tape.old.source (S.content shelf.old))
             self.old tape.old.used result self.new tape.new.used }
         ensures session { SessionBelongs system.now (O.x oracle.old) self.old
             → SessionBelongs system.now (O.x oracle.old) self.new
@@ -383,14 +383,14 @@ impl Session {
         requires counted { HasCountedPart founded.now node.0 part.0 }
         requires running { self.old.stopped ≡ None }
         requires first { slice_get self.old.pending 0 ≡ Some node.0 }
-        requires tape { Belongs (S.content shelf.old) tape.old }
+        requires tape { BelongsToShelf (S.content shelf.old) tape.old }
 
         ensures no_memory { result ≡ Stepped.OutOfMemory → (self.new ≡ self.old)
             × (tape.new ≡ tape.old) × (oracle.new ≡ oracle.old) × (shelf.new ≡ shelf.old) }
         ensures leaves { Leaves result self.old self.new }
         ensures draws { Draws result self.old self.new tape.old.used tape.new.used }
         ensures exact { IsVisitByBits founded.now F (O.table oracle.old)
-            (bits_of tape.old.source (S.content shelf.old))
+            (bits_of_source tape.old.source (S.content shelf.old))
             self.old tape.old.used result self.new tape.new.used }
         ensures session { SessionBelongs founded.now (O.x oracle.old) self.old
             → SessionBelongs founded.now (O.x oracle.old) self.new

@@ -4,7 +4,7 @@ ghost use Rattle.std.specs.Prelude.{length, Option, Some, None, IfSome, IfNone, 
 ghost use Rattle.std.specs.Prelude.{OnErr};
 ghost use Rattle.bz_model.specs.Fraction.{Fraction, IsFractionBits};
 ghost use Rattle.bz_model.specs.Oracle.{LeavesOracle};
-ghost use Rattle.bit_tape.specs.Tape.{Belongs, LeavesTape, bits_of};
+ghost use Rattle.bit_tape.specs.Tape.{BelongsToShelf, LeavesTape, bits_of_source};
 ghost use Rattle.class_system.specs.Views.{spec_mode};
 ghost use Rattle.choice_draw.specs.Decision.{level_for};
 ghost use Rattle.labelling.specs.Answer.{OnLabels};
@@ -137,7 +137,7 @@ impl Drawing {
         requires fraction_bits { IsFractionBits F }
         requires spec { O.spec oracle.old ≡ founded.now }
         requires drawing { DrawingBelongs founded.now (O.x oracle.old) self.old }
-        requires tape { Belongs (S.content shelf.old) tape.old }
+        requires tape { BelongsToShelf (S.content shelf.old) tape.old }
 
         ensures no_memory { result ≡ Turned.OutOfMemory → (self.new ≡ self.old)
             × (tape.new ≡ tape.old) × (oracle.new ≡ oracle.old) × (shelf.new ≡ shelf.old) }
@@ -149,7 +149,7 @@ impl Drawing {
             → (tape.new ≡ tape.old) × (oracle.new ≡ oracle.old) × (shelf.new ≡ shelf.old) }
         ensures turned { result ≢ Turned.OutOfMemory
             → IsTurn founded.now (O.x oracle.old) F (O.table oracle.old)
-            (bits_of tape.old.source (S.content shelf.old))
+            (bits_of_source tape.old.source (S.content shelf.old))
             self.old tape.old.used result self.new tape.new.used }
         ensures counted { IsCounted self.old result self.new }
         ensures done { self.old.ending ≡ None → ((result ≡ Turned.Finished Ending.Done)
@@ -246,11 +246,11 @@ impl Drawing {
         requires kept { self.old.kept < 100000 }
         requires turns { self.old.turns < 50000000 }
         requires atoms { self.old.atoms ≤ self.old.kept * 1000000 }
-        requires tape { Belongs (S.content shelf.old) tape.old }
+        requires tape { BelongsToShelf (S.content shelf.old) tape.old }
 
         ensures no_memory { result ≡ Turned.OutOfMemory
             → (tape.new ≡ tape.old) × (shelf.new ≡ shelf.old) }
-        ensures labelled { IsLabelTurn (bits_of tape.old.source (S.content shelf.old))
+        ensures labelled { IsLabelTurn (bits_of_source tape.old.source (S.content shelf.old))
             (shape_of made) self.old tape.old.used result self.new tape.new.used }
 
         ensures used { (tape.old.used ≤ tape.new.used)

@@ -2,7 +2,7 @@ use Rattle.std.proofs.Common.{◌≡◌, ℕ, List, map, length, sym, ◌∙◌,
 use Rattle.std.specs.List.{All}
 use Rattle.bz_model.specs.Fraction.{ratio}
 use Rattle.bz_model.specs.Spec.{Spec}
-use Rattle.bit_tape.specs.Tape.{TapeSource, TapeState, Belongs}
+use Rattle.bit_tape.specs.Tape.{TapeSource, TapeState, BelongsToShelf}
 use Rattle.class_system.specs.Sound.{IsSound}
 use Rattle.oracle_memo.specs.Levels.{level_bounds_from, costs}
 use Rattle.oracle_memo.specs.Memos.{Memory}
@@ -35,7 +35,7 @@ take_turns-requires-clause-can g c =
       sound = subst IsSound c.system-system.ensures.system c.known.ensures.sound;
       spec = ap (λ (k : Memory). k.spec) c.in_ok-memo.ensures.made;
       drawings = c.in_ok-pool.ensures.belongs (ratio c.in_ok-memo.memo.num c.in_ok-memo.memo.den);
-      tapes = record { each = subst (All (Belongs (g.S.Shelf.content c.args.shelf.now))) (sym same) (tapes-belong (g.S.Shelf.content c.args.shelf.now) c.args.names.now) };
+      tapes = record { each = subst (All (BelongsToShelf (g.S.Shelf.content c.args.shelf.now))) (sym same) (tapes-belong (g.S.Shelf.content c.args.shelf.now) c.args.names.now) };
       number = members-counted c.in_ok-pool.pool c.args.names.now same;
     }
 

@@ -1,5 +1,5 @@
 use Rattle.std.proofs.Common.{false, ap, subst, arith}
-use Rattle.bit_tape.specs.Tape.{LeavesTape, bits_of}
+use Rattle.bit_tape.specs.Tape.{LeavesTape, bits_of_source}
 use Rattle.bit_tape.proofs.Leaving.{leaves-none, leaves-more}
 use Rattle.choice_draw.proofs.Ticks.{oracle-none, oracle-more}
 use Rattle.sample_command.specs.UnderWay.{has_failed, CanTurn, IsAtEnd, IsUnderWay, IsBroken, GoesOn}
@@ -21,7 +21,7 @@ turns-init g c = record {
 pub returns-in_default-clause-broken : goal.returns-in_default-clause-broken
 returns-in_default-clause-broken g c = λ header start p.
     let inv = c.turns.invariant in
-    moved-five (λ x t l s k. IsUnderWay c.args.founded.now x g.row.F t l (bits_of s k) c.turns.drawing c.turns.tape.used (g.O.Oracle.raised c.turns.oracle) header start (g.K.Sink.written c.turns.out) c.turns.page.items → IsBroken c.args.founded.now x g.row.F t l (bits_of s k) c.turn_once.new.drawing c.turn_once.new.tape.used (g.O.Oracle.raised c.turn_once.new.oracle) header start (g.K.Sink.written c.turns.out))
+    moved-five (λ x t l s k. IsUnderWay c.args.founded.now x g.row.F t l (bits_of_source s k) c.turns.drawing c.turns.tape.used (g.O.Oracle.raised c.turns.oracle) header start (g.K.Sink.written c.turns.out) c.turns.page.items → IsBroken c.args.founded.now x g.row.F t l (bits_of_source s k) c.turn_once.new.drawing c.turn_once.new.tape.used (g.O.Oracle.raised c.turn_once.new.oracle) header start (g.K.Sink.written c.turns.out))
     (g.O.Oracle.x c.args.oracle.now) (g.O.Oracle.x c.turns.oracle) (g.O.Oracle.table c.args.oracle.now) (g.O.Oracle.table c.turns.oracle) c.args.drawing.now.limits c.turns.drawing.limits c.args.tape.now.source c.turns.tape.source (g.S.Shelf.content c.args.shelf.now) (g.S.Shelf.content c.turns.shelf) inv.oracle.x inv.oracle.table inv.can_turn.within inv.tape.source inv.tape.content
     (c.in_default.ensures.broken header start (g.K.Sink.written c.turns.out))
     (inv.under_way header start p)
@@ -36,7 +36,7 @@ returns-in_default-clause-tape g c = leaves-more g.S.Shelf.content g.S.Shelf.fau
 pub returns-in-Some-clause-under_way : goal.returns-in-Some-clause-under_way
 returns-in-Some-clause-under_way g c = λ header start p.
     let inv = c.turns.invariant in
-    moved-five (λ x t l s k. IsUnderWay c.args.founded.now x g.row.F t l (bits_of s k) c.turns.drawing c.turns.tape.used (g.O.Oracle.raised c.turns.oracle) header start (g.K.Sink.written c.turns.out) c.turns.page.items → IsUnderWay c.args.founded.now x g.row.F t l (bits_of s k) c.turn_once.new.drawing c.turn_once.new.tape.used (g.O.Oracle.raised c.turn_once.new.oracle) header start (g.K.Sink.written c.turns.out) c.turn_once.new.page.items)
+    moved-five (λ x t l s k. IsUnderWay c.args.founded.now x g.row.F t l (bits_of_source s k) c.turns.drawing c.turns.tape.used (g.O.Oracle.raised c.turns.oracle) header start (g.K.Sink.written c.turns.out) c.turns.page.items → IsUnderWay c.args.founded.now x g.row.F t l (bits_of_source s k) c.turn_once.new.drawing c.turn_once.new.tape.used (g.O.Oracle.raised c.turn_once.new.oracle) header start (g.K.Sink.written c.turns.out) c.turn_once.new.page.items)
     (g.O.Oracle.x c.args.oracle.now) (g.O.Oracle.x c.turns.oracle) (g.O.Oracle.table c.args.oracle.now) (g.O.Oracle.table c.turns.oracle) c.args.drawing.now.limits c.turns.drawing.limits c.args.tape.now.source c.turns.tape.source (g.S.Shelf.content c.args.shelf.now) (g.S.Shelf.content c.turns.shelf) inv.oracle.x inv.oracle.table inv.can_turn.within inv.tape.source inv.tape.content
     (c.in-Ok.ensures.under_way header start (g.K.Sink.written c.turns.out))
     (inv.under_way header start p)
@@ -66,8 +66,8 @@ turns-preserved g c =
           (subst (λ b. LeavesTape g.S.Shelf.content g.S.Shelf.faults b c.turns.shelf c.turn_once.new.shelf c.turns.tape c.turn_once.new.tape) (ap has_failed on.0.goes_on) c.turn_once.ensures.tape);
       writes = let a = inv.writes in let b = c.send_enough.ensures.counts in omega (arith, a, b);
       under_way = λ header start p.
-          sent-on c.args.founded.now (g.O.Oracle.x c.args.oracle.now) g.row.F (g.O.Oracle.table c.args.oracle.now) c.args.drawing.now.limits (bits_of c.args.tape.now.source (g.S.Shelf.content c.args.shelf.now)) c.turn_once.new.drawing c.turn_once.new.tape.used (g.O.Oracle.raised c.turn_once.new.oracle) header start (g.K.Sink.written c.turns.out) (g.K.Sink.written c.send_enough.new.out) c.turn_once.new.page.items c.send_enough.new.page.items c.in-Ok-send_enough.ensures.held
-          (moved-five (λ x t l s k. IsUnderWay c.args.founded.now x g.row.F t l (bits_of s k) c.turns.drawing c.turns.tape.used (g.O.Oracle.raised c.turns.oracle) header start (g.K.Sink.written c.turns.out) c.turns.page.items → IsUnderWay c.args.founded.now x g.row.F t l (bits_of s k) c.turn_once.new.drawing c.turn_once.new.tape.used (g.O.Oracle.raised c.turn_once.new.oracle) header start (g.K.Sink.written c.turns.out) c.turn_once.new.page.items)
+          sent-on c.args.founded.now (g.O.Oracle.x c.args.oracle.now) g.row.F (g.O.Oracle.table c.args.oracle.now) c.args.drawing.now.limits (bits_of_source c.args.tape.now.source (g.S.Shelf.content c.args.shelf.now)) c.turn_once.new.drawing c.turn_once.new.tape.used (g.O.Oracle.raised c.turn_once.new.oracle) header start (g.K.Sink.written c.turns.out) (g.K.Sink.written c.send_enough.new.out) c.turn_once.new.page.items c.send_enough.new.page.items c.in-Ok-send_enough.ensures.held
+          (moved-five (λ x t l s k. IsUnderWay c.args.founded.now x g.row.F t l (bits_of_source s k) c.turns.drawing c.turns.tape.used (g.O.Oracle.raised c.turns.oracle) header start (g.K.Sink.written c.turns.out) c.turns.page.items → IsUnderWay c.args.founded.now x g.row.F t l (bits_of_source s k) c.turn_once.new.drawing c.turn_once.new.tape.used (g.O.Oracle.raised c.turn_once.new.oracle) header start (g.K.Sink.written c.turns.out) c.turn_once.new.page.items)
           (g.O.Oracle.x c.args.oracle.now) (g.O.Oracle.x c.turns.oracle) (g.O.Oracle.table c.args.oracle.now) (g.O.Oracle.table c.turns.oracle) c.args.drawing.now.limits c.turns.drawing.limits c.args.tape.now.source c.turns.tape.source (g.S.Shelf.content c.args.shelf.now) (g.S.Shelf.content c.turns.shelf) inv.oracle.x inv.oracle.table inv.can_turn.within inv.tape.source inv.tape.content
           (c.in-Ok.ensures.under_way header start (g.K.Sink.written c.turns.out))
           (inv.under_way header start p));
@@ -77,8 +77,8 @@ turns-preserved g c =
 pub returns-in_default-send_enough-clause-broken : goal.returns-in_default-send_enough-clause-broken
 returns-in_default-send_enough-clause-broken g c = λ header start p.
     let inv = c.turns.invariant in
-    cut-on c.args.founded.now (g.O.Oracle.x c.args.oracle.now) g.row.F (g.O.Oracle.table c.args.oracle.now) c.args.drawing.now.limits (bits_of c.args.tape.now.source (g.S.Shelf.content c.args.shelf.now)) c.turn_once.new.drawing c.turn_once.new.tape.used (g.O.Oracle.raised c.turn_once.new.oracle) header start (g.K.Sink.written c.turns.out) (g.K.Sink.written c.send_enough.new.out) c.turn_once.new.page.items c.in_default-send_enough.ensures.cut
-    (moved-five (λ x t l s k. IsUnderWay c.args.founded.now x g.row.F t l (bits_of s k) c.turns.drawing c.turns.tape.used (g.O.Oracle.raised c.turns.oracle) header start (g.K.Sink.written c.turns.out) c.turns.page.items → IsUnderWay c.args.founded.now x g.row.F t l (bits_of s k) c.turn_once.new.drawing c.turn_once.new.tape.used (g.O.Oracle.raised c.turn_once.new.oracle) header start (g.K.Sink.written c.turns.out) c.turn_once.new.page.items)
+    cut-on c.args.founded.now (g.O.Oracle.x c.args.oracle.now) g.row.F (g.O.Oracle.table c.args.oracle.now) c.args.drawing.now.limits (bits_of_source c.args.tape.now.source (g.S.Shelf.content c.args.shelf.now)) c.turn_once.new.drawing c.turn_once.new.tape.used (g.O.Oracle.raised c.turn_once.new.oracle) header start (g.K.Sink.written c.turns.out) (g.K.Sink.written c.send_enough.new.out) c.turn_once.new.page.items c.in_default-send_enough.ensures.cut
+    (moved-five (λ x t l s k. IsUnderWay c.args.founded.now x g.row.F t l (bits_of_source s k) c.turns.drawing c.turns.tape.used (g.O.Oracle.raised c.turns.oracle) header start (g.K.Sink.written c.turns.out) c.turns.page.items → IsUnderWay c.args.founded.now x g.row.F t l (bits_of_source s k) c.turn_once.new.drawing c.turn_once.new.tape.used (g.O.Oracle.raised c.turn_once.new.oracle) header start (g.K.Sink.written c.turns.out) c.turn_once.new.page.items)
     (g.O.Oracle.x c.args.oracle.now) (g.O.Oracle.x c.turns.oracle) (g.O.Oracle.table c.args.oracle.now) (g.O.Oracle.table c.turns.oracle) c.args.drawing.now.limits c.turns.drawing.limits c.args.tape.now.source c.turns.tape.source (g.S.Shelf.content c.args.shelf.now) (g.S.Shelf.content c.turns.shelf) inv.oracle.x inv.oracle.table inv.can_turn.within inv.tape.source inv.tape.content
     (c.in-Ok.ensures.under_way header start (g.K.Sink.written c.turns.out))
     (inv.under_way header start p))

@@ -2,7 +2,7 @@
 use Rattle.std.proofs.Common.{max, sym, ◌∙◌, ap, subst, arith}
 use Rattle.choice_draw.specs.Decision.{level_for}
 use Rattle.std.specs.Prelude.{slice_set, IsSome}
-use Rattle.bit_tape.specs.Tape.{Belongs}
+use Rattle.bit_tape.specs.Tape.{BelongsToShelf}
 use Rattle.bit_tape.proofs.Leaving.{counts-kept}
 use Rattle.session_pool.specs.Pool.{TapesBelong, tapes_of}
 use Rattle.session_pool.specs.Interleaving.{setting}
@@ -56,7 +56,7 @@ returns-clause-drawings g c =
 pub returns-clause-tapes : goal.returns-clause-tapes
 returns-clause-tapes g c =
     let lent = is-lent c.self.inside.members.items c.args.self.now c.args.number c.index_mut-member.result.now c.self.view_is c.requires.number c.index_mut-member.ensures.value in
-    subst (λ contents. TapesBelong contents (tapes_of (slice_set c.self.inside.members.items c.args.number c.turn.new.self))) (sym c.turn.ensures.tape.content) (tapes-back c.self.inside.members.items c.args.self.now c.args.number c.index_mut-member.result.now c.turn.new.self lent (g.S.Shelf.content c.args.shelf.now) c.requires.tapes (subst (λ contents. Belongs contents c.turn.new.self.tape) c.turn.ensures.tape.content c.turn.ensures.tape.belongs))
+    subst (λ contents. TapesBelong contents (tapes_of (slice_set c.self.inside.members.items c.args.number c.turn.new.self))) (sym c.turn.ensures.tape.content) (tapes-back c.self.inside.members.items c.args.self.now c.args.number c.index_mut-member.result.now c.turn.new.self lent (g.S.Shelf.content c.args.shelf.now) c.requires.tapes (subst (λ contents. BelongsToShelf contents c.turn.new.self.tape) c.turn.ensures.tape.content c.turn.ensures.tape.belongs))
 
 pub returns-clause-raised : goal.returns-clause-raised
 returns-clause-raised g c =
