@@ -5,7 +5,7 @@ use Rattle.std.specs.List.{range_with_len}
 use Rattle.std.proofs.lemmas.List.Folds.{flat_map-map}
 use Rattle.bz_model.specs.Spec.{Node}
 use Rattle.class_system.specs.NodeResults.{node_results}
-use Rattle.class_system.specs.CanonicalText.{Shown, single, shown_at, part_text, separated, node_shown, class_text, class_line, all_shown, canonical_text}
+use Rattle.class_system.specs.CanonicalText.{Shown, single, shown_at, part_text, separated, node_shown, canonical_class_line, class_line, all_shown, canonical_text}
 use Rattle.class_system.specs.declared.canonical.Form.TheVariants as form
 use Rattle.bulk_command.specs.BulkTables.{class_nodes, all_nodes, tables_of}
 use Rattle.bulk_command.specs.BulkText.{class_name, next_class, rule_line}
@@ -88,10 +88,10 @@ zip-mapped f g [] = refl
 zip-mapped f g (x ∷ xs) = ap (λ z. (f x, g x) ∷ z) (zip-mapped f g xs)
 
 -- the line of a class
-line-is : (name other : List ℕ) (v : Shown) → v ≡ as_union (codes "E + Z*" ++ (name ++ (codes "*" ++ other))) → class_text name v ≡ name ++ (codes " = E + Z*" ++ (name ++ (codes "*" ++ (other ++ 10 ∷ []))))
+line-is : (name other : List ℕ) (v : Shown) → v ≡ as_union (codes "E + Z*" ++ (name ++ (codes "*" ++ other))) → canonical_class_line name v ≡ name ++ (codes " = E + Z*" ++ (name ++ (codes "*" ++ (other ++ 10 ∷ []))))
 line-is name other v e =
     let text = codes "E + Z*" ++ (name ++ (codes "*" ++ other)) in
-    ap (class_text name) e
+    ap (canonical_class_line name) e
     ∙ append_assoc (name ++ codes " = ") text (10 ∷ [])
     ∙ append_assoc name (codes " = ") (text ++ 10 ∷ [])
     ∙ ap (λ z. name ++ (codes " = E + Z*" ++ z)) (append_assoc name (codes "*" ++ other) (10 ∷ []))
