@@ -11,7 +11,7 @@ ghost use Rattle.bit_tape.specs.Tape.{BelongsToShelf, LeavesTape, bits_of_source
 ghost use Rattle.choice_draw.specs.Decision.{Choice, level_for, level_of, IsUnion, union_parts};
 ghost use Rattle.choice_draw.specs.Decision.{union_choice, union_decision, taken};
 ghost use Rattle.choice_draw.specs.IdealOfCell.{IsIdealOfCell};
-ghost use Rattle.choice_draw.specs.Answer.{IsDraw, OnValue, told_draw, is_fault};
+ghost use Rattle.choice_draw.specs.Answer.{IsDraw, OnValue, told_draw, is_draw_fault};
 
 use crate::cells::{half_of, level_at, power_of_two};
 use crate::drawn::Drawn;
@@ -56,7 +56,7 @@ pub fn draw_union<const F: u32, O: Oracle<F>, S: Shelf, L: Ledger>(
         ≡ max (O.raised oracle.old) (level_for (tape.new.used - tape.old.used)) }
     ensures oracle { LeavesOracle O.spec O.x O.table O.cost O.raised
         oracle.old oracle.new steps.old steps.new }
-    ensures tape { LeavesTape S.content S.faults (is_fault result) shelf.old shelf.new tape.old
+    ensures tape { LeavesTape S.content S.faults (is_draw_fault result) shelf.old shelf.new tape.old
         tape.new }
 {
     oracle.known();

@@ -4,7 +4,7 @@ ghost use Rattle.bz_model.specs.Cell.{IsCell};
 ghost use Rattle.bit_tape.specs.Tape.{BelongsToShelf, LeavesTape, bits_of_source};
 ghost use Rattle.choice_draw.specs.Decision.{whole_decision};
 ghost use Rattle.choice_draw.specs.Whole.{Decides};
-ghost use Rattle.choice_draw.specs.Answer.{IsDraw, OnValue, told_draw, is_fault};
+ghost use Rattle.choice_draw.specs.Answer.{IsDraw, OnValue, told_draw, is_draw_fault};
 
 use crate::cells::{half_of, power_of_two};
 use crate::drawn::Drawn;
@@ -27,7 +27,7 @@ pub fn draw_whole<S: Shelf>(m: u64, tape: &mut Tape, shelf: &mut S) -> Drawn
         tape.old.used tape.new.used (told_draw (λ i. i) result tape.new.used) }
     ensures decided { OnValue result (λ i cell. Decides cell.k cell.b m i) }
     ensures below { OnValue result (λ i cell. i < m) }
-    ensures tape { LeavesTape S.content S.faults (is_fault result) shelf.old shelf.new tape.old
+    ensures tape { LeavesTape S.content S.faults (is_draw_fault result) shelf.old shelf.new tape.old
         tape.new }
 {
     let mut cell = Cell { k: 0, b: 0 };

@@ -23,9 +23,9 @@ told_count Ended used = Draw.Ended used
 told_count ReadFault used = Draw.Failed used
 
 -- The answer is that the shelf failed.
-abbrev pub is_fault : CountDrawn → Bool
-is_fault ReadFault = true
-is_fault _ = false
+abbrev pub is_count_fault : CountDrawn → Bool
+is_count_fault ReadFault = true
+is_count_fault _ = false
 
 -- What is said of a number and its cell holds, where the answer is a number.
 abbrev pub OnCount : CountDrawn → (ℕ → Cell → Type 0) → Type 0

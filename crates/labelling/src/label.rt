@@ -3,7 +3,7 @@ ghost use Rattle.std.specs.Prelude.{◌≡◌, ◌≢◌, ◌+◌, ◌*◌, ◌�
 ghost use Rattle.bz_model.specs.Labels.{numbers_from};
 ghost use Rattle.bit_tape.specs.Tape.{BelongsToShelf, LeavesTape, bits_of_source};
 ghost use Rattle.labelling.specs.Answer.{IsLabelling, OnLabels, AreIdealLabels, AreCellsOf};
-ghost use Rattle.labelling.specs.Answer.{StraddlesAt, is_fault};
+ghost use Rattle.labelling.specs.Answer.{StraddlesAt, is_label_fault};
 
 use crate::labelled::Labelled;
 use crate::progress::Progress;
@@ -35,7 +35,7 @@ pub fn label<S: Shelf>(alloc: Global, n: u64, tape: &mut Tape, shelf: &mut S) ->
     ensures straddles { StraddlesAt n result }
 
     ensures used { (tape.old.used ≤ tape.new.used) × (tape.new.used ≤ tape.old.used + 60 * n) }
-    ensures tape { LeavesTape S.content S.faults (is_fault result)
+    ensures tape { LeavesTape S.content S.faults (is_label_fault result)
         shelf.old shelf.new tape.old tape.new }
 {
     match Progress::begin(alloc, n) {
@@ -58,7 +58,7 @@ fn give_all<S: Shelf>(mut progress: Progress, n: u64, tape: &mut Tape, shelf: &m
     ensures straddles { StraddlesAt n result }
 
     ensures used { (tape.old.used ≤ tape.new.used) × (tape.new.used ≤ tape.old.used + 60 * n) }
-    ensures tape { LeavesTape S.content S.faults (is_fault result)
+    ensures tape { LeavesTape S.content S.faults (is_label_fault result)
         shelf.old shelf.new tape.old tape.new }
 {
     let mut m = n;

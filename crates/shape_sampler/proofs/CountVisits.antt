@@ -118,14 +118,14 @@ no-fault [] = refl
 no-fault (e ∷ es) = refl
 
 -- where the tape's end stopped the draw, it stopped the visit
-to-visit : (node : ExprId) (pending : List ℕ) (d : CountDrawn) (used : ℕ) (bits : ℕ → Option Bool) → drew.EndsThere (told_count d used) bits → EndsThere (count_answer node d pending) used bits
+to-visit : (node : ExprId) (pending : List ℕ) (d : CountDrawn) (used : ℕ) (bits : ℕ → Option Bool) → drew.DrawEndsThere (told_count d used) bits → EndsThere (count_answer node d pending) used bits
 to-visit node pending (counted.Count value cell) used bits h = ends-for pending used bits
 to-visit node pending (counted.Over cell) used bits h = tt
 to-visit node pending (counted.Straddles cell) used bits h = tt
 to-visit node pending counted.Ended used bits h = h
 to-visit node pending counted.ReadFault used bits h = tt
 
-to-draw : (node : ExprId) (pending : List ℕ) (d : CountDrawn) (used : ℕ) (bits : ℕ → Option Bool) → EndsThere (count_answer node d pending) used bits → drew.EndsThere (told_count d used) bits
+to-draw : (node : ExprId) (pending : List ℕ) (d : CountDrawn) (used : ℕ) (bits : ℕ → Option Bool) → EndsThere (count_answer node d pending) used bits → drew.DrawEndsThere (told_count d used) bits
 to-draw node pending (counted.Count value cell) used bits h = tt
 to-draw node pending (counted.Over cell) used bits h = tt
 to-draw node pending (counted.Straddles cell) used bits h = tt
@@ -133,10 +133,10 @@ to-draw node pending counted.Ended used bits h = h
 to-draw node pending counted.ReadFault used bits h = tt
 
 -- a visit fails exactly where its draw does
-pub count-fault : (node : ExprId) (pending : List ℕ) (d : CountDrawn) (answer : Stepped) (stopped : Option Stepped) → stopped ≡ None → answer ≡ count_answer node d pending → counting.is_fault d ≡ is_fault answer stopped
+pub count-fault : (node : ExprId) (pending : List ℕ) (d : CountDrawn) (answer : Stepped) (stopped : Option Stepped) → stopped ≡ None → answer ≡ count_answer node d pending → counting.is_count_fault d ≡ is_fault answer stopped
 count-fault node pending d answer stopped running answered = by d ∙ ap (λ a. is_fault a None) (sym answered) ∙ ap (is_fault answer) (sym running)
   where
-    by : (d : CountDrawn) → counting.is_fault d ≡ is_fault (count_answer node d pending) None
+    by : (d : CountDrawn) → counting.is_count_fault d ≡ is_fault (count_answer node d pending) None
     by (counted.Count value cell) = no-fault pending
     by (counted.Over cell) = refl
     by (counted.Straddles cell) = refl

@@ -83,23 +83,23 @@ drawn-are drawn.Ended h = tt
 drawn-are drawn.ReadFault h = tt
 
 -- where the tape's end stopped the draw, it stopped the visit
-to-visit : (node : ExprId) (d : Drawn) (used : ℕ) (bits : ℕ → Option Bool) → drew.EndsThere (told_draw Choice.Take d used) bits → EndsThere (union_answer node d) used bits
+to-visit : (node : ExprId) (d : Drawn) (used : ℕ) (bits : ℕ → Option Bool) → drew.DrawEndsThere (told_draw Choice.Take d used) bits → EndsThere (union_answer node d) used bits
 to-visit node (drawn.Value value cell) used bits h = tt
 to-visit node (drawn.Straddles cell) used bits h = tt
 to-visit node drawn.Ended used bits h = h
 to-visit node drawn.ReadFault used bits h = tt
 
-to-draw : (node : ExprId) (d : Drawn) (used : ℕ) (bits : ℕ → Option Bool) → EndsThere (union_answer node d) used bits → drew.EndsThere (told_draw Choice.Take d used) bits
+to-draw : (node : ExprId) (d : Drawn) (used : ℕ) (bits : ℕ → Option Bool) → EndsThere (union_answer node d) used bits → drew.DrawEndsThere (told_draw Choice.Take d used) bits
 to-draw node (drawn.Value value cell) used bits h = tt
 to-draw node (drawn.Straddles cell) used bits h = tt
 to-draw node drawn.Ended used bits h = h
 to-draw node drawn.ReadFault used bits h = tt
 
 -- a visit fails exactly where its draw does
-pub draw-fault : (node : ExprId) (d : Drawn) (answer : Stepped) (stopped : Option Stepped) → stopped ≡ None → answer ≡ union_answer node d → drew.is_fault d ≡ is_fault answer stopped
+pub draw-fault : (node : ExprId) (d : Drawn) (answer : Stepped) (stopped : Option Stepped) → stopped ≡ None → answer ≡ union_answer node d → drew.is_draw_fault d ≡ is_fault answer stopped
 draw-fault node d answer stopped running answered = by d ∙ ap (λ a. is_fault a None) (sym answered) ∙ ap (is_fault answer) (sym running)
   where
-    by : (d : Drawn) → drew.is_fault d ≡ is_fault (union_answer node d) None
+    by : (d : Drawn) → drew.is_draw_fault d ≡ is_fault (union_answer node d) None
     by (drawn.Value value cell) = refl
     by (drawn.Straddles cell) = refl
     by drawn.Ended = refl

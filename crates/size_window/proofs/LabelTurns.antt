@@ -139,14 +139,14 @@ module _ (s : Spec) (x : Fraction) (before : DrawingState) (b : DrawingBelongs s
 
     -- The turn meets the tape's end where the labelling does.
     abbrev Alike : Labelled → Turned → Type 0
-    Alike answered result = (tape : ℕ → Option Bool) → (told.EndsThere answered used tape → EndsThere result None used tape) × (EndsThere result None used tape → told.EndsThere answered used tape)
+    Alike answered result = (tape : ℕ → Option Bool) → (told.LabellingEndsThere answered used tape → EndsThere result None used tape) × (EndsThere result None used tape → told.LabellingEndsThere answered used tape)
 
     going-is : (P : Option Ending → Type 0) → P None → P before.ending
     going-is P h = subst P (sym on.going) h
 
     -- a turn by a labelling, from what it leaves
     by-labels : (answered : Labelled) (result : Turned) (now : DrawingState) (turned : run.Turned) → turned.state ≡ state_of now used → turned.entry ≡ told_entry result → ((c : Course) → c.state ≡ state_of before start → GoesIdeally s x before.limits c → GoesIdeally s x before.limits (followed_by c turned))
-        → (h : IsLabelling bits (size_of shape.tokens) start answered used) → answered ≢ labelled.OutOfMemory → option_map (λ given. start + given) (told_fault None result (used - start)) ≡ told.fault_place answered used → labelled_with labelling_state (told_labelling answered h.finished used) ≡ turned → Alike answered result → IsTurn s x F table bits before start result now used
+        → (h : IsLabelling bits (size_of shape.tokens) start answered used) → answered ≢ labelled.OutOfMemory → option_map (λ given. start + given) (told_fault None result (used - start)) ≡ told.label_fault_place answered used → labelled_with labelling_state (told_labelling answered h.finished used) ≡ turned → Alike answered result → IsTurn s x F table bits before start result now used
     by-labels answered result now turned state entry goes h ne fault means alike = record {
       turned = turned;
       state = state;
@@ -185,7 +185,7 @@ module _ (s : Spec) (x : Fraction) (before : DrawingState) (b : DrawingBelongs s
     stopped-state e = same-state (run.ended labelling_state (ending_of e) used) (state_of (stopping e) used) refl refl refl refl (sym (add-one before.turns)) refl
 
     -- the labelling was cut short
-    stopped-turn : (answered : Labelled) (e : Ending) (h : IsLabelling bits (size_of shape.tokens) start answered used) → answered ≢ labelled.OutOfMemory → option_map (λ given. start + given) (told_fault None (answer.Finished e) (used - start)) ≡ told.fault_place answered used → labelled_with labelling_state (told_labelling answered h.finished used) ≡ cut_short labelling_state (ending_of e) h.finished used → Alike answered (answer.Finished e) → IsTurn s x F table bits before start (answer.Finished e) (stopping e) used
+    stopped-turn : (answered : Labelled) (e : Ending) (h : IsLabelling bits (size_of shape.tokens) start answered used) → answered ≢ labelled.OutOfMemory → option_map (λ given. start + given) (told_fault None (answer.Finished e) (used - start)) ≡ told.label_fault_place answered used → labelled_with labelling_state (told_labelling answered h.finished used) ≡ cut_short labelling_state (ending_of e) h.finished used → Alike answered (answer.Finished e) → IsTurn s x F table bits before start (answer.Finished e) (stopping e) used
     stopped-turn answered e h ne fault means alike = by-labels answered (answer.Finished e) (stopping e)
         (record { state = state_of (stopping e) used; entry = None; cells = h.finished })
         refl refl
