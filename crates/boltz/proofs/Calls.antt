@@ -5,7 +5,7 @@ use Rattle.bz_model.specs.Spec.{Spec}
 use Rattle.bz_outside.specs.Outside.{Rose, Appends}
 use Rattle.bit_tape.specs.Bits.{file_bit, seed_bit}
 use Rattle.bit_tape.specs.Tape.{bits_of_source}
-use Rattle.command_words.specs.Commands.{IsCommand, Refuses}
+use Rattle.command_words.specs.Commands.{IsCommand, RefusesWords}
 use Rattle.command_words.specs.Fractions.{fraction_bits}
 use Rattle.command_words.specs.declared.command.Command.{Command}
 use Rattle.command_words.specs.declared.command.Command.TheVariants as command
@@ -108,7 +108,7 @@ carried_answers words f asked b a fb fa tb ta result named h = ends_as (Carries 
 
 -- A call whose words are refused and that ends by writing that refusal ends as an answer to those
 -- words.
-pub refused_answers : (words : List (List ℕ)) (f : Files) (fault : WordsFault) (b a : Option (List ℕ)) (fb fa tb ta : ℕ) (result : Status) → Refuses words fault → EndsBy (Unworded fault) (output b a fb fa tb ta) result → EndsBy (Answers (world words f)) (output b a fb fa tb ta) result
+pub refused_answers : (words : List (List ℕ)) (f : Files) (fault : WordsFault) (b a : Option (List ℕ)) (fb fa tb ta : ℕ) (result : Status) → RefusesWords words fault → EndsBy (Unworded fault) (output b a fb fa tb ta) result → EndsBy (Answers (world words f)) (output b a fb fa tb ta) result
 refused_answers words f fault b a fb fa tb ta result refuses h = ends_as (Unworded fault) (Answers (world words f)) b a fb fa tb ta result (λ status text ticks p. answers.refused fault refuses p) h
 
 -- words that stand for a command aren't refused

@@ -13,7 +13,7 @@ use Rattle.size_window.specs.RunByBits.{Limits as Window, Course, Ending}
 use Rattle.size_window.specs.declared.limits.Limits.{Limits}
 use Rattle.newton_upper.specs.BaseRule.{HasNoUpper}
 use Rattle.newton_upper.specs.declared.trials.Trial.{Trial}
-use Rattle.command_words.specs.Commands.{IsCommand, Refuses}
+use Rattle.command_words.specs.Commands.{IsCommand, RefusesWords}
 use Rattle.command_words.specs.Fractions.{fraction_bits}
 use Rattle.command_words.specs.declared.command.Command.{Command}
 use Rattle.command_words.specs.declared.command.Command.TheVariants as command
@@ -313,7 +313,7 @@ words_only w status text ticks (answers.refused fault refuses (answers.no_memory
 words_only w status text ticks (answers.carried asked named h) is = absurd (carried-no-words w.files asked status text ticks h is)
 
 -- words that stand for no command
-pub no_command : (w : World) (fault : WordsFault) (status : Status) (text : List ℕ) (ticks : ℕ) → Refuses w.words fault → fault ≢ WordsFault.OutOfMemory → status ≢ Status.OutOfMemory → Answers w status text ticks → (status ≡ Status.WordsRefused) × (text ≡ words_line fault)
+pub no_command : (w : World) (fault : WordsFault) (status : Status) (text : List ℕ) (ticks : ℕ) → RefusesWords w.words fault → fault ≢ WordsFault.OutOfMemory → status ≢ Status.OutOfMemory → Answers w status text ticks → (status ≡ Status.WordsRefused) × (text ≡ words_line fault)
 no_command w fault status text ticks refuses m memory (answers.refused other refuses_too (answers.refused n says)) = (says.status_is, says.text_is ∙ ap words_line (one-fault w.words other fault n m refuses_too refuses))
 no_command w fault status text ticks refuses m memory (answers.refused other refuses_too (answers.no_memory says)) = absurd (memory says.status_is)
 no_command w fault status text ticks refuses m memory (answers.carried asked named h) = absurd (not-refused w.words asked fault named m refuses)

@@ -6,7 +6,7 @@ ghost use Rattle.std.specs.Prelude.{◌≡◌, ◌≢◌, ◌⊎◌, ℕ, Bool, 
 ghost use Rattle.bz_model.specs.Spec.{Spec};
 ghost use Rattle.bz_model.specs.declared.fraction.Fraction.{Fraction};
 ghost use Rattle.bz_outside.specs.Outside.{Rose};
-ghost use Rattle.command_words.specs.Commands.{IsCommand, Refuses};
+ghost use Rattle.command_words.specs.Commands.{IsCommand, RefusesWords};
 ghost use Rattle.command_words.specs.Fractions.{fraction_bits};
 ghost use Rattle.certificate.specs.declared.certificate.Certificate.{Certificate};
 ghost use Rattle.certificate_commands.specs.Completeness.{HasCertificate, HoldsText, IsVerifiedAs};
@@ -73,7 +73,7 @@ pub fn a_call_has_the_outcome_of_its_command()
 /// aren't refused.
 pub fn words_are_refused_by_their_line()
     ensures no_command { (w : World) (fault : WordsFault) (status : Status) (text : List ℕ)
-        (ticks : ℕ) → Refuses w.words fault
+        (ticks : ℕ) → RefusesWords w.words fault
         → fault ≢ WordsFault.OutOfMemory → status ≢ Status.OutOfMemory → Answers w status text ticks
         → (status ≡ Status.WordsRefused) × (text ≡ words_line fault) }
     ensures only { (w : World) (status : Status) (text : List ℕ) (ticks : ℕ)

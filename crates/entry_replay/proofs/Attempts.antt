@@ -10,7 +10,7 @@ use Rattle.bit_tape.specs.Tape.{TapeSource, CountsFault, bits_of_source}
 use Rattle.choice_draw.specs.Draw.{bit_of}
 use Rattle.shape_sampler.specs.declared.stepped.Stepped.{Stepped}
 use Rattle.shape_sampler.specs.declared.stepped.Stepped.TheVariants.{Moved, Made, Overshot, Straddles, Ended, ReadFault, OutOfMemory}
-use Rattle.shape_sampler.specs.Answer.{told_visit, fault_place, is_fault, EndsThere, ChoosesBy, IsVisitByBits}
+use Rattle.shape_sampler.specs.Answer.{told_visit, visit_fault_place, is_visit_fault, EndsThere, ChoosesBy, IsVisitByBits}
 use Rattle.shape_sampler.specs.State.{SessionState, SessionBelongs, attempt_of, begun_state}
 use Rattle.shape_sampler.specs.Visit.{Chooser, Attempt, Visited, visit, begun}
 use Rattle.size_window.specs.Redrawn.{visits, visited_next}
@@ -27,8 +27,8 @@ no-fault (TapeSource.Named name) h = let e = h.here in let no : ⊥ = omega arit
 no-fault (TapeSource.Seeded seed) h = h
 
 -- so no read fails in a visit that nothing stopped before
-pub no-fault-answer : (answer : Stepped) (stopped : Option Stepped) (source : TapeSource) → stopped ≡ None → CountsFault (is_fault answer stopped) source (λ name. 0) (λ name. 0) → answer ≢ ReadFault
-no-fault-answer answer stopped source none h is = no-fault source (subst (λ a. CountsFault (is_fault a None) source (λ name. 0) (λ name. 0)) is (subst (λ o. CountsFault (is_fault answer o) source (λ name. 0) (λ name. 0)) none h))
+pub no-fault-answer : (answer : Stepped) (stopped : Option Stepped) (source : TapeSource) → stopped ≡ None → CountsFault (is_visit_fault answer stopped) source (λ name. 0) (λ name. 0) → answer ≢ ReadFault
+no-fault-answer answer stopped source none h is = no-fault source (subst (λ a. CountsFault (is_visit_fault a None) source (λ name. 0) (λ name. 0)) is (subst (λ o. CountsFault (is_visit_fault answer o) source (λ name. 0) (λ name. 0)) none h))
 
 -- shelves with the same contents are the same
 pub same-shelf : (a b : List ℕ) (before now : List ℕ → Option (List ℕ)) → before ≡ (λ name. Some a) → now ≡ (λ name. Some b) → now ≡ before → b ≡ a
@@ -52,7 +52,7 @@ module _ (s : Spec) (F : ℕ) (table : (level node : ℕ) → Bounds) (bits : �
   }
 
   module _ (greatest number : ℕ) (before now : SessionState) (middle used : ℕ) (answer : Stepped) (told : Option (ℕ → Option Bool)) (is_told : told ≡ Some bits) (way : IsUnderWay s F table greatest bits start number before middle) (exact : IsVisitByBits s F table told before middle answer now used) (some : answer ≢ OutOfMemory) (steady : answer ≢ ReadFault) where
-    no-place : (a : Stepped) → a ≢ ReadFault → fault_place a used ≡ None
+    no-place : (a : Stepped) → a ≢ ReadFault → visit_fault_place a used ≡ None
     no-place Moved h = refl
     no-place Made h = refl
     no-place Overshot h = refl

@@ -10,7 +10,7 @@ use Rattle.size_window.specs.RunByBits.{RunState}
 use Rattle.size_window.specs.Drawing.{AreLimits, ending_of}
 use Rattle.size_window.specs.Turn.{entry_of, turns_of}
 use Rattle.session_pool.specs.Member.{MemberState}
-use Rattle.session_pool.specs.Interleaving.{Shared, setting, EndedRightly}
+use Rattle.session_pool.specs.Interleaving.{Shared, shared_setting, EndedRightly}
 use Rattle.call_stages.specs.Stages.{files}
 use Rattle.sample_command.specs.Drawn.{Lists, closing_lines}
 use Rattle.sample_command.specs.UnderWay.{met, has_failed, IsCourseSoFar, IsAtEnd}
@@ -24,7 +24,7 @@ use Rattle.pool_command.specs.Pages.{closing_by}
 
 -- what the drawings of a pool over a base share
 abbrev pub shared_of : PoolSetting → (contents : List ℕ → Option (List ℕ)) → Shared
-shared_of p contents = setting p.setting.spec (ratio p.setting.num p.setting.den) p.setting.bits (table_of p) contents
+shared_of p contents = shared_setting p.setting.spec (ratio p.setting.num p.setting.den) p.setting.bits (table_of p) contents
 
 -- a drawing is asked as often as its closing states
 asks-are : (e : Told) (turns : ℕ) → asks_to_end (ending_of e) turns ≡ turns + (1 - turns_of e)

@@ -14,7 +14,7 @@ use Rattle.size_window.specs.declared.turned.Turned.{Turned as Answer}
 use Rattle.size_window.specs.declared.turned.Turned.TheVariants as answer
 use Rattle.size_window.specs.RunByBits.{Limits}
 use Rattle.size_window.specs.Trace.{TurnsContinue}
-use Rattle.size_window.specs.Turn.{HasLabels, IfKept, entry_of, told_entry, turns_by, turns_of, ending_by}
+use Rattle.size_window.specs.Turn.{EntryHasLabels, IfKept, entry_of, told_entry, turns_by, turns_of, ending_by}
 use Rattle.session_pool.specs.declared.pooled.Pooled.{Pooled}
 use Rattle.session_pool.specs.Member.{MemberState, bits_to_nodes}
 use Rattle.session_pool.specs.Turn.{IsMemberTurn, kept_in}
@@ -30,11 +30,11 @@ kept-told (answer.Kept e) = refl
 kept-told (answer.Finished e) = refl
 kept-told answer.OutOfMemory = refl
 
-labels-on : (mode : Mode) (es : List Entry) (a : Answer) → All (HasLabels mode) es → IfKept a (HasLabels mode) → All (HasLabels mode) (es ++ kept_in a)
-labels-on mode es answer.Going all one = subst (All (HasLabels mode)) (sym (append-nil es)) all
-labels-on mode es (answer.Kept e) all one = All-push (HasLabels mode) es e all one
-labels-on mode es (answer.Finished e) all one = subst (All (HasLabels mode)) (sym (append-nil es)) all
-labels-on mode es answer.OutOfMemory all one = subst (All (HasLabels mode)) (sym (append-nil es)) all
+labels-on : (mode : Mode) (es : List Entry) (a : Answer) → All (EntryHasLabels mode) es → IfKept a (EntryHasLabels mode) → All (EntryHasLabels mode) (es ++ kept_in a)
+labels-on mode es answer.Going all one = subst (All (EntryHasLabels mode)) (sym (append-nil es)) all
+labels-on mode es (answer.Kept e) all one = All-push (EntryHasLabels mode) es e all one
+labels-on mode es (answer.Finished e) all one = subst (All (EntryHasLabels mode)) (sym (append-nil es)) all
+labels-on mode es answer.OutOfMemory all one = subst (All (EntryHasLabels mode)) (sym (append-nil es)) all
 
 -- a turn after which the drawing goes on is counted
 going-counts : (a : Answer) → a ≢ answer.OutOfMemory → ending_by None a ≡ None → turns_by None a ≡ 1
@@ -98,8 +98,8 @@ module _ (w : Shared) (before now : List ℕ → ℕ) (m later : MemberState) (p
         ∙ sym (map-append entry_of m.entries (kept_in h.told))
         ∙ ap (map entry_of) (sym h.entries)
 
-    labels-are : All (HasLabels w.spec.mode) later.entries
-    labels-are = subst (All (HasLabels w.spec.mode)) (sym h.entries) (labels-on w.spec.mode m.entries h.told p.labels h.labels)
+    labels-are : All (EntryHasLabels w.spec.mode) later.entries
+    labels-are = subst (All (EntryHasLabels w.spec.mode)) (sym h.entries) (labels-on w.spec.mode m.entries h.told p.labels h.labels)
 
     -- the moments between which it met its tape
     moments-are : AreMoments later.tape.source (has_failed later.drawing.ending) begun now

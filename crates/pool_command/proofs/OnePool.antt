@@ -22,7 +22,7 @@ use Rattle.call_stages.proofs.OneReading.{one-read, one-specified, one-based}
 use Rattle.sample_command.specs.Drawn.{HasFailed, is_fault, IsDrawn, ending_status, closing_lines, drawn_header}
 use Rattle.sample_command.specs.UnderWay.{met}
 use Rattle.sample_command.proofs.OneDrawing.{one-course, one-list}
-use Rattle.session_pool.specs.Interleaving.{times}
+use Rattle.session_pool.specs.Interleaving.{how_often}
 use Rattle.pool_command.specs.Schedules.{AreOverOne}
 use Rattle.pool_command.specs.Schedule.{named, all_asked, ends_now, ends_in, order_of, asks_to_end}
 use Rattle.pool_command.specs.PoolCommand.{PoolSetting, PoolDrawing, IsDrawnIn, AreDrawnIn, PoolDrawn, PooledOver, CarriesPool, pool_of, table_of, first_of, first_status, session_line, session_lines, drawings_text, order_line, pool_end_line, asks_of}
@@ -144,8 +144,8 @@ ends-within asks other n before (x ∷ xs) below same =
     ap (λ front. front ++ ends_in other (before ++ x ∷ []) xs) (now (other x) (asks x) (same x below.0))
     ∙ ap (λ more. ends_now asks before x ++ more) (ends-within asks other n (before ++ x ∷ []) xs below.1 same)
   where
-    now : (a b : ℕ) → a ≡ b → (if nat_eq a (times x before + 1) then x ∷ [] else []) ≡ (if nat_eq b (times x before + 1) then x ∷ [] else [])
-    now a b e = ap (λ k. if nat_eq k (times x before + 1) then x ∷ [] else []) e
+    now : (a b : ℕ) → a ≡ b → (if nat_eq a (how_often x before + 1) then x ∷ [] else []) ≡ (if nat_eq b (how_often x before + 1) then x ∷ [] else [])
+    now a b e = ap (λ k. if nat_eq k (how_often x before + 1) then x ∷ [] else []) e
 
 -- The order in which n drawings end by a schedule depends only on how often each of them is asked,
 -- where n is at least 1.

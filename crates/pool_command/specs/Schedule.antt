@@ -2,7 +2,7 @@
 -- end.
 use Rattle.std.specs.Prelude.{ℕ, zero, suc, ◌+◌, ◌-◌, ◌%◌, nat_eq, List, [], ◌∷◌, ◌++◌, map}
 use Rattle.std.specs.Prelude.{replicate, if◌then◌else◌}
-use Rattle.session_pool.specs.Interleaving.{times}
+use Rattle.session_pool.specs.Interleaving.{how_often}
 use Rattle.size_window.specs.RunByBits.{Ending}
 
 -- The drawings that a schedule's bytes name, among n: each byte modulo n.
@@ -20,12 +20,12 @@ asks_to_end ending turns = turns
 -- as often as it takes to end it. `asks` is how often each is asked in all.
 unfoldable pub all_asked : (asks : ℕ → ℕ) → List ℕ → (n : ℕ) → List ℕ
 all_asked asks front zero = front
-all_asked asks front (suc n) = all_asked asks front n ++ replicate (asks n - times n front) n
+all_asked asks front (suc n) = all_asked asks front n ++ replicate (asks n - how_often n front) n
 
 -- The drawing that ends where i is asked after the drawings of a list: i, if it is now asked for
 -- the last time.
 abbrev pub ends_now : (asks : ℕ → ℕ) → (before : List ℕ) → (i : ℕ) → List ℕ
-ends_now asks before i = if nat_eq (asks i) (times i before + 1) then i ∷ [] else []
+ends_now asks before i = if nat_eq (asks i) (how_often i before + 1) then i ∷ [] else []
 
 -- The drawings that end while those of a list are asked, others being asked before, in the order in
 -- which they end.

@@ -14,7 +14,7 @@ use Rattle.session_pool.specs.Interleaving.{Shared, IsPoolAfter}
 use Rattle.size_window.specs.declared.ending.Ending.{Ending}
 use Rattle.size_window.specs.RunByBits.{Limits}
 use Rattle.size_window.specs.Drawing.{DrawingState}
-use Rattle.size_window.specs.Turn.{HasLabels, entry_of, turns_of}
+use Rattle.size_window.specs.Turn.{EntryHasLabels, entry_of, turns_of}
 use Rattle.sample_command.specs.UnderWay.{IsCourseSoFar, has_failed}
 use Rattle.pool_command.specs.Schedule.{ends_in, all_asked, named}
 use Rattle.pool_command.specs.PoolCommand.{greatest_below}
@@ -62,7 +62,7 @@ pub record IsMemberUnderWay (w : Shared) (limits : Limits) (begun counts : List 
   pub so_far : IsCourseSoFar w.spec w.x w.F w.table limits (bits_of_source m.tape.source w.contents)
       m.drawing m.tape.used most
   pub entries : so_far.course.entries ≡ map entry_of m.entries
-  pub labels : All (HasLabels w.spec.mode) m.entries
+  pub labels : All (EntryHasLabels w.spec.mode) m.entries
   pub moments : AreMoments m.tape.source (has_failed m.drawing.ending) begun counts
 
 -- A moment of a pool: what its drawings share, the counts of failed reads, what raising a level

@@ -10,10 +10,10 @@ use Rattle.size_window.specs.declared.ending.Ending.TheVariants as told
 use Rattle.size_window.specs.RunByBits as run
 use Rattle.size_window.specs.RunByBits.{Limits, RunState, Course, after}
 use Rattle.size_window.specs.Drawing.{ending_of}
-use Rattle.size_window.specs.Trace.{atoms_in, IsTrace, HasEnded, ToldTracesAreCourses, EndedTracesAreOne}
+use Rattle.size_window.specs.Trace.{atoms_in, IsTrace, CourseHasEnded, ToldTracesAreCourses, EndedTracesAreOne}
 use Rattle.session_pool.specs.Member.{MemberState}
 use Rattle.session_pool.specs.Pool.{sources_of}
-use Rattle.session_pool.specs.Interleaving.{Shared, IsMemberAfter, AreAlikeWhere, times, AreAlikeMembers}
+use Rattle.session_pool.specs.Interleaving.{Shared, IsMemberAfter, AreAlikeWhere, how_often, AreAlikeMembers}
 
 -- sources in one list of sources are the same
 same-source : (sources : List TapeSource) (pool other : List MemberState) → sources_of pool ≡ sources → sources_of other ≡ sources → (number : ℕ) (m n : MemberState) → slice_get pool number ≡ Some m → slice_get other number ≡ Some n → m.tape.source ≡ n.tape.source
@@ -60,7 +60,7 @@ ended-some : (o : Option Told) → is_some o ≡ true → is_some (option_map en
 ended-some None e = e
 ended-some (Some ending) e = refl
 
-has-ended : (w : Shared) (limits : Limits) (tape : ℕ → Option Bool) (turns : ℕ) (m : MemberState) (most : ℕ) (c : Course) → IsUndisturbed w limits tape turns m most c → IsSome m.drawing.ending → HasEnded c
+has-ended : (w : Shared) (limits : Limits) (tape : ℕ → Option Bool) (turns : ℕ) (m : MemberState) (most : ℕ) (c : Course) → IsUndisturbed w limits tape turns m most c → IsSome m.drawing.ending → CourseHasEnded c
 has-ended w limits tape turns m most c h some = record { ended = ap (λ (o : Option run.Ending). is_some o) h.ending ∙ ended-some m.drawing.ending some; undisturbed = h.never }
 
 -- What makes the courses of two such drawings the same.
@@ -77,10 +77,10 @@ alike-where Premise suffices w limits sources c chooses begun counts turns pool 
         let two = q.each number n at_other in
         let from = same-source sources pool other p.same_sources q.same_sources number m n at at_other in
         let is-other : bits_of_source n.tape.source w.contents ≡ Some tape = ap (λ s. bits_of_source s w.contents) (sym from) ∙ is in
-        alike-by w limits begun counts begun_then counts_then (times number turns) (times number others) m n one two
-        (suffices w limits tape c chooses (times number turns) (times number others) m n one.most two.most one.course two.course
-        (undisturbed w limits begun counts (times number turns) m one never tape is)
-        (undisturbed w limits begun_then counts_then (times number others) n two never_then tape is-other)
+        alike-by w limits begun counts begun_then counts_then (how_often number turns) (how_often number others) m n one two
+        (suffices w limits tape c chooses (how_often number turns) (how_often number others) m n one.most two.most one.course two.course
+        (undisturbed w limits begun counts (how_often number turns) m one never tape is)
+        (undisturbed w limits begun_then counts_then (how_often number others) n two never_then tape is-other)
         premise)
 
 -- If traces over told bits are courses, two drawings over such a tape named equally often, without

@@ -90,12 +90,12 @@ answer_for [] = Made
 answer_for (e ∷ es) = Moved
 
 -- What stops a session is a cell that straddles, the tape's end or a failed read.
-abbrev pub IsStop : Option Stepped → Type 0
-IsStop None = Unit {0}
-IsStop (Some (Straddles node cell)) = Unit {0}
-IsStop (Some Ended) = Unit {0}
-IsStop (Some ReadFault) = Unit {0}
-IsStop _ = ⊥
+abbrev pub StopsSession : Option Stepped → Type 0
+StopsSession None = Unit {0}
+StopsSession (Some (Straddles node cell)) = Unit {0}
+StopsSession (Some Ended) = Unit {0}
+StopsSession (Some ReadFault) = Unit {0}
+StopsSession _ = ⊥
 
 -- The node of this number is a sequence, a set or a cycle of this part.
 pub record HasCountedPart (s : Spec) (e part : ℕ) : Type 0 where

@@ -14,7 +14,7 @@ ghost use Rattle.shape_sampler.specs.State.{SessionState, SessionBelongs, HasCou
 ghost use Rattle.shape_sampler.specs.State.{begun_state, emptied, Leaves};
 ghost use Rattle.shape_sampler.specs.Answer.{IsVisitByBits, IsIdealAnswer, IsVisitOfAll};
 ghost use Rattle.shape_sampler.specs.Answer.{IsPlainAnswer, IsPlainVisit, room_atom_visited};
-ghost use Rattle.shape_sampler.specs.Answer.{replaced_by, Draws, is_fault};
+ghost use Rattle.shape_sampler.specs.Answer.{replaced_by, Draws, is_visit_fault};
 
 use crate::counted::{answer_to_count, counted_part, put_counted, room_for};
 use crate::placing::{
@@ -60,7 +60,7 @@ pub struct Session {
 
 impl Model for Session {
     ghost use Rattle.std.specs.Prelude.{◌≤◌};
-    ghost use Rattle.shape_sampler.specs.State.{SessionState, IsStop};
+    ghost use Rattle.shape_sampler.specs.State.{SessionState, StopsSession};
 
     ghost Value = { SessionState };
 
@@ -75,7 +75,7 @@ impl Model for Session {
       stopped = s.stopped;
     } };
 
-    ghost invariant = { λ s. IsStop s.stopped × (s.whole ≤ 1000000) × (s.room ≤ 1000000) };
+    ghost invariant = { λ s. StopsSession s.stopped × (s.whole ≤ 1000000) × (s.room ≤ 1000000) };
 }
 
 impl Session {
@@ -207,7 +207,7 @@ impl Session {
         ensures used { (tape.old.used ≤ tape.new.used) × (tape.new.used ≤ tape.old.used + 60) }
         ensures oracle { LeavesOracle O.spec O.x O.table O.cost O.raised
             oracle.old oracle.new steps.old steps.new }
-        ensures tape { LeavesTape S.content S.faults (is_fault result self.old.stopped)
+        ensures tape { LeavesTape S.content S.faults (is_visit_fault result self.old.stopped)
             shelf.old shelf.new tape.old tape.new }
     {
         if let Some(stop) = self.stopped {
@@ -347,7 +347,7 @@ impl Session {
         ensures used { (tape.old.used ≤ tape.new.used) × (tape.new.used ≤ tape.old.used + 60) }
         ensures oracle { LeavesOracle O.spec O.x O.table O.cost O.raised
             oracle.old oracle.new steps.old steps.new }
-        ensures tape { LeavesTape S.content S.faults (is_fault result self.old.stopped)
+        ensures tape { LeavesTape S.content S.faults (is_visit_fault result self.old.stopped)
             shelf.old shelf.new tape.old tape.new }
     {
         if reserve_drawn(&mut self.pending, &mut self.shape, &mut self.cells).is_err() {
@@ -401,7 +401,7 @@ impl Session {
         ensures used { (tape.old.used ≤ tape.new.used) × (tape.new.used ≤ tape.old.used + 60) }
         ensures oracle { LeavesOracle O.spec O.x O.table O.cost O.raised
             oracle.old oracle.new steps.old steps.new }
-        ensures tape { LeavesTape S.content S.faults (is_fault result self.old.stopped)
+        ensures tape { LeavesTape S.content S.faults (is_visit_fault result self.old.stopped)
             shelf.old shelf.new tape.old tape.new }
     {
         founded.known();

@@ -53,7 +53,7 @@ returns-in_err-order-clause-err g c = on-err c.from_residual-in_err-order.result
     let sound = subst IsSound c.system-system.ensures.system c.known.ensures.sound in
     let chosen = c.a_table_has_its_chooser.ensures.chooses c.args.founded.now g.row.F (table_of p) (has_empty c.args.founded.now) (λ part. c.a_table_has_its_chooser.ensures.computed c.args.founded.now part sound) in
     let broken = c.in_err-order.ensures.broken b start in
-    so-far-told p content counts before names c.args.steps.now chosen below broken.asked (moment (session.setting c.take_turns.new.oracle.spec (ratio c.take_turns.new.oracle.num c.take_turns.new.oracle.den) g.row.F (level_bounds_from (setting c.take_turns.new.oracle.spec c.take_turns.new.oracle.num c.take_turns.new.oracle.den g.row.F) c.take_turns.new.oracle.start c.take_turns.new.oracle.base) (g.S.Shelf.content c.take_turns.new.shelf)) (g.S.Shelf.faults c.take_turns.new.shelf) costs c.take_turns.new.oracle.raised c.take_turns.new.steps c.take_turns.new.pool) broken.so_far c.take_turns.ensures.can.number c.args.schedule.now)
+    so-far-told p content counts before names c.args.steps.now chosen below broken.asked (moment (session.shared_setting c.take_turns.new.oracle.spec (ratio c.take_turns.new.oracle.num c.take_turns.new.oracle.den) g.row.F (level_bounds_from (setting c.take_turns.new.oracle.spec c.take_turns.new.oracle.num c.take_turns.new.oracle.den g.row.F) c.take_turns.new.oracle.start c.take_turns.new.oracle.base) (g.S.Shelf.content c.take_turns.new.shelf)) (g.S.Shelf.faults c.take_turns.new.shelf) costs c.take_turns.new.oracle.raised c.take_turns.new.steps c.take_turns.new.pool) broken.so_far c.take_turns.ensures.can.number c.args.schedule.now)
 
 -- what was kept can be printed
 pub page-requires-clause-printable : goal.page-requires-clause-printable
@@ -85,7 +85,7 @@ returns-in_err-text-clause-err g c = on-err c.from_residual-in_err-text.result (
     let sound = subst IsSound c.system-system.ensures.system c.known.ensures.sound in
     let chosen = c.a_table_has_its_chooser.ensures.chooses c.args.founded.now g.row.F (table_of p) (has_empty c.args.founded.now) (λ part. c.a_table_has_its_chooser.ensures.computed c.args.founded.now part sound) in
     let far = (c.in_ok-order.ensures.ended b start).under_way.so_far in
-    so-far-told p content counts before names c.args.steps.now chosen below (all_asked (asked_by c.take_turns.new.pool) (named (length names) c.args.schedule.now) (length names)) (moment (session.setting c.take_turns.new.oracle.spec (ratio c.take_turns.new.oracle.num c.take_turns.new.oracle.den) g.row.F (level_bounds_from (setting c.take_turns.new.oracle.spec c.take_turns.new.oracle.num c.take_turns.new.oracle.den g.row.F) c.take_turns.new.oracle.start c.take_turns.new.oracle.base) (g.S.Shelf.content c.take_turns.new.shelf)) (g.S.Shelf.faults c.take_turns.new.shelf) costs c.take_turns.new.oracle.raised c.take_turns.new.steps c.take_turns.new.pool) far c.take_turns.ensures.can.number c.args.schedule.now)
+    so-far-told p content counts before names c.args.steps.now chosen below (all_asked (asked_by c.take_turns.new.pool) (named (length names) c.args.schedule.now) (length names)) (moment (session.shared_setting c.take_turns.new.oracle.spec (ratio c.take_turns.new.oracle.num c.take_turns.new.oracle.den) g.row.F (level_bounds_from (setting c.take_turns.new.oracle.spec c.take_turns.new.oracle.num c.take_turns.new.oracle.den g.row.F) c.take_turns.new.oracle.start c.take_turns.new.oracle.base) (g.S.Shelf.content c.take_turns.new.shelf)) (g.S.Shelf.faults c.take_turns.new.shelf) costs c.take_turns.new.oracle.raised c.take_turns.new.steps c.take_turns.new.pool) far c.take_turns.ensures.can.number c.args.schedule.now)
 
 -- all have ended, and their text is made
 pub returns-clause-ok : goal.returns-clause-ok
@@ -107,6 +107,6 @@ returns-clause-ok g c = λ before below.
     c.in_ok-header.ensures
     ∙ ap (λ (s : Spec). drawn_header (version_line 2) (setting s c.args.x.num c.args.x.den g.row.F) c.values.result.now limits) c.system-system.ensures.system
     ∙ ap (λ (entries : List ℕ). drawn_header (version_line 2) t entries limits) c.values.ensures.entries in
-    ended-told p content counts before names c.args.steps.now chosen below (all_asked (asked_by c.take_turns.new.pool) (named (length names) c.args.schedule.now) (length names)) (moment (session.setting c.take_turns.new.oracle.spec (ratio c.take_turns.new.oracle.num c.take_turns.new.oracle.den) g.row.F (level_bounds_from (setting c.take_turns.new.oracle.spec c.take_turns.new.oracle.num c.take_turns.new.oracle.den g.row.F) c.take_turns.new.oracle.start c.take_turns.new.oracle.base) (g.S.Shelf.content c.take_turns.new.shelf)) (g.S.Shelf.faults c.take_turns.new.shelf) costs c.take_turns.new.oracle.raised c.take_turns.new.steps c.take_turns.new.pool) over.under_way.so_far c.take_turns.ensures.can.number
+    ended-told p content counts before names c.args.steps.now chosen below (all_asked (asked_by c.take_turns.new.pool) (named (length names) c.args.schedule.now) (length names)) (moment (session.shared_setting c.take_turns.new.oracle.spec (ratio c.take_turns.new.oracle.num c.take_turns.new.oracle.den) g.row.F (level_bounds_from (setting c.take_turns.new.oracle.spec c.take_turns.new.oracle.num c.take_turns.new.oracle.den g.row.F) c.take_turns.new.oracle.start c.take_turns.new.oracle.base) (g.S.Shelf.content c.take_turns.new.shelf)) (g.S.Shelf.faults c.take_turns.new.shelf) costs c.take_turns.new.oracle.raised c.take_turns.new.steps c.take_turns.new.pool) over.under_way.so_far c.take_turns.ensures.can.number
     page.1.lines page.1.lists over.ended laws sound c.requires.limits
     c.args.schedule.now c.as_slice.result.now c.in_ok-header.header.items page.0 c.in_ok-text.text.items c.first_status.result c.requires.number.0 (c.as_slice.ensures.value ∙ over.under_way.order_is) header page.1.text_is page.2 c.first_status.ensures
