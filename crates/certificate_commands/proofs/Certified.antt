@@ -44,7 +44,7 @@ use Rattle.certificate.specs.Completeness.{AreKept, IsOfDrawing}
 use Rattle.certificate.specs.Fields.{IsPrinted}
 use Rattle.certificate.specs.Headers.{code_mode, header_of}
 use Rattle.certificate.specs.Lines.{Line, whole_line, version_line, text_of}
-use Rattle.certificate.specs.Ranges.{EntryInRange, IsInRange}
+use Rattle.certificate.specs.Ranges.{EntryInRange, CertificateInRange}
 use Rattle.certificate.specs.Reading.{IsTextOf}
 use Rattle.certificate.specs.Verdicts.{FirstFails}
 use Rattle.certificate.proofs.Writing.{text-append}
@@ -282,7 +282,7 @@ module _ (s : Spec) (sound : IsSound s) (once : AreDistinct s.names) (x : Fracti
       closing = tt;
     }
 
-    in-range : IsInRange cert
+    in-range : CertificateInRange cert
     in-range = record {
       header = record { fraction = few_bits; min = let w = are.window in let m = max-small in omega (arith, w, m); max = max-small; base = is_base.small };
       entries = entries-small s sound F table limits c.state.kept c.state.attempt.used kept-small (used-small limits c are whole.few) max-small c.entries texts
