@@ -28,7 +28,7 @@ use Rattle.call_stages.specs.Outcomes.{Outcome, Says, MaySay, IsOne}
 use Rattle.call_stages.specs.Outcomes as outcomes
 use Rattle.call_stages.specs.Refusals.{words_line}
 use Rattle.sample_command.specs.SampleCommand.{source_of, tape_in, DrawnOver}
-use Rattle.boltz.specs.SpecCommand.{Printed, spec_text}
+use Rattle.boltz.specs.SpecCommand.{SpecPrinted, spec_text}
 use Rattle.call_stages.specs.Stages.{AreCalm, Files, files, Based}
 use Rattle.call_stages.specs.declared.status.Status.{Status}
 use Rattle.boltz.proofs.Commands.{not-refused, one-fault, pool_limits}
@@ -60,7 +60,7 @@ pub record CertificateLaws : Type 0 where
 
 -- each command has one outcome where its files are calm: a command adds its line
 one-carried : (laws : CertificateLaws) (f : Files) (asked : Command) → IsStoodFor asked → AreCalm f (files_of asked) → IsOne (Carries f asked)
-one-carried laws f (command.Spec file) named calm = one-specified f file Printed calm.0 (λ s. one-said Status.Done (spec_text s) 0)
+one-carried laws f (command.Spec file) named calm = one-specified f file SpecPrinted calm.0 (λ s. one-said Status.Done (spec_text s) 0)
 one-carried laws f (command.Oracle file x F) named calm = one-specified f file (λ s. Based (setting s x.num x.den (fraction_bits F)) (Bounded (setting s x.num x.den (fraction_bits F)))) calm.0 (λ s. one-based (setting s x.num x.den (fraction_bits F)) (Bounded (setting s x.num x.den (fraction_bits F))) (λ base. one-said Status.Done (bounded_text (setting s x.num x.den (fraction_bits F)) base) (cost_at 6)))
 one-carried laws f (command.Sample file x word limits F fast) named calm =
     let bits = known-bits f word calm.1 in

@@ -30,7 +30,7 @@ ghost use Rattle.boltz.specs.Complete.{IsWithoutFast, IsCountable, undisturbed};
 ghost use Rattle.bulk_command.specs.BulkCommand.{bulk_course, course_line};
 ghost use Rattle.bulk_command.specs.BulkTables.{bulk_tables};
 ghost use Rattle.sample_command.specs.Starts.{format_of};
-ghost use Rattle.sample_command.specs.Drawn.{Lists, drawn_header, closing_lines, ending_status};
+ghost use Rattle.sample_command.specs.Drawn.{Lists, drawn_header, closing_text, ending_status};
 ghost use Rattle.call_stages.specs.Ends.{Output, EndsBy, IsWritten};
 ghost use Rattle.boltz.specs.OracleCommand.{bounded_text};
 ghost use Rattle.call_stages.specs.Outcomes.{IsOne};
@@ -129,7 +129,7 @@ pub fn what_can_be_drawn_is_drawn()
         × (text ≡ drawn_header (format_of fast) (setting s x.num x.den (fraction_bits F)) base
         (limits_of limits)
         ++ (lines
-        ++ closing_lines (level_bounds_from (setting s x.num x.den (fraction_bits F)) start
+        ++ closing_text (level_bounds_from (setting s x.num x.den (fraction_bits F)) start
         base) (undisturbed (setting s x.num x.den (fraction_bits F)) base start
         (limits_of limits) bits turns) ending))) }
 {}

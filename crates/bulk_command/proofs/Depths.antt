@@ -9,7 +9,7 @@ use Rattle.class_system.specs.NodeResults.{node_results}
 use Rattle.class_system.specs.NodeOrder.{parts_of}
 use Rattle.class_system.specs.Limits.{greatest_of, node_depth, depths, HasFewParts, IsWithinLimits}
 use Rattle.bulk_command.specs.BulkTables.{class_nodes, all_nodes, tables_of}
-use Rattle.bulk_command.specs.BulkText.{class_name, next_class}
+use Rattle.bulk_command.specs.BulkText.{numbered_name, next_class}
 use Rattle.bulk_command.proofs.Blocks.{blocks-more, blocks-length, at-behind, each-blocks, each-six}
 use Rattle.bulk_command.proofs.Results.{with_range, zip-plain, six-on, blocks-on}
 
@@ -51,7 +51,7 @@ few-parts n few = record { few = few }
 -- The tables of at most 41 classes are within the limits on classes, parts, depth and nodes.
 pub is-within : (m : ℕ) → m ≤ 41 → IsWithinLimits (tables_of m)
 is-within m few =
-    let named = length-map-range_with_len class_name 0 m in
+    let named = length-map-range_with_len numbered_name 0 m in
     let long = blocks-length (class_nodes m) (λ i. refl) m in
     record {
       classes = omega (arith, named, few);

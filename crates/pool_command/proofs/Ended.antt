@@ -12,7 +12,7 @@ use Rattle.size_window.specs.Turn.{entry_of, turns_of}
 use Rattle.session_pool.specs.Member.{MemberState}
 use Rattle.session_pool.specs.Interleaving.{Shared, shared_setting, EndedRightly}
 use Rattle.call_stages.specs.Stages.{files}
-use Rattle.sample_command.specs.Drawn.{Lists, closing_lines}
+use Rattle.sample_command.specs.Drawn.{Lists, closing_text}
 use Rattle.sample_command.specs.UnderWay.{met, has_failed, IsCourseSoFar, IsAtEnd}
 use Rattle.sample_command.proofs.AtTheEnd.{course-of, drawn-at-end, closing-is}
 use Rattle.sample_command.proofs.OneTurn.{open-told}
@@ -79,7 +79,7 @@ module _ (p : PoolSetting) (contents : List ℕ → Option (List ℕ)) (begun co
       lists = subst (λ es. Lists p.setting.spec es lines) (sym over-name.1) lists;
     }
 
-    pub closing-same : closing_by m m.drawing.ending ≡ closing_lines (table_of p) over-name.0.course (ending_of e)
+    pub closing-same : closing_by m m.drawing.ending ≡ closing_text (table_of p) over-name.0.course (ending_of e)
     closing-same = ap (closing_by m) is ∙ closing-is p.setting.spec (ratio p.setting.num p.setting.den) p.setting.bits (table_of p) p.limits (met (TapeSource.Named name) contents met-between.before met-between.now) chosen m.drawing m.tape.used most over-name.0 e m.drawing.kept m.drawing.thrown m.tape.used m.drawing.turns at-end-of refl refl refl refl
 
     pub asks-same : asks_to_end (ending_of e) over-name.0.course.state.turns ≡ asked_until m.drawing m.drawing.ending

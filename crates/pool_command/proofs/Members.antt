@@ -21,7 +21,7 @@ use Rattle.session_pool.specs.Turn.{IsMemberTurn, kept_in}
 use Rattle.session_pool.specs.Interleaving.{Shared}
 use Rattle.sample_command.specs.UnderWay.{IsCourseSoFar, has_failed}
 use Rattle.sample_command.proofs.OneTurn.{TellsTurn, so-far-on, entries-on, same-fault}
-use Rattle.pool_command.specs.UnderWay.{AreMoments, IsMemberUnderWay, IsCounted, asked_until}
+use Rattle.pool_command.specs.UnderWay.{AreMoments, IsMemberUnderWay, CountsAsked, asked_until}
 
 -- what an answer tells to be kept
 kept-told : (a : Answer) → option_to_list (told_entry a) ≡ map entry_of (kept_in a)
@@ -67,7 +67,7 @@ member-longer w limits begun counts later m most grew p = record { so_far = p.so
 
 module _ (w : Shared) (before now : List ℕ → ℕ) (m later : MemberState) (pooled : Pooled) (h : IsMemberTurn w.spec w.x w.F w.table w.contents before now m pooled later) where
   -- how a turn of a drawing that goes on is counted
-  pub counted-on : m.drawing.ending ≡ None → IsCounted m.drawing.turns later.drawing.turns (asked_until later.drawing later.drawing.ending) later.drawing.ending
+  pub counted-on : m.drawing.ending ≡ None → CountsAsked m.drawing.turns later.drawing.turns (asked_until later.drawing later.drawing.ending) later.drawing.ending
   counted-on going = go later.drawing.ending refl
     where
       turns-are : later.drawing.turns ≡ m.drawing.turns + turns_by None h.told
@@ -76,7 +76,7 @@ module _ (w : Shared) (before now : List ℕ → ℕ) (m later : MemberState) (p
       ends-by : ending_by None h.told ≡ later.drawing.ending
       ends-by = sym (h.counted.ending ∙ ap (λ o. ending_by o h.told) going)
 
-      go : (o : Option Told) → later.drawing.ending ≡ o → IsCounted m.drawing.turns later.drawing.turns (asked_until later.drawing o) o
+      go : (o : Option Told) → later.drawing.ending ≡ o → CountsAsked m.drawing.turns later.drawing.turns (asked_until later.drawing o) o
       go None is = turns-are ∙ ap (λ n. m.drawing.turns + n) (going-counts h.told h.made (ends-by ∙ is))
       go (Some e) is = let same = turns-are in let by = end-counts h.told e (ends-by ∙ is) in let one = few-turns e in omega (arith, same, by, one)
 

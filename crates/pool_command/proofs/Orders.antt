@@ -13,8 +13,8 @@ use Rattle.size_window.specs.Drawing.{DrawingBelongs}
 use Rattle.session_pool.specs.Member.{MemberState}
 use Rattle.session_pool.specs.Pool.{PoolBelongs, ending_at, ending_of_member}
 use Rattle.session_pool.specs.Interleaving.{how_often, WasAsked}
-use Rattle.pool_command.specs.Schedule.{named, all_asked, ends_in}
-use Rattle.pool_command.specs.UnderWay.{Moment, Beginning, IsSoFar, IsPoolRunning, IsBrokenPool, IsAsked, IsFinished, IsCounted, asked_by, asked_of_member, asked_until, turns_at, turns_of_member, ended_now}
+use Rattle.pool_command.specs.Schedule.{drawings_named, all_asked, ends_in}
+use Rattle.pool_command.specs.UnderWay.{Moment, Beginning, IsSoFar, IsPoolRunning, IsBrokenPool, IsAsked, IsFinished, CountsAsked, asked_by, asked_of_member, asked_until, turns_at, turns_of_member, ended_now}
 use Rattle.pool_command.proofs.Ends.{differs-is, times-both, times-replicated, order-stays, order-grows}
 use Rattle.pool_command.proofs.SoFar.{none-asked}
 use Rattle.pool_command.proofs.TurnsLeft.{turns_left, left_of_member, left_until}
@@ -84,7 +84,7 @@ module _ (b : Beginning) (asked : List ℕ) (old new : Moment) (order : List ℕ
       go (Some e) l was now k = absurd (cc)
       go None None was now k = absurd (cc)
       go None (Some e) was now k =
-          let counted = subst (IsCounted (turns_at old.pool number) (turns_at new.pool number) (asked_by new.pool number)) now (h.counted was) in
+          let counted = subst (CountsAsked (turns_at old.pool number) (turns_at new.pool number) (asked_by new.pool number)) now (h.counted was) in
           order-grows (asked_by old.pool) (asked_by new.pool) asked number (λ i other. ap asked_of_member (h.others i other)) (none-asked (slice_get old.pool number) was)
           (counted ∙ ap (λ t. t + 1) (turns-asked b asked old p.so_far number was within))
 
@@ -95,7 +95,7 @@ module _ (b : Beginning) (asked : List ℕ) (old new : Moment) (order : List ℕ
       go : (l : Option Told) → ending_at new.pool number ≡ l → IsSome l → asked_by new.pool number ≡ how_often number asked + 1
       go None now k = absurd (cc)
       go (Some e) now k =
-          subst (IsCounted (turns_at old.pool number) (turns_at new.pool number) (asked_by new.pool number)) now (h.counted was)
+          subst (CountsAsked (turns_at old.pool number) (turns_at new.pool number) (asked_by new.pool number)) now (h.counted was)
           ∙ ap (λ t. t + 1) (turns-asked b asked old p.so_far number was within)
 
 -- a pool that is under way can be broken off
@@ -220,13 +220,13 @@ fewer-left s x pool later number belongs h going within = go (slice_get pool num
         let mine = subst (λ (k : MemberState). DrawingBelongs s x k.drawing) (get_or_from_slice_get pool number m m at) (belongs.each number m (slice_get_within pool number m at)) in
         let is : m.drawing.ending ≡ None = ap ending_of_member (sym at) ∙ going in
         subst (λ n. suc (turns_left later number) ≤ n) (sym (ap (left_until m.drawing.turns) is))
-        (after m.drawing.turns (let turns = mine.turns in let limit = mine.limits.turns in omega (arith, turns, limit)) (slice_get later number) (subst (λ o. IsCounted (turns_of_member o) (turns_at later number) (asked_by later number) (ending_at later number)) at (h.counted going)))
+        (after m.drawing.turns (let turns = mine.turns in let limit = mine.limits.turns in omega (arith, turns, limit)) (slice_get later number) (subst (λ o. CountsAsked (turns_of_member o) (turns_at later number) (asked_by later number) (ending_at later number)) at (h.counted going)))
       where
-        after : (turns : ℕ) → turns ≤ 50000000 → (l : Option MemberState) → IsCounted turns (turns_of_member l) (asked_of_member l) (ending_of_member l) → suc (left_of_member l) ≤ 50000002 - turns
+        after : (turns : ℕ) → turns ≤ 50000000 → (l : Option MemberState) → CountsAsked turns (turns_of_member l) (asked_of_member l) (ending_of_member l) → suc (left_of_member l) ≤ 50000002 - turns
         after turns few None counted = omega (arith, few)
         after turns few (Some k) counted = ends k.drawing.ending counted
           where
-            ends : (e : Option Told) → IsCounted turns k.drawing.turns (asked_until k.drawing e) e → suc (left_until k.drawing.turns e) ≤ 50000002 - turns
+            ends : (e : Option Told) → CountsAsked turns k.drawing.turns (asked_until k.drawing e) e → suc (left_until k.drawing.turns e) ≤ 50000002 - turns
             ends None c = omega (arith, few, c)
             ends (Some e) c = omega (arith, few)
 
@@ -236,13 +236,13 @@ unfolding ends_in
 starts-under-way b n order p none = record { so_far = p; order_is = none }
 
 -- one more byte names a drawing
-pub named-more : (asked : List ℕ) (n : ℕ) (bytes : List ℕ) (i byte d : ℕ) → i < length bytes → byte ≡ get_or bytes i d → (asked ++ named n (take i bytes)) ++ byte % n ∷ [] ≡ asked ++ named n (take (i + 1) bytes)
+pub named-more : (asked : List ℕ) (n : ℕ) (bytes : List ℕ) (i byte d : ℕ) → i < length bytes → byte ≡ get_or bytes i d → (asked ++ drawings_named n (take i bytes)) ++ byte % n ∷ [] ≡ asked ++ drawings_named n (take (i + 1) bytes)
 named-more asked n bytes i byte d within at =
-    append_assoc asked (named n (take i bytes)) (byte % n ∷ [])
+    append_assoc asked (drawings_named n (take i bytes)) (byte % n ∷ [])
     ∙ ap (λ xs. asked ++ xs) (sym (map-append (λ b. b % n) (take i bytes) (byte ∷ [])))
-    ∙ ap (λ b. asked ++ named n (take i bytes ++ b ∷ [])) at
-    ∙ ap (λ xs. asked ++ named n xs) (sym (take-suc bytes i d within))
-    ∙ ap (λ k. asked ++ named n (take k bytes)) (sym (add-one i))
+    ∙ ap (λ b. asked ++ drawings_named n (take i bytes ++ b ∷ [])) at
+    ∙ ap (λ xs. asked ++ drawings_named n xs) (sym (take-suc bytes i d within))
+    ∙ ap (λ k. asked ++ drawings_named n (take k bytes)) (sym (add-one i))
 
 -- whether there is no ending
 pub none-by : (o : Option Told) (b v : Bool) → is_some o ≡ not b → b ≡ v → is_none o ≡ v

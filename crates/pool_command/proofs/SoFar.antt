@@ -25,7 +25,7 @@ use Rattle.session_pool.specs.Interleaving.{Shared, shared_setting, IsPoolAfter}
 use Rattle.session_pool.proofs.Replaced.{replaced-here, replaced-elsewhere}
 use Rattle.sample_command.proofs.Turns.{raised-for}
 use Rattle.pool_command.specs.PoolCommand.{greatest_below}
-use Rattle.pool_command.specs.UnderWay.{Moment, Beginning, IsMemberUnderWay, IsSoFar, IsAsked, IsCounted, asked_by, asked_of_member, asked_until, turns_at, turns_of_member, moment, ended_now}
+use Rattle.pool_command.specs.UnderWay.{Moment, Beginning, IsMemberUnderWay, IsSoFar, IsAsked, CountsAsked, asked_by, asked_of_member, asked_until, turns_at, turns_of_member, moment, ended_now}
 use Rattle.pool_command.proofs.Members.{counted-on, member-on, member-longer}
 
 -- numbers with one replaced
@@ -96,8 +96,8 @@ module _ (w : Shared) (before now : List ℕ → ℕ) (pool later : List MemberS
     rests = rests;
     counted = λ going.
         let counted = counted-on w before now h.old_member h.new_member pooled h.turn (ap ending_of_member (sym h.at) ∙ going) in
-        subst (λ o. IsCounted (turns_of_member o) (turns_at later number) (asked_by later number) (ending_at later number)) (sym h.at)
-        (subst (λ o. IsCounted h.old_member.drawing.turns (turns_of_member o) (asked_of_member o) (ending_of_member o)) (sym later-here) counted);
+        subst (λ o. CountsAsked (turns_of_member o) (turns_at later number) (asked_by later number) (ending_at later number)) (sym h.at)
+        (subst (λ o. CountsAsked h.old_member.drawing.turns (turns_of_member o) (asked_of_member o) (ending_of_member o)) (sym later-here) counted);
   }
 
   module _ (limits : Limits) (law : TurnsContinue) (sound : IsSound w.spec) where

@@ -22,7 +22,7 @@ use Rattle.session_pool.specs.Interleaving.{Shared, shared_setting, IsPoolAfter}
 use Rattle.session_pool.specs.Pool.{IsNewPool, tapes_of}
 use Rattle.sample_command.specs.UnderWay.{has_failed}
 use Rattle.pool_command.specs.PoolCommand.{greatest_below, pool_of}
-use Rattle.pool_command.specs.UnderWay.{AreMoments, IsMemberUnderWay, Beginning, IsSoFar, beginning, moment, tape_over}
+use Rattle.pool_command.specs.UnderWay.{AreMoments, IsMemberUnderWay, Beginning, IsSoFar, pool_beginning, moment, tape_over}
 use Rattle.pool_command.proofs.Ended.{shared_of}
 
 -- a drawing that starts hasn't ended
@@ -90,10 +90,10 @@ members-unused (m ∷ pool) (n ∷ names) same zero d lt = let here : m.tape ≡
 members-unused (m ∷ pool) (n ∷ names) same (suc k) d lt = members-unused pool names (let rest : tapes_of pool ≡ map tape_over names = cc in rest) k d (omega (arith, lt))
 
 -- a pool by a memo of which no level is raised
-pub memo-starts : TracesStart → (t : Rounded) (base : List ℕ) (limits : Limits) (contents : List ℕ → Option (List ℕ)) (names : List (List ℕ)) (counts : List ℕ → ℕ) (ticks now : ℕ) (m : Memory) (tapes : List TapeState) (pool : List MemberState) → m ≡ record { spec = t.spec; num = t.num; den = t.den; start = zeros t; base = base; raised = 0 } → tapes ≡ map tape_over names → IsNewPool limits tapes pool → ((w : Shared) (c : List ℕ → ℕ) → IsPoolAfter w limits (map (λ (tape : TapeState). tape.source) tapes) c c [] pool) → now ≤ ticks → IsSoFar (beginning (shared_of (pool_of t base limits) contents) limits (map TapeSource.Named names) counts ticks) [] (moment (shared_setting m.spec (ratio m.num m.den) t.bits (level_bounds_from (rounded.setting m.spec m.num m.den t.bits) m.start m.base) contents) counts costs m.raised now pool)
+pub memo-starts : TracesStart → (t : Rounded) (base : List ℕ) (limits : Limits) (contents : List ℕ → Option (List ℕ)) (names : List (List ℕ)) (counts : List ℕ → ℕ) (ticks now : ℕ) (m : Memory) (tapes : List TapeState) (pool : List MemberState) → m ≡ record { spec = t.spec; num = t.num; den = t.den; start = zeros t; base = base; raised = 0 } → tapes ≡ map tape_over names → IsNewPool limits tapes pool → ((w : Shared) (c : List ℕ → ℕ) → IsPoolAfter w limits (map (λ (tape : TapeState). tape.source) tapes) c c [] pool) → now ≤ ticks → IsSoFar (pool_beginning (shared_of (pool_of t base limits) contents) limits (map TapeSource.Named names) counts ticks) [] (moment (shared_setting m.spec (ratio m.num m.den) t.bits (level_bounds_from (rounded.setting m.spec m.num m.den t.bits) m.start m.base) contents) counts costs m.raised now pool)
 memo-starts law t base limits contents names counts ticks now m tapes pool made tapes_are new alone few =
-    subst (λ (k : Memory). IsSoFar (beginning (shared_of (pool_of t base limits) contents) limits (map TapeSource.Named names) counts ticks) [] (moment (shared_setting k.spec (ratio k.num k.den) t.bits (level_bounds_from (rounded.setting k.spec k.num k.den t.bits) k.start k.base) contents) counts costs k.raised now pool)) (sym made)
-    (starts-so-far law (beginning (shared_of (pool_of t base limits) contents) limits (map TapeSource.Named names) counts ticks) now pool new.each (members-unused pool names (new.same_tapes ∙ tapes_are))
+    subst (λ (k : Memory). IsSoFar (pool_beginning (shared_of (pool_of t base limits) contents) limits (map TapeSource.Named names) counts ticks) [] (moment (shared_setting k.spec (ratio k.num k.den) t.bits (level_bounds_from (rounded.setting k.spec k.num k.den t.bits) k.start k.base) contents) counts costs k.raised now pool)) (sym made)
+    (starts-so-far law (pool_beginning (shared_of (pool_of t base limits) contents) limits (map TapeSource.Named names) counts ticks) now pool new.each (members-unused pool names (new.same_tapes ∙ tapes_are))
     (subst (λ ss. IsPoolAfter (shared_of (pool_of t base limits) contents) limits ss counts counts [] pool) (ap (map (λ (tape : TapeState). tape.source)) tapes_are ∙ sources-of-tapes names) (alone (shared_of (pool_of t base limits) contents) counts)) few)
 
 -- there is one drawing for each tape

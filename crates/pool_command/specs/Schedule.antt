@@ -6,8 +6,8 @@ use Rattle.session_pool.specs.Interleaving.{how_often}
 use Rattle.size_window.specs.RunByBits.{Ending}
 
 -- The drawings that a schedule's bytes name, among n: each byte modulo n.
-abbrev pub named : (n : ℕ) → (bytes : List ℕ) → List ℕ
-named n bytes = map (λ byte. byte % n) bytes
+abbrev pub drawings_named : (n : ℕ) → (bytes : List ℕ) → List ℕ
+drawings_named n bytes = map (λ byte. byte % n) bytes
 
 -- How often a drawing is asked for a turn until it ends: once for each turn that it made, and once
 -- more where its ending costs no turn.
@@ -35,4 +35,4 @@ ends_in asks before (i ∷ more) = ends_now asks before i ++ ends_in asks (befor
 
 -- The order in which n drawings end by a schedule's bytes.
 abbrev pub order_of : (asks : ℕ → ℕ) → (n : ℕ) → (bytes : List ℕ) → List ℕ
-order_of asks n bytes = ends_in asks [] (all_asked asks (named n bytes) n)
+order_of asks n bytes = ends_in asks [] (all_asked asks (drawings_named n bytes) n)

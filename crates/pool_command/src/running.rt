@@ -5,7 +5,7 @@ ghost use Rattle.std.specs.Prelude.{replicate, IfOk, OnOk, OnErr, IsSome};
 ghost use Rattle.bz_model.specs.Fraction.{IsFractionBits};
 ghost use Rattle.session_pool.specs.Interleaving.{shared_setting, how_often};
 ghost use Rattle.session_pool.specs.Pool.{ending_at};
-ghost use Rattle.pool_command.specs.Schedule.{all_asked, named};
+ghost use Rattle.pool_command.specs.Schedule.{all_asked, drawings_named};
 ghost use Rattle.pool_command.specs.UnderWay.{asked_by, ended_now, moment, Beginning, IsSoFar};
 ghost use Rattle.pool_command.specs.UnderWay.{IsPoolRunning, IsBrokenPool, IsEnded, CanAsk};
 ghost use Rattle.pool_command.specs.UnderWay.{IsAsked};
@@ -91,7 +91,7 @@ fn follow<const F: u32, O: Oracle<F>, S: Shelf, L: Ledger>(
         (shared_setting (O.spec oracle.old) (O.x oracle.old) F (O.table oracle.old) (S.content shelf.old))
         (S.faults shelf.old) (O.cost oracle.old) (O.raised oracle.old) steps.old pool.old)
         order.old.items
-        → IsPoolRunning b (asked ++ named count schedule.now)
+        → IsPoolRunning b (asked ++ drawings_named count schedule.now)
         (moment (shared_setting (O.spec oracle.new) (O.x oracle.new) F (O.table oracle.new)
         (S.content shelf.new))
         (S.faults shelf.new) (O.cost oracle.new) (O.raised oracle.new) steps.new pool.new)

@@ -9,7 +9,7 @@ use Rattle.bit_tape.specs.Tape.{bits_of_source, CountsFault}
 use Rattle.bit_tape.proofs.Leaving.{fault-rose}
 use Rattle.size_window.specs.RunByBits.{Limits, Course, Entry, Ending, after}
 use Rattle.size_window.specs.Trace.{EndsAt}
-use Rattle.sample_command.specs.Drawn.{TapeMet, HasFailed, is_fault, sampling, IsCourse, IsDrawn, AreLinesOf, Lists, Drawn, closing_lines, ending_status}
+use Rattle.sample_command.specs.Drawn.{TapeMet, HasFailed, ended_by_fault, sampling, IsCourse, IsDrawn, AreLinesOf, Lists, Drawn, closing_text, ending_status}
 use Rattle.sample_command.specs.Drawn as drawn
 use Rattle.call_stages.specs.Outcomes.{IsOne}
 use Rattle.call_stages.specs.declared.status.Status.{Status}
@@ -37,7 +37,7 @@ module _ (s : Spec) (x : Fraction) (F : ℕ) (table : (level node : ℕ) → Bou
       let sample = sampling s F table limits bits in
       let have = told-bits (bits_of_source t.source t.contents) bits (λ tape. HasBits tape 0 h.given) are_known h.gave.are_told in
       let over = h.exact bits have (told-bits (bits_of_source t.source t.contents) bits (EndsAt c.state.ending c.state.attempt.used) are_known h.ends) in
-      over.same ∙ unfailing sample h.faults h.turns (λ k. none-fails (h.faults k) (λ before is. calm (fault-rose t.source t.before t.now (subst (λ o. CountsFault (is_fault o) t.source t.before t.now) (h.disturbed k before is) h.reads))))
+      over.same ∙ unfailing sample h.faults h.turns (λ k. none-fails (h.faults k) (λ before is. calm (fault-rose t.source t.before t.now (subst (λ o. CountsFault (ended_by_fault o) t.source t.before t.now) (h.disturbed k before is) h.reads))))
 
   -- a drawing that came to its end is the undisturbed one
   pub same-course : (c : Course) (most : ℕ) (d : Ending) → IsDrawn s x F table limits t c most d → (turns : ℕ) (e : Ending) → (quiet_course s F table limits bits turns).state.ending ≡ Some e → (c ≡ quiet_course s F table limits bits turns) × (d ≡ e)
@@ -96,7 +96,7 @@ module _ (cost : ℕ → ℕ) (header : List ℕ) (s : Spec) (x : Fraction) (F :
       let same = one-course s x F table limits t bits are_known calm c e given given_too d f h k in
       let entries = one-list s c.entries e.entries lines lines_too (ap (λ (z : Course). z.entries) same.0) l l_too in (
         says.status_is ∙ ap ending_status same.1 ∙ sym says_too.status_is,
-        says.text_is ∙ ap (λ z. header ++ (z ++ closing_lines table c d)) entries ∙ ap (λ (z : Course). header ++ (lines_too ++ closing_lines table z d)) same.0 ∙ ap (λ z. header ++ (lines_too ++ closing_lines table e z)) same.1 ∙ sym says_too.text_is,
+        says.text_is ∙ ap (λ z. header ++ (z ++ closing_text table c d)) entries ∙ ap (λ (z : Course). header ++ (lines_too ++ closing_text table z d)) same.0 ∙ ap (λ z. header ++ (lines_too ++ closing_text table e z)) same.1 ∙ sym says_too.text_is,
       )
 
 -- A drawing over a tape whose bits are known, and of which no read failed in the call, has one

@@ -13,7 +13,7 @@ ghost use Rattle.sample_command.specs.Drawn.{Drawn, ending_status};
 ghost use Rattle.call_stages.specs.Ends.{EndsBy, output};
 ghost use Rattle.call_stages.specs.Outcomes.{MaySay};
 ghost use Rattle.sample_command.specs.UnderWay.{met, has_failed, CanTurn, IsAtEnd, IsUnderWay};
-ghost use Rattle.sample_command.specs.UnderWay.{IsBroken, GoesOn, told_closing};
+ghost use Rattle.sample_command.specs.UnderWay.{IsBroken, DrawingGoesOn, told_closing};
 ghost use Rattle.call_stages.specs.declared.report.Stop.TheVariants as stop;
 
 use crate::entries::{append_entry, closing_of, status_of};
@@ -202,7 +202,7 @@ fn turn_once<const F: u32, O: Oracle<F>, S: Shelf, L: Ledger>(
         → IsBroken founded.now (O.x oracle.old) F (O.table oracle.old) drawing.old.limits
         (bits_of_source tape.old.source (S.content shelf.old)) drawing.new tape.new.used
         (O.raised oracle.new) header start now) }
-    ensures goes_on { IfOk result (GoesOn founded.now (O.x oracle.old) (O.table oracle.old)
+    ensures goes_on { IfOk result (DrawingGoesOn founded.now (O.x oracle.old) (O.table oracle.old)
         (S.content shelf.old) drawing.old.limits drawing.old drawing.new tape.new) }
     ensures oracle { LeavesOracle O.spec O.x O.table O.cost O.raised
         oracle.old oracle.new steps.old steps.new }

@@ -2,7 +2,7 @@ use Rattle.std.proofs.Common.{false, ap, subst, arith}
 use Rattle.bit_tape.specs.Tape.{LeavesTape, bits_of_source}
 use Rattle.bit_tape.proofs.Leaving.{leaves-none, leaves-more}
 use Rattle.choice_draw.proofs.Ticks.{oracle-none, oracle-more}
-use Rattle.sample_command.specs.UnderWay.{has_failed, CanTurn, IsAtEnd, IsUnderWay, IsBroken, GoesOn}
+use Rattle.sample_command.specs.UnderWay.{has_failed, CanTurn, IsAtEnd, IsUnderWay, IsBroken, DrawingGoesOn}
 use Rattle.sample_command.proofs.Turns.{moved-five, sent-on, cut-on}
 use Rattle.sample_command.proofs.drawing.draw_to_the_end.Goals as goal
 
@@ -44,7 +44,7 @@ returns-in-Some-clause-under_way g c = λ header start p.
 pub returns-in-Some-clause-ended : goal.returns-in-Some-clause-ended
 returns-in-Some-clause-ended g c =
     let inv = c.turns.invariant in
-    let end = subst (GoesOn c.args.founded.now (g.O.Oracle.x c.turns.oracle) (g.O.Oracle.table c.turns.oracle) (g.S.Shelf.content c.turns.shelf) c.turns.drawing.limits c.turns.drawing c.turn_once.new.drawing c.turn_once.new.tape) c.in-Some.is c.in-Ok.ensures.goes_on in
+    let end = subst (DrawingGoesOn c.args.founded.now (g.O.Oracle.x c.turns.oracle) (g.O.Oracle.table c.turns.oracle) (g.S.Shelf.content c.turns.shelf) c.turns.drawing.limits c.turns.drawing c.turn_once.new.drawing c.turn_once.new.tape) c.in-Some.is c.in-Ok.ensures.goes_on in
     subst (λ t. IsAtEnd t c.args.drawing.now.limits c.turn_once.new.drawing c.in-Some.ending) inv.oracle.table (subst (λ l. IsAtEnd (g.O.Oracle.table c.turns.oracle) l c.turn_once.new.drawing c.in-Some.ending) inv.can_turn.within end)
 
 pub returns-in-Some-clause-oracle : goal.returns-in-Some-clause-oracle
@@ -57,7 +57,7 @@ returns-in-Some-clause-tape g c = leaves-more g.S.Shelf.content g.S.Shelf.faults
 pub turns-preserved : goal.turns-preserved
 turns-preserved g c =
     let inv = c.turns.invariant in
-    let on = subst (GoesOn c.args.founded.now (g.O.Oracle.x c.turns.oracle) (g.O.Oracle.table c.turns.oracle) (g.S.Shelf.content c.turns.shelf) c.turns.drawing.limits c.turns.drawing c.turn_once.new.drawing c.turn_once.new.tape) c.in_default-turned.is c.in-Ok.ensures.goes_on in
+    let on = subst (DrawingGoesOn c.args.founded.now (g.O.Oracle.x c.turns.oracle) (g.O.Oracle.table c.turns.oracle) (g.S.Shelf.content c.turns.shelf) c.turns.drawing.limits c.turns.drawing c.turn_once.new.drawing c.turn_once.new.tape) c.in_default-turned.is c.in-Ok.ensures.goes_on in
     record {
       can_turn = moved-five (λ x t l s k. CanTurn c.args.founded.now x k l c.turn_once.new.drawing c.turn_once.new.tape) (g.O.Oracle.x c.args.oracle.now) (g.O.Oracle.x c.turns.oracle) (g.O.Oracle.table c.args.oracle.now) (g.O.Oracle.table c.turns.oracle) c.args.drawing.now.limits c.turns.drawing.limits c.args.tape.now.source c.turns.tape.source (g.S.Shelf.content c.args.shelf.now) (g.S.Shelf.content c.turns.shelf) inv.oracle.x inv.oracle.table inv.can_turn.within inv.tape.source inv.tape.content on.0;
       oracle = oracle-more g.O.Oracle.spec g.O.Oracle.x g.O.Oracle.table g.O.Oracle.cost g.O.Oracle.raised c.args.oracle.now c.turns.oracle c.turn_once.new.oracle c.args.steps.now c.turns.steps c.turn_once.new.steps c.requires.costs (c.turn_once.ensures.levels inv.six) inv.oracle c.turn_once.ensures.oracle;
