@@ -15,7 +15,8 @@ use Rattle.certificate.specs.declared.certificate.Certificate.{Certificate}
 use Rattle.certificate.specs.declared.closing.ClosingWord.{ClosingWord}
 use Rattle.certificate.specs.declared.closing.ClosingWord.TheVariants.{Done, TapeEnded, Undecided, TurnLimit, ReadFault}
 use Rattle.certificate.specs.Patterns.{filled_from, places, is_apart}
-use Rattle.certificate.specs.Fields.{IsDigest, AreCells, cell_field, spec_line}
+use Rattle.bz_model.specs.Cell.{AreCells}
+use Rattle.certificate.specs.Fields.{IsDigest, cell_field, spec_line}
 use Rattle.certificate.specs.Lines.{Line, line_text, text_of, mode_line, object_line, open_line, end_line, end_pattern}
 use Rattle.certificate.specs.Certificates.{IsCertificate, IsOpen, certificate_lines}
 use Rattle.certificate.specs.Ranges.{IsSmall, CertificateInRange, OpenInRange}
