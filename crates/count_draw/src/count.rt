@@ -16,7 +16,7 @@ ghost use Rattle.count_draw.specs.Answer.{OnCount, OnOver, told_count, is_count_
 
 use crate::cache::{KeptRows, KeptTables};
 use crate::choice::top_of;
-use crate::drawn::CountDrawn;
+use crate::drawn_count::CountDrawn;
 use crate::kind::{CountChoice, CountKind};
 use crate::partial_sums::CountSums;
 use bit_tape::tape::{BitAnswer, Tape};

@@ -16,8 +16,8 @@ use Rattle.choice_draw.specs.Decision.{Choice}
 use Rattle.choice_draw.specs.Draw.{Bit, bit_of, draw}
 use Rattle.choice_draw.specs.IdealOfCell.{IsIdealOfCell, IsOverOfCell}
 use Rattle.series_bounds.specs.Series.{Kind}
-use Rattle.count_draw.specs.declared.drawn.CountDrawn.{CountDrawn}
-use Rattle.count_draw.specs.declared.drawn.CountDrawn.TheVariants as counted
+use Rattle.count_draw.specs.declared.drawn_count.CountDrawn.{CountDrawn}
+use Rattle.count_draw.specs.declared.drawn_count.CountDrawn.TheVariants as counted
 use Rattle.count_draw.specs.Kinds.{counted_node}
 use Rattle.count_draw.specs.Decision.{count_decision}
 use Rattle.choice_draw.specs.Answer.{HasCell, UsesBits, IsDraw, fault_of}

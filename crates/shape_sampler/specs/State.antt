@@ -10,8 +10,8 @@ use Rattle.choice_draw.specs.declared.drawn.Drawn.{Drawn}
 use Rattle.choice_draw.specs.declared.drawn.Drawn.TheVariants as drawn
 use Rattle.series_bounds.specs.Series.{Kind}
 use Rattle.count_draw.specs.Kinds.{counted_node}
-use Rattle.count_draw.specs.declared.drawn.CountDrawn.{CountDrawn}
-use Rattle.count_draw.specs.declared.drawn.CountDrawn.TheVariants as counted
+use Rattle.count_draw.specs.declared.drawn_count.CountDrawn.{CountDrawn}
+use Rattle.count_draw.specs.declared.drawn_count.CountDrawn.TheVariants as counted
 use Rattle.object_store.specs.declared.token.Token.{Token}
 use Rattle.object_store.specs.declared.token.Token.TheVariants as token
 use Rattle.shape_sampler.specs.declared.stepped.Stepped.{Stepped}
