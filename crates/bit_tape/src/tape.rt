@@ -1,7 +1,8 @@
 //! A tape of bits.
 ghost use Rattle.std.specs.Prelude.{◌≡◌, ℕ, ◌+◌, ◌^◌, ◌<◌, ◌≤◌, [], List, length, Option, IfSome};
 ghost use Rattle.std.specs.Prelude.{IsTrue, ◌↔◌};
-ghost use Rattle.bit_tape.specs.Tape.{TapeSource, BelongsToShelf, LeavesTape, bits_of_source, GivesBit};
+ghost use Rattle.bit_tape.specs.Tape.{TapeSource, BelongsToShelf, LeavesTape, bits_of_source};
+ghost use Rattle.bit_tape.specs.Tape.{GivesBit};
 
 use crate::buffer::{BitBuffer, MOST_BYTES};
 use crate::source::{Refill, Source};

@@ -1,9 +1,13 @@
 //! The lines that the program writes.
 ghost use Rattle.std.specs.Prelude.{◌≡◌, ◌++◌, length, IfOk, OnOk, string_bytes};
-ghost use Rattle.call_stages.specs.Lines.{printed_object_line, printed_entry_lines, cells_line, printed_cell_field};
-ghost use Rattle.call_stages.specs.Lines.{printed_open_line, open_label_line, printed_end_line, spec_end_line};
-ghost use Rattle.call_stages.specs.Lines.{class_name, printed_header_lines, certified_header, printed_window_line};
-ghost use Rattle.call_stages.specs.Lines.{printed_base_line, printed_base_lines, class_base, lines_below};
+ghost use Rattle.call_stages.specs.Lines.{printed_object_line, printed_entry_lines, cells_line};
+ghost use Rattle.call_stages.specs.Lines.{printed_cell_field};
+ghost use Rattle.call_stages.specs.Lines.{printed_open_line, open_label_line, printed_end_line};
+ghost use Rattle.call_stages.specs.Lines.{spec_end_line};
+ghost use Rattle.call_stages.specs.Lines.{class_name, printed_header_lines, certified_header};
+ghost use Rattle.call_stages.specs.Lines.{printed_window_line};
+ghost use Rattle.call_stages.specs.Lines.{printed_base_line, printed_base_lines, class_base};
+ghost use Rattle.call_stages.specs.Lines.{lines_below};
 ghost use Rattle.call_stages.specs.Lines.{level_line, feed};
 ghost use Rattle.class_system.specs.CanonicalText.{mode_word};
 ghost use Rattle.class_system.specs.Views.{spec_mode};

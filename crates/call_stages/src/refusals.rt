@@ -8,7 +8,8 @@ ghost use Rattle.call_stages.specs.Lines.{feed};
 ghost use Rattle.call_stages.specs.Outcomes.{Says};
 ghost use Rattle.call_stages.specs.declared.status.Status.{Status};
 ghost use Rattle.call_stages.specs.Refusals.{value_name, words_line, read_line, limit_line};
-ghost use Rattle.call_stages.specs.Refusals.{spec_fault_line, cause_line, IsClassNamed, number_field};
+ghost use Rattle.call_stages.specs.Refusals.{spec_fault_line, cause_line, IsClassNamed};
+ghost use Rattle.call_stages.specs.Refusals.{number_field};
 ghost use Rattle.call_stages.specs.Refusals.{value_text, proposal_line, no_upper_line};
 ghost use Rattle.call_stages.specs.Refusals.{no_upper_text, no_fast_line};
 

@@ -5,8 +5,10 @@ ghost use Rattle.class_system.specs.Views.{spec_node, spec_range, spec_mode, num
 ghost use Rattle.class_system.specs.NodeOrder.{parts_of};
 ghost use Rattle.class_system.specs.Sound.{IsSound, RefersBelow};
 ghost use Rattle.class_system.specs.CanonicalText.{single, is_bracketed, part_text, joined_text};
-ghost use Rattle.class_system.specs.CanonicalText.{written_leaf, bound_text, counted_text, bracketed};
-ghost use Rattle.class_system.specs.CanonicalText.{node_shown, all_shown, mode_word, canonical_class_line};
+ghost use Rattle.class_system.specs.CanonicalText.{written_leaf, bound_text, counted_text};
+ghost use Rattle.class_system.specs.CanonicalText.{bracketed};
+ghost use Rattle.class_system.specs.CanonicalText.{node_shown, all_shown, mode_word};
+ghost use Rattle.class_system.specs.CanonicalText.{canonical_class_line};
 ghost use Rattle.class_system.specs.CanonicalText.{canonical_text};
 
 use crate::draft::{Draft, Mode};

@@ -6,7 +6,8 @@ use Rattle.choice_draw.specs.Draw.{Draw}
 use Rattle.count_draw.specs.declared.kind.CountChoice.{CountChoice}
 use Rattle.count_draw.specs.declared.kind.CountChoice.TheVariants as choice
 use Rattle.count_draw.specs.declared.drawn_count.CountDrawn.{CountDrawn}
-use Rattle.count_draw.specs.declared.drawn_count.CountDrawn.TheVariants.{Count, Over, Straddles, Ended}
+use Rattle.count_draw.specs.declared.drawn_count.CountDrawn.TheVariants.{Count, Over, Straddles}
+use Rattle.count_draw.specs.declared.drawn_count.CountDrawn.TheVariants.{Ended}
 use Rattle.count_draw.specs.declared.drawn_count.CountDrawn.TheVariants.{ReadFault}
 
 -- The answer that a choice gives with its cell.

@@ -4,7 +4,8 @@
 //! is known only then.
 ghost use Rattle.std.specs.Prelude.{◌≡◌, ◌≤◌, ◌++◌, ◌∷◌, [], OnOk, decimal, length, take, drop};
 ghost use Rattle.bz_model.specs.ObjectText.{lesser_label, least_of, spaced, rotated_to};
-ghost use Rattle.object_text.specs.Output.{blank, grown, form_opened, part_printed, form_closed, arranged, opening_byte};
+ghost use Rattle.object_text.specs.Output.{blank, grown, form_opened, part_printed, form_closed};
+ghost use Rattle.object_text.specs.Output.{arranged, opening_byte};
 ghost use Rattle.object_text.specs.Output.{closing_byte};
 
 use itoa::Buffer;

@@ -1,7 +1,8 @@
 //! What was read of a text so far.
 ghost use Rattle.std.specs.Prelude.{◌≡◌, [], OnOk, IfOk};
 ghost use Rattle.bz_model.specs.ObjectText.{lesser_label};
-ghost use Rattle.object_text.specs.Taken.{follows_mark, next_mark, nothing, with_token, with_label, opened};
+ghost use Rattle.object_text.specs.Taken.{follows_mark, next_mark, nothing, with_token, with_label};
+ghost use Rattle.object_text.specs.Taken.{opened};
 ghost use Rattle.object_text.specs.Taken.{parted, closed};
 
 use crate::output::lesser;

@@ -6,7 +6,8 @@ ghost use Rattle.bz_model.specs.Spec.{Mode};
 ghost use Rattle.bz_model.specs.ObjectText.{leaf_text};
 ghost use Rattle.object_store.specs.Walk.{HasToken};
 ghost use Rattle.object_text.specs.Output.{grown, form_opened, labelled_leaf};
-ghost use Rattle.object_text.specs.Printing.{Prints, ArePrinted, AreWholly, IsNextNode, IsDoneOrAtNode};
+ghost use Rattle.object_text.specs.Printing.{Prints, ArePrinted, AreWholly, IsNextNode};
+ghost use Rattle.object_text.specs.Printing.{IsDoneOrAtNode};
 ghost use Rattle.object_text.specs.Printing.{ExpandsIf, IsFront, IsToPrint, TakesToken};
 
 use crate::output::{Form, Output};

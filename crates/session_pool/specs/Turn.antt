@@ -10,7 +10,8 @@ use Rattle.size_window.specs.declared.ending.Ending.TheVariants.{Done, TurnLimit
 use Rattle.size_window.specs.declared.turned.Entry.{Entry}
 use Rattle.size_window.specs.declared.turned.Turned.{Turned}
 use Rattle.size_window.specs.declared.turned.Turned.TheVariants as turned
-use Rattle.size_window.specs.Turn.{IsTurn, IsCountedTurn, is_turn_fault, IfKept, IsNextKept, EntryHasLabels}
+use Rattle.size_window.specs.Turn.{IsTurn, IsCountedTurn, is_turn_fault, IfKept, IsNextKept}
+use Rattle.size_window.specs.Turn.{EntryHasLabels}
 use Rattle.size_window.specs.Turn.{most_bits, TellsOpen}
 use Rattle.session_pool.specs.declared.pooled.Pooled.{Pooled}
 use Rattle.session_pool.specs.declared.pooled.Pooled.TheVariants.{Going, Finished}

@@ -14,8 +14,10 @@ ghost use Rattle.size_window.specs.RunByBits.{start};
 ghost use Rattle.size_window.specs.Drawing.{limits_of, state_of, shape_of, AreLimits};
 ghost use Rattle.size_window.specs.Drawing.{DrawingBelongs, counted, thrown_one, none_waiting};
 ghost use Rattle.size_window.specs.Drawing.{waiting_with, kept_one_more, ended_by, begun_one};
-ghost use Rattle.size_window.specs.Turn.{IsTurn, is_turn_fault, turns_by, IsCountedTurn, IfKept, IsNextKept};
-ghost use Rattle.size_window.specs.Turn.{EntryHasLabels, node_bits, most_bits, TellsOpen, outcome_of};
+ghost use Rattle.size_window.specs.Turn.{IsTurn, is_turn_fault, turns_by, IsCountedTurn, IfKept};
+ghost use Rattle.size_window.specs.Turn.{IsNextKept};
+ghost use Rattle.size_window.specs.Turn.{EntryHasLabels, node_bits, most_bits, TellsOpen};
+ghost use Rattle.size_window.specs.Turn.{outcome_of};
 ghost use Rattle.size_window.specs.Turn.{IsIdleTurn, IfStraddles, Settles, KeepsOrWaits, MaySettle};
 ghost use Rattle.size_window.specs.LabelTurn.{IsLabelTurn, SettlesLabels};
 

@@ -5,7 +5,8 @@ use Rattle.spec_reader.specs.declared.tokens.Counting.{Counting}
 use Rattle.spec_reader.specs.declared.tokens.Sign.{Sign}
 use Rattle.spec_reader.specs.declared.tokens.Token.{Token}
 use Rattle.spec_reader.specs.Tokens.{is_same}
-use Rattle.spec_reader.specs.Grammar.{Term, Definition, sum_of, product_term, without_bound, from_on, range_up_to}
+use Rattle.spec_reader.specs.Grammar.{Term, Definition, sum_of, product_term, without_bound}
+use Rattle.spec_reader.specs.Grammar.{from_on, range_up_to}
 use Rattle.spec_reader.specs.Grammar.{just, counted}
 
 -- What was read of a sum: its products before, and the factors of the product that is read.

@@ -6,7 +6,8 @@ ghost use Rattle.spec_reader.specs.Machine.{LinesBefore, Place, ReaderState, Lin
 ghost use Rattle.spec_reader.specs.Machine.{Counts};
 ghost use Rattle.spec_reader.specs.Machine.{Signed, Bounded, Have, range_by, step};
 ghost use Rattle.spec_reader.specs.Tables.{class_number};
-ghost use Rattle.spec_reader.specs.Building.{kept_in_sums, Stands, RestsOn, Represents, LeadsOrFails, MachineStopsAt};
+ghost use Rattle.spec_reader.specs.Building.{kept_in_sums, Stands, RestsOn, Represents};
+ghost use Rattle.spec_reader.specs.Building.{LeadsOrFails, MachineStopsAt};
 
 use crate::sums::{Expects, Sums, Wrap};
 use crate::tokens::{Counting, Placed, Sign, Token};

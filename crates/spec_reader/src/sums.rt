@@ -4,10 +4,13 @@ ghost use Rattle.bz_model.specs.Spec.{Node, plain_range};
 ghost use Rattle.class_system.specs.Views.{number, spec_node, spec_range};
 ghost use Rattle.class_system.specs.Drafting.{with_node, with_body};
 ghost use Rattle.spec_reader.specs.Grammar.{Term};
-ghost use Rattle.spec_reader.specs.Machine.{Place, parenthesis_opened, with_one_more, with_frame, next_product};
+ghost use Rattle.spec_reader.specs.Machine.{Place, parenthesis_opened, with_one_more, with_frame};
+ghost use Rattle.spec_reader.specs.Machine.{next_product};
 ghost use Rattle.spec_reader.specs.Machine.{parenthesis_closed, line_over};
-ghost use Rattle.spec_reader.specs.Building.{joined_in_node, joined_number, wrapped_draft, wrapped_number};
-ghost use Rattle.spec_reader.specs.Building.{wrap_kept, kept_in_sums, Stands, IsLeaf, EndsSum, LeadsOrFails};
+ghost use Rattle.spec_reader.specs.Building.{joined_in_node, joined_number, wrapped_draft};
+ghost use Rattle.spec_reader.specs.Building.{wrapped_number};
+ghost use Rattle.spec_reader.specs.Building.{wrap_kept, kept_in_sums, Stands, IsLeaf, EndsSum};
+ghost use Rattle.spec_reader.specs.Building.{LeadsOrFails};
 
 use crate::tokens::{Counting, Sign};
 use class_system::draft::Draft;
