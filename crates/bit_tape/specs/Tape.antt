@@ -17,7 +17,8 @@ pub record TapeState : Type 0 where
   pub ahead : List ℕ
 
 -- The bits of a source over a shelf with these contents, where they are told.
-abbrev pub bits_of_source : TapeSource → (contents : List ℕ → Option (List ℕ)) → Option (ℕ → Option Bool)
+abbrev pub bits_of_source : TapeSource → (contents : List ℕ → Option (List ℕ))
+    → Option (ℕ → Option Bool)
 bits_of_source (TapeSource.Named name) contents = option_map file_bit (contents name)
 bits_of_source (TapeSource.Seeded seed) contents = Some (seed_bit seed)
 
@@ -67,4 +68,5 @@ pub record GivesBit (old : TapeState) (bit : Bool) (new : TapeState) : Type 0 wh
   pub used : new.used ≡ old.used + 1
   pub next : (contents : List ℕ → Option (List ℕ)) → BelongsToShelf contents old
       → IfSome (bits_of_source old.source contents) (λ bits. bits old.used ≡ Some bit)
-  pub belongs : (contents : List ℕ → Option (List ℕ)) → BelongsToShelf contents old → BelongsToShelf contents new
+  pub belongs : (contents : List ℕ → Option (List ℕ)) → BelongsToShelf contents old
+      → BelongsToShelf contents new

@@ -101,7 +101,8 @@ class_base s base c = printed_base_line (class_name s c) (slice_index base c)
 
 -- The line of a window of sizes.
 abbrev pub printed_window_line : (min max : ℕ) → List ℕ
-printed_window_line min max = codes "window " ++ (decimal min ++ (codes " " ++ (decimal max ++ feed)))
+printed_window_line min max = codes "window "
+    ++ (decimal min ++ (codes " " ++ (decimal max ++ feed)))
 
 -- The line of a class's lower and upper entry at a level.
 abbrev pub level_line : (level : ℕ) → (name : List ℕ) → (lo hi : ℕ) → List ℕ

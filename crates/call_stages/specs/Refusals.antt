@@ -56,9 +56,12 @@ limit_line kind fault = codes "refused " ++ (kind ++ limit_words fault)
 -- Why a text is no specification; nothing is told of want of memory.
 abbrev pub spec_fault_line : SpecFault → List ℕ
 spec_fault_line (SpecFault.TooLong len) = codes "refused spec too long " ++ (decimal len ++ feed)
-spec_fault_line (SpecFault.NotText place) = codes "refused spec not text at " ++ (decimal place ++ feed)
-spec_fault_line (SpecFault.Syntax line column) = codes "refused spec syntax" ++ line_and_column line column
-spec_fault_line (SpecFault.Undefined line column) = codes "refused spec undefined" ++ line_and_column line column
+spec_fault_line (SpecFault.NotText place) = codes "refused spec not text at "
+    ++ (decimal place ++ feed)
+spec_fault_line (SpecFault.Syntax line column) = codes "refused spec syntax"
+    ++ line_and_column line column
+spec_fault_line (SpecFault.Undefined line column) = codes "refused spec undefined"
+    ++ line_and_column line column
 spec_fault_line (SpecFault.Twice line) = codes "refused spec twice line " ++ (decimal line ++ feed)
 spec_fault_line (SpecFault.NeedsLabels line column) = codes "refused spec needs labels"
     ++ line_and_column line column

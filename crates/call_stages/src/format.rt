@@ -87,7 +87,8 @@ pub fn end(
     bits: u64,
     turns: u64,
 ) -> Result<String, AllocError>
-    ensures { IfOk result (λ text. string_bytes text ≡ printed_end_line word.now kept thrown bits turns) }
+    ensures { IfOk result (λ text.
+        string_bytes text ≡ printed_end_line word.now kept thrown bits turns) }
 {
     format!(in alloc; "end {word} kept {kept} thrown {thrown} bits {bits} turns {turns}\n")
 }
@@ -156,7 +157,8 @@ pub fn append_base(
     text: &mut Vec<u8>,
 ) -> Result<(), AllocError>
     requires one_per_class { length base.now ≡ length system.now.bodies }
-    ensures { OnOk result (text.new.items ≡ text.old.items ++ printed_base_lines system.now base.now) }
+    ensures { OnOk result
+        (text.new.items ≡ text.old.items ++ printed_base_lines system.now base.now) }
 {
     system.known();
     for class in 0..base.len() {
@@ -173,7 +175,8 @@ pub fn base_of_class(
     class: u32,
     value: u64,
 ) -> Result<Vec<u8>, AllocError>
-    ensures { IfOk result (λ line. line.items ≡ printed_base_line (class_name system.now class) value) }
+    ensures { IfOk result (λ line.
+        line.items ≡ printed_base_line (class_name system.now class) value) }
 {
     let tail = format!(in alloc; " {value}\n")?;
     let mut line = Vec::new(alloc);

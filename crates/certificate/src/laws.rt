@@ -26,7 +26,8 @@ pub fn written_is_read()
 
 /// One text has one certificate: certificates with one text have the same lines.
 pub fn one_text_one_certificate()
-    ensures { (a b : Certificate) → IsCertificate a → CertificateInRange a → IsCertificate b → CertificateInRange b
+    ensures { (a b : Certificate) → IsCertificate a → CertificateInRange a → IsCertificate b
+        → CertificateInRange b
         → text_of (certificate_lines a) ≡ text_of (certificate_lines b)
         → certificate_lines a ≡ certificate_lines b }
 {}

@@ -19,7 +19,8 @@ bad_line line = codes "refused certificate line " ++ (decimal line ++ feed)
 -- certificate. The specification isn't looked at.
 pub data CertificateJudged (next : Certificate
     → Outcome) (bytes : List ℕ) (status : Status) (text : List ℕ) (ticks : ℕ) : Type 0 where
-  too_long : 268435456 < length bytes → Says Status.CertRefused long_certificate_line 0 status text ticks
+  too_long : 268435456 < length bytes
+      → Says Status.CertRefused long_certificate_line 0 status text ticks
       → CertificateJudged next bytes status text ticks
   refused : (line : ℕ) → length bytes ≤ 268435456 → IsFirstBad bytes line
       → Says Status.CertRefused (bad_line line) 0 status text ticks

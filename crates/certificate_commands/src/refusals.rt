@@ -12,7 +12,8 @@ use std::alloc::{AllocError, Global};
 
 /// A certificate's file has too many bytes.
 pub(crate) fn too_long_refusal(alloc: Global) -> Result<Report, AllocError>
-    ensures { IfOk result (λ r. Says Status.CertRefused long_certificate_line 0 r.status r.text.items 0) }
+    ensures { IfOk result (λ r.
+        Says Status.CertRefused long_certificate_line 0 r.status r.text.items 0) }
 {
     let text = Vec::from_slice(alloc, b"refused certificate too long\n")?;
     Ok(Report {

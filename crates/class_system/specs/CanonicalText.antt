@@ -61,8 +61,8 @@ counted_text operator plain range part = operator ++ bound_text plain range.low 
     ++ bracketed part.text
 
 -- A union or a product: the texts of its parts with a separator between each two of them.
-abbrev pub joined_text : (kind : Form) → (separator : List ℕ) → (before : List Shown) → (parts : List ℕ)
-    → Shown
+abbrev pub joined_text : (kind : Form) → (separator : List ℕ) → (before : List Shown)
+    → (parts : List ℕ) → Shown
 joined_text kind separator before parts =
     record {
       form = kind;
@@ -75,8 +75,10 @@ abbrev pub node_shown : (names : List (List ℕ)) → (before : List Shown) → 
 node_shown names before (Node.Empty word) range = single (written_leaf (codes "E") word)
 node_shown names before (Node.Atom word) range = single (written_leaf (codes "Z") word)
 node_shown names before (Node.Class c) range = single (unwrap_or (slice_get names c) [])
-node_shown names before (Node.Union parts) range = joined_text form.Summed (codes " + ") before parts
-node_shown names before (Node.Product parts) range = joined_text form.Multiplied (codes "*") before parts
+node_shown names before (Node.Union parts) range = joined_text form.Summed
+    (codes " + ") before parts
+node_shown names before (Node.Product parts) range = joined_text form.Multiplied
+    (codes "*") before parts
 node_shown names before (Node.Seq part) range =
     single (counted_text (codes "Seq") 0 range (shown_at before part))
 node_shown names before (Node.Set part) range =

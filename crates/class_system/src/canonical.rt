@@ -70,7 +70,8 @@ fn mode_line(alloc: Global, mode: Mode) -> Result<Vec<u8>, AllocError>
 
 /// Appends the line of a class.
 fn push_class(text: &mut Vec<u8>, name: &[u8], body: &NodeText) -> Result<(), AllocError>
-    ensures line { OnOk result (text.new.items ≡ text.old.items ++ canonical_class_line name.now body.now) }
+    ensures line { OnOk result
+        (text.new.items ≡ text.old.items ++ canonical_class_line name.now body.now) }
 {
     text.extend_from_slice(name)?;
     text.extend_from_slice(b" = ")?;

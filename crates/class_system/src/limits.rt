@@ -102,7 +102,8 @@ fn greatest_depth(alloc: Global, draft: &Draft) -> Result<u64, AllocError>
 fn depth_above(depths: &[u64], parts: &[ExprId]) -> u64
     requires in_range { Each (λ part. part < length depths.now) (map number parts.now) }
     requires small { greatest_of depths.now < 2 ^ 64 - 1 }
-    ensures exact { result ≡ suc (greatest_of (map (slice_index depths.now) (map number parts.now))) }
+    ensures exact { result
+        ≡ suc (greatest_of (map (slice_index depths.now) (map number parts.now))) }
 {
     let mut most: u64 = 0;
     for part in parts {

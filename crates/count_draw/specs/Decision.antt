@@ -50,7 +50,8 @@ choice_ranged f range node e room (Some (Node.Cyc part)) cell =
 choice_ranged f range node e room _ cell = None
 
 -- What a cell decides at a node whose range may be missing.
-abbrev pub choice_if_ranged : (f : ℕ) → (node : ℕ → Bounds) → (e room : ℕ) → Option Node → Option Range
+abbrev pub choice_if_ranged : (f : ℕ) → (node : ℕ → Bounds) → (e room : ℕ) → Option Node
+    → Option Range
     → Cell → Option Choice
 choice_if_ranged f node e room n None cell = None
 choice_if_ranged f node e room n (Some range) cell = choice_ranged f range node e room n cell

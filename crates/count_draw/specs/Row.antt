@@ -8,7 +8,8 @@ use Rattle.count_draw.specs.declared.prefix_sums.UpperRow.{UpperRow}
 use Rattle.count_draw.specs.Table.{Filling, side_value_at, reaches_at, IsRun}
 
 -- The first values of a side are kept, up to the place of a run of its terms.
-pub record AreValuesKept (side : Side) (f : ℕ) (t : Filling) (values : List ℕ) (run : Run) : Type 0 where
+pub record AreValuesKept (side : Side) (f : ℕ) (t : Filling) (values : List ℕ)
+    (run : Run) : Type 0 where
   pub many : length values ≡ 256
   pub inside : run.place < 256
   pub stands : IsRun side f t run.place run.power run.sum

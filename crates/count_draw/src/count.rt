@@ -66,7 +66,8 @@ pub fn draw_count<const F: u32, O: Oracle<F>, S: Shelf, L: Ledger>(
         ≡ max (O.raised oracle.old) (level_for (tape.new.used - tape.old.used)) }
     ensures oracle { LeavesOracle O.spec O.x O.table O.cost O.raised
         oracle.old oracle.new steps.old steps.new }
-    ensures tape { LeavesTape S.content S.faults (is_count_fault result) shelf.old shelf.new tape.old
+    ensures tape { LeavesTape S.content S.faults
+        (is_count_fault result) shelf.old shelf.new tape.old
         tape.new }
 {
     draw_by_rows(
@@ -112,7 +113,8 @@ pub fn draw_count_kept<const F: u32, O: Oracle<F>, S: Shelf, L: Ledger>(
         ≡ max (O.raised oracle.old) (level_for (tape.new.used - tape.old.used)) }
     ensures oracle { LeavesOracle O.spec O.x O.table O.cost O.raised
         oracle.old oracle.new steps.old steps.new }
-    ensures tape { LeavesTape S.content S.faults (is_count_fault result) shelf.old shelf.new tape.old
+    ensures tape { LeavesTape S.content S.faults
+        (is_count_fault result) shelf.old shelf.new tape.old
         tape.new }
 {
     match kept.place_of(node) {
@@ -161,7 +163,8 @@ fn draw_by_rows<const F: u32, O: Oracle<F>, S: Shelf, L: Ledger>(
         ≡ max (O.raised oracle.old) (level_for (tape.new.used - tape.old.used)) }
     ensures oracle { LeavesOracle O.spec O.x O.table O.cost O.raised
         oracle.old oracle.new steps.old steps.new }
-    ensures tape { LeavesTape S.content S.faults (is_count_fault result) shelf.old shelf.new tape.old
+    ensures tape { LeavesTape S.content S.faults
+        (is_count_fault result) shelf.old shelf.new tape.old
         tape.new }
 {
     oracle.known();

@@ -24,7 +24,8 @@ const MOST: u128 = 1 << 63;
 pub(crate) fn carry_down<const F: u32>(kind: CountKind, a: u64, place: u64, c: u64) -> Option<u64>
     requires fraction_bits { IsFractionBits F }
     requires places { place ≤ 1000000 }
-    ensures exact { IfSome result (λ d. d ≡ carried_on Side.Down (series_of_kind kind) F a place c) }
+    ensures exact { IfSome result (λ d.
+        d ≡ carried_on Side.Down (series_of_kind kind) F a place c) }
     ensures small { IfSome result (λ d. d ≤ 2 ^ 63) }
 {
     let scaled = small((u128::from(c) * u128::from(a)) >> F)?;

@@ -114,7 +114,8 @@ fn label_again(
 ) -> Result<Option<Redrawn>, AllocError>
     requires within_limit { size_of shape.items ≤ 1000000 }
     requires belongs { BelongsToShelf (λ name. Some shelf.old) tape.old }
-    requires told { bits_of_source tape.old.source (λ name. Some shelf.old) ≡ Some (file_bit shelf.old) }
+    requires told { bits_of_source tape.old.source (λ name. Some shelf.old)
+        ≡ Some (file_bit shelf.old) }
 
     ensures some { IfOk result (λ answer. IfSome answer (λ made.
         (made.shape.items ≡ shape.items) × IsLabelledBy (spec_mode mode) (file_bit shelf.old)
@@ -154,7 +155,8 @@ fn attempt<const F: u32, O: Oracle<F>, L: Ledger>(
     requires spec { O.spec oracle.old ≡ founded.now }
     requires session { SessionBelongs founded.now (O.x oracle.old) session.old }
     requires belongs { BelongsToShelf (λ name. Some shelf.old) tape.old }
-    requires told { bits_of_source tape.old.source (λ name. Some shelf.old) ≡ Some (file_bit shelf.old) }
+    requires told { bits_of_source tape.old.source (λ name. Some shelf.old)
+        ≡ Some (file_bit shelf.old) }
 
     ensures made { IfOk result (λ done. done ≡ true → IsMadeByTable founded.now F
         (O.table oracle.old) session.old.whole (file_bit shelf.old) tape.old.used
@@ -200,7 +202,8 @@ fn labels_of(
 ) -> Result<Option<Given>, AllocError>
     requires within_limit { n ≤ 1000000 }
     requires belongs { BelongsToShelf (λ name. Some shelf.old) tape.old }
-    requires told { bits_of_source tape.old.source (λ name. Some shelf.old) ≡ Some (file_bit shelf.old) }
+    requires told { bits_of_source tape.old.source (λ name. Some shelf.old)
+        ≡ Some (file_bit shelf.old) }
 
     ensures some { IfOk result (λ answer. IfSome answer (λ given.
         GetLabels (spec_mode mode) (file_bit shelf.old) n tape.old.used given.labels

@@ -15,7 +15,8 @@ binary_trees = record {
   nodes =
       Node.Empty [] ∷ Node.Atom [] ∷ Node.Class 0 ∷ Node.Class 0 ∷ Node.Product (1 ∷ 2 ∷ 3 ∷ [])
       ∷ Node.Union (0 ∷ 4 ∷ []) ∷ [];
-  ranges = unbounded_range ∷ unbounded_range ∷ unbounded_range ∷ unbounded_range ∷ unbounded_range ∷ unbounded_range ∷ [];
+  ranges = unbounded_range ∷ unbounded_range ∷ unbounded_range ∷ unbounded_range ∷ unbounded_range
+      ∷ unbounded_range ∷ [];
 }
 
 -- C = Z

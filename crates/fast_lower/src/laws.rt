@@ -32,7 +32,8 @@ pub fn worked_contractions()
     ensures greater_pre_fixed { is_pre_fixed (setting binary_trees 3 16 48) (1125899906842624 ∷ [])
         ≡ true }
     ensures greater_slope { body_slopes (setting binary_trees 3 16 48)
-        (values_up (setting binary_trees 3 16 48) (1125899906842624 ∷ [])) (256 ∷ []) ≡ Some 384 ∷ [] }
+        (values_up (setting binary_trees 3 16 48) (1125899906842624 ∷ [])) (256 ∷ []) ≡ Some 384
+        ∷ [] }
     ensures greater_refused { is_contracting (setting binary_trees 3 16 48) (1125899906842624 ∷ [])
         (256 ∷ []) ≡ false }
     ensures atom { fast_vector (setting atom 1 2 48) (140737488355584 ∷ [])

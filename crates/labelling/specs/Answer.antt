@@ -42,7 +42,8 @@ LabellingEndsThere _ used bits = Unit {0}
 -- none.
 abbrev pub LabellingUsesBits : Labelled → (finished : List Cell) → (before after : ℕ) → Type 0
 LabellingUsesBits (Labels labels cells) finished before after = after ≡ before + bits_in cells.items
-LabellingUsesBits (Straddles m cell) finished before after = after ≡ before + bits_in finished + cell.b
+LabellingUsesBits (Straddles m cell) finished before after = after
+    ≡ before + bits_in finished + cell.b
 LabellingUsesBits Ended finished before after =
     (before + bits_in finished ≤ after) × (after < before + bits_in finished + 60)
 LabellingUsesBits ReadFault finished before after =
@@ -61,9 +62,11 @@ pub record IsLabelling (told : Option (ℕ → Option Bool)) (n start : ℕ) (an
   pub ended : IfSome told (LabellingEndsThere answer used)
   pub finished : List Cell
   pub uses : LabellingUsesBits answer finished start used
-  pub exact : (bits : ℕ → Option Bool) → HasBits bits start given → LabellingEndsThere answer used bits
+  pub exact : (bits : ℕ → Option Bool) → HasBits bits start given
+      → LabellingEndsThere answer used bits
       → answer ≢ OutOfMemory
-      → told_labelling answer finished used ≡ labelling (bit_of bits (label_fault_place answer used)) n
+      → told_labelling answer finished used
+      ≡ labelling (bit_of bits (label_fault_place answer used)) n
       start
 
 -- What is said of the labels and their cells holds, where the answer has them.

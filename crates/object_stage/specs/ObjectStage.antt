@@ -22,7 +22,8 @@ too_long_line = codes "refused object too long" ++ feed
 
 -- Why a text is no object; nothing is told of want of memory.
 abbrev pub object_fault_line : TextFault → List ℕ
-object_fault_line (TextFault.NotObject place) = codes "refused object at " ++ (decimal place ++ feed)
+object_fault_line (TextFault.NotObject place) = codes "refused object at "
+    ++ (decimal place ++ feed)
 object_fault_line TextFault.NotCanonical = codes "refused object not canonical" ++ feed
 object_fault_line TextFault.OutOfMemory = []
 

@@ -88,7 +88,8 @@ pub record IsDone (todo : Todo) (rest : List Todo) (before : Printed) (todos : L
   pub passes : PassesFreely (todo ∷ rest) before todos printed
 
 -- One thing is done, or a node is to be printed now.
-abbrev pub IsDoneOrAtNode : Todo → List Todo → Printed → List Todo → Printed → Option ExprId → Type 0
+abbrev pub IsDoneOrAtNode : Todo → List Todo → Printed → List Todo → Printed → Option ExprId
+    → Type 0
 IsDoneOrAtNode todo rest before todos printed None = IsDone todo rest before todos printed
 IsDoneOrAtNode todo rest before todos printed (Some e) =
     PassesFreely (todo ∷ rest) before (Node e ∷ todos) printed

@@ -41,7 +41,8 @@ abbrev mutual
   pub parts_in_order : Kind → Option ℕ → Objects → List ℕ → Bool
   parts_in_order kind mark none labels = true
   parts_in_order kind mark (more o os) labels =
-      in_order o (take (size o) labels) && (follows_mark kind mark (least_label (take (size o) labels)) &&
+      in_order o (take (size o) labels) && (follows_mark kind mark
+      (least_label (take (size o) labels)) &&
       parts_in_order kind (next_mark kind mark (least_label (take (size o) labels))) os
       (drop (size o) labels))
 

@@ -195,7 +195,8 @@ fn write_parts(
     mut parts: SmallVec<Part, SHORT>,
 ) -> Result<(), AllocError>
     ensures { OnOk result (text.new.items
-        ≡ text.old.items ++ (opening_byte form ∷ spaced (arranged form parts.items) ++ closing_byte form
+        ≡ text.old.items ++ (opening_byte form ∷ spaced (arranged form parts.items)
+        ++ closing_byte form
         ∷ [])) }
 {
     match form {

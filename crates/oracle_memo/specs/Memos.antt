@@ -31,7 +31,8 @@ bounds_at table i = slice_index_or table i widest_bounds
 -- The bounds of a node in the row of n before the one that begins at `start`; before the first row
 -- there are none.
 abbrev pub bounds_before : List Bounds → (n start node : ℕ) → Bounds
-bounds_before table n start e = if nat_eq start 0 then widest_bounds else bounds_at table (start - n + e)
+bounds_before table n start e =
+    if nat_eq start 0 then widest_bounds else bounds_at table (start - n + e)
 
 -- Bounds that are drawn in to a lower and an upper value.
 abbrev pub drawn_in : Bounds → (lo hi : ℕ) → Bounds

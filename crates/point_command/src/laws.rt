@@ -35,7 +35,8 @@ pub fn what_can_be_pointed_is_printed()
         → (status ≡ Status.Done) × (text ≡ form_text (pointed_spec s)) }
     ensures refused { (f : Files) (file : List ℕ) (s : Spec) (fault : PointFault) (status : Status)
         (text : List ℕ) (ticks : ℕ) → HasSpecification f file s → fault ≢ PointFault.OutOfMemory
-        → TellsPointFault s fault → status ≢ Status.OutOfMemory → CarriesPoint f file status text ticks
+        → TellsPointFault s fault → status ≢ Status.OutOfMemory
+        → CarriesPoint f file status text ticks
         → (status ≡ Status.PointRefused) × (text ≡ point_line fault) }
 {}
 

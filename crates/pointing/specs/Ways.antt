@@ -69,7 +69,8 @@ pub record Search : Type 0 where
 abbrev pub way_from : List Level → (before : ℕ) → Objects → List ℕ
 way_from levels n none = []
 way_from levels n (more o os) =
-    here_or (size o - n) (level_places levels ++ way o n) (way_from (finished levels) (n - size o) os)
+    here_or (size o - n) (level_places levels ++ way o n)
+    (way_from (finished levels) (n - size o) os)
 
 -- The search finds the same way from what waits now.
 pub record IsNearer (s : Spec) (before now : Search) (os : Objects) (fs : List ℕ)
@@ -90,4 +91,5 @@ IsFoundOrNearer s false before now os fs us = IsNearer s before now os fs us
 pub record HasPassed (s : Spec) (e : ℕ) (v : Visit) (before now : Search) (found : Bool)
     : Type 0 where
   pub on : (es : List ℕ) (os : Objects) (ts : List Token) (fs : List ℕ) (us : List Token)
-      → Shows s e es os ts v fs us → before.before < sizes os → IsFoundOrNearer s found before now os fs us
+      → Shows s e es os ts v fs us → before.before < sizes os
+      → IsFoundOrNearer s found before now os fs us

@@ -167,5 +167,6 @@ pub record IsFinished (pool : List MemberState) (number : ℕ)
 -- first, until each had ended.
 pub record IsEnded (b : Beginning) (schedule : List ℕ) (count : ℕ) (n : Moment)
     (order : List ℕ) : Type 0 where
-  pub under_way : IsPoolRunning b (all_asked (asked_by n.pool) (drawings_named count schedule) count) n order
+  pub under_way : IsPoolRunning b (all_asked (asked_by n.pool)
+      (drawings_named count schedule) count) n order
   pub ended : (number : ℕ) → number < count → IsSome (ending_at n.pool number)

@@ -42,7 +42,8 @@ pub(crate) fn take_turns<const F: u32, O: Oracle<F>, S: Shelf, L: Ledger>(
     requires can { CanAsk founded.now (O.spec oracle.old) (O.x oracle.old) (S.content shelf.old)
         count pool.old }
     ensures ended { IfOk result (λ order. (b : Beginning)
-        → IsSoFar b [] (moment (shared_setting (O.spec oracle.old) (O.x oracle.old) F (O.table oracle.old)
+        → IsSoFar b [] (moment (shared_setting (O.spec oracle.old) (O.x oracle.old) F
+        (O.table oracle.old)
         (S.content shelf.old))
         (S.faults shelf.old) (O.cost oracle.old) (O.raised oracle.old) steps.old pool.old)
         → IsEnded b schedule.now count
@@ -51,7 +52,8 @@ pub(crate) fn take_turns<const F: u32, O: Oracle<F>, S: Shelf, L: Ledger>(
         (S.faults shelf.new) (O.cost oracle.new) (O.raised oracle.new) steps.new pool.new)
         order.items) }
     ensures broken { OnErr result ((b : Beginning)
-        → IsSoFar b [] (moment (shared_setting (O.spec oracle.old) (O.x oracle.old) F (O.table oracle.old)
+        → IsSoFar b [] (moment (shared_setting (O.spec oracle.old) (O.x oracle.old) F
+        (O.table oracle.old)
         (S.content shelf.old))
         (S.faults shelf.old) (O.cost oracle.old) (O.raised oracle.old) steps.old pool.old)
         → IsBrokenPool b (moment (shared_setting (O.spec oracle.new) (O.x oracle.new) F
@@ -88,7 +90,8 @@ fn follow<const F: u32, O: Oracle<F>, S: Shelf, L: Ledger>(
         count pool.old }
     ensures under_way { OnOk result ((b : Beginning) (asked : List ℕ)
         → IsPoolRunning b asked (moment
-        (shared_setting (O.spec oracle.old) (O.x oracle.old) F (O.table oracle.old) (S.content shelf.old))
+        (shared_setting (O.spec oracle.old) (O.x oracle.old) F (O.table oracle.old)
+        (S.content shelf.old))
         (S.faults shelf.old) (O.cost oracle.old) (O.raised oracle.old) steps.old pool.old)
         order.old.items
         → IsPoolRunning b (asked ++ drawings_named count schedule.now)
@@ -98,7 +101,8 @@ fn follow<const F: u32, O: Oracle<F>, S: Shelf, L: Ledger>(
         order.new.items) }
     ensures broken { OnErr result ((b : Beginning) (asked : List ℕ)
         → IsPoolRunning b asked (moment
-        (shared_setting (O.spec oracle.old) (O.x oracle.old) F (O.table oracle.old) (S.content shelf.old))
+        (shared_setting (O.spec oracle.old) (O.x oracle.old) F (O.table oracle.old)
+        (S.content shelf.old))
         (S.faults shelf.old) (O.cost oracle.old) (O.raised oracle.old) steps.old pool.old)
         order.old.items
         → IsBrokenPool b (moment (shared_setting (O.spec oracle.new) (O.x oracle.new) F
@@ -132,7 +136,8 @@ fn finish_all<const F: u32, O: Oracle<F>, S: Shelf, L: Ledger>(
         count pool.old }
     ensures under_way { OnOk result ((b : Beginning) (asked : List ℕ)
         → IsPoolRunning b asked (moment
-        (shared_setting (O.spec oracle.old) (O.x oracle.old) F (O.table oracle.old) (S.content shelf.old))
+        (shared_setting (O.spec oracle.old) (O.x oracle.old) F (O.table oracle.old)
+        (S.content shelf.old))
         (S.faults shelf.old) (O.cost oracle.old) (O.raised oracle.old) steps.old pool.old)
         order.old.items
         → IsPoolRunning b (all_asked (asked_by pool.new) asked count)
@@ -144,7 +149,8 @@ fn finish_all<const F: u32, O: Oracle<F>, S: Shelf, L: Ledger>(
         → IsSome (ending_at pool.new number)) }
     ensures broken { OnErr result ((b : Beginning) (asked : List ℕ)
         → IsPoolRunning b asked (moment
-        (shared_setting (O.spec oracle.old) (O.x oracle.old) F (O.table oracle.old) (S.content shelf.old))
+        (shared_setting (O.spec oracle.old) (O.x oracle.old) F (O.table oracle.old)
+        (S.content shelf.old))
         (S.faults shelf.old) (O.cost oracle.old) (O.raised oracle.old) steps.old pool.old)
         order.old.items
         → IsBrokenPool b (moment (shared_setting (O.spec oracle.new) (O.x oracle.new) F
@@ -179,7 +185,8 @@ fn finish<const F: u32, O: Oracle<F>, S: Shelf, L: Ledger>(
         count pool.old }
     ensures under_way { OnOk result ((b : Beginning) (asked : List ℕ)
         → IsPoolRunning b asked (moment
-        (shared_setting (O.spec oracle.old) (O.x oracle.old) F (O.table oracle.old) (S.content shelf.old))
+        (shared_setting (O.spec oracle.old) (O.x oracle.old) F (O.table oracle.old)
+        (S.content shelf.old))
         (S.faults shelf.old) (O.cost oracle.old) (O.raised oracle.old) steps.old pool.old)
         order.old.items
         → IsPoolRunning b (asked ++ replicate
@@ -191,7 +198,8 @@ fn finish<const F: u32, O: Oracle<F>, S: Shelf, L: Ledger>(
     ensures finished { OnOk result (IsFinished pool.old number pool.new) }
     ensures broken { OnErr result ((b : Beginning) (asked : List ℕ)
         → IsPoolRunning b asked (moment
-        (shared_setting (O.spec oracle.old) (O.x oracle.old) F (O.table oracle.old) (S.content shelf.old))
+        (shared_setting (O.spec oracle.old) (O.x oracle.old) F (O.table oracle.old)
+        (S.content shelf.old))
         (S.faults shelf.old) (O.cost oracle.old) (O.raised oracle.old) steps.old pool.old)
         order.old.items
         → IsBrokenPool b (moment (shared_setting (O.spec oracle.new) (O.x oracle.new) F
@@ -226,7 +234,8 @@ fn ask<const F: u32, O: Oracle<F>, S: Shelf, L: Ledger>(
         count pool.old }
     ensures under_way { OnOk result ((b : Beginning) (asked : List ℕ)
         → IsPoolRunning b asked (moment
-        (shared_setting (O.spec oracle.old) (O.x oracle.old) F (O.table oracle.old) (S.content shelf.old))
+        (shared_setting (O.spec oracle.old) (O.x oracle.old) F (O.table oracle.old)
+        (S.content shelf.old))
         (S.faults shelf.old) (O.cost oracle.old) (O.raised oracle.old) steps.old pool.old)
         order.old.items
         → IsPoolRunning b (asked ++ number ∷ [])
@@ -237,7 +246,8 @@ fn ask<const F: u32, O: Oracle<F>, S: Shelf, L: Ledger>(
     ensures asked { OnOk result (IsAsked pool.old number pool.new) }
     ensures broken { OnErr result ((b : Beginning) (asked : List ℕ)
         → IsPoolRunning b asked (moment
-        (shared_setting (O.spec oracle.old) (O.x oracle.old) F (O.table oracle.old) (S.content shelf.old))
+        (shared_setting (O.spec oracle.old) (O.x oracle.old) F (O.table oracle.old)
+        (S.content shelf.old))
         (S.faults shelf.old) (O.cost oracle.old) (O.raised oracle.old) steps.old pool.old)
         order.old.items
         → IsBrokenPool b (moment (shared_setting (O.spec oracle.new) (O.x oracle.new) F

@@ -50,7 +50,8 @@ abbrev pub node_value_down : Setting → (classes : List ℕ) → (before : List
 node_value_down t classes before (Node.Empty word) range = 2 ^ t.bits
 node_value_down t classes before (Node.Atom word) range = atom_down t.bits t.num t.den
 node_value_down t classes before (Node.Class c) range = slice_index classes c
-node_value_down t classes before (Node.Union parts) range = total_down (map (slice_index before) parts)
+node_value_down t classes before (Node.Union parts) range = total_down
+    (map (slice_index before) parts)
 node_value_down t classes before (Node.Product parts) range =
     product_down t.bits (map (slice_index before) parts)
 node_value_down t classes before (Node.Seq part) range =

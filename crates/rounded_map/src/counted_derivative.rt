@@ -111,7 +111,8 @@ fn kept(kind: Counted, low: u64, j: u64, term: u64) -> u128
 fn next_term<const F: u32>(kind: Counted, part: u64, place: u64, term: u64) -> u128
     requires fraction_bits { IsFractionBits F }
     requires few { place ≤ 64 }
-    ensures exact { result ≡ carried_on Side.Up (slope_kind (series_of_counted kind)) F part place term }
+    ensures exact { result ≡ carried_on Side.Up
+        (slope_kind (series_of_counted kind)) F part place term }
 {
     let scaled = (u128::from(term) * u128::from(part) + (power_of_two(F) - 1)) >> F;
     match kind {

@@ -109,7 +109,8 @@ fn node_lo<const F: u32>(
     requires class { RefersBelow (length classes.now) (spec_node node.now) }
     requires range { HasTextRange (spec_node node.now) (spec_range range) }
     ensures value { (s : Spec) (num den : ℕ) → atom.entry.0 ≡ atom_down F num den
-        → result.0 ≡ node_value_down (setting s num den F) classes.now before.now (spec_node node.now)
+        → result.0 ≡ node_value_down (setting s num den F) classes.now before.now
+        (spec_node node.now)
         (spec_range range) }
 {
     match node {

@@ -69,7 +69,8 @@ pub record IsCourse (s : Spec) (x : Fraction) (F : ℕ) (table : (level node : �
   pub follows : Follows s x limits c
   pub given : List Bool
   pub gave : Gave (bits_of_source t.source t.contents) 0 c.state.attempt.used given
-  pub ends : IfSome (bits_of_source t.source t.contents) (EndsAt c.state.ending c.state.attempt.used)
+  pub ends : IfSome (bits_of_source t.source t.contents)
+      (EndsAt c.state.ending c.state.attempt.used)
   pub spells : Spells c given
   pub turns : ℕ
   pub faults : ℕ → Option ℕ

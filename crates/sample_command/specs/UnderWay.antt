@@ -114,8 +114,9 @@ pub record IsBroken (s : Spec) (x : Fraction) (F : ℕ) (table : (level node : �
 
 -- Where a drawing goes on it can make another turn, and has made one more; else it has come to its
 -- end.
-abbrev pub DrawingGoesOn : (s : Spec) (x : Fraction) (table : (level node : ℕ) → Bounds) (contents : List ℕ
-    → Option (List ℕ)) (limits : Limits) (before d : DrawingState) (tape : TapeState)
+abbrev pub DrawingGoesOn : (s : Spec) (x : Fraction) (table : (level node : ℕ) → Bounds)
+    (contents : List ℕ → Option (List ℕ)) (limits : Limits) (before d : DrawingState)
+    (tape : TapeState)
     → Option Ending → Type 0
 DrawingGoesOn s x table contents limits before d tape None = CanTurn s x contents limits d tape
     × (d.turns ≡ before.turns + 1)

@@ -31,7 +31,13 @@ pub record Shared : Type 0 where
 -- The setting of these.
 abbrev pub shared_setting : Spec → Fraction → (F : ℕ) → (table : (level node : ℕ) → Bounds)
     → (contents : List ℕ → Option (List ℕ)) → Shared
-shared_setting s x F table contents = record { spec = s; x = x; F = F; table = table; contents = contents }
+shared_setting s x F table contents = record {
+  spec = s;
+  x = x;
+  F = F;
+  table = table;
+  contents = contents;
+}
 
 -- How often a drawing's number stands in a list of turns.
 abbrev pub how_often : (number : ℕ) → (turns : List ℕ) → ℕ

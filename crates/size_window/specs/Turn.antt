@@ -135,7 +135,8 @@ ending_by before (Finished ending) = Some ending
 ending_by before _ = before
 
 -- What a turn counts. Its limits stay.
-pub record IsCountedTurn (before : DrawingState) (answer : Turned) (now : DrawingState) : Type 0 where
+pub record IsCountedTurn (before : DrawingState) (answer : Turned)
+    (now : DrawingState) : Type 0 where
   pub limits : now.limits ≡ before.limits
   pub kept : now.kept ≡ before.kept + kept_by answer
   pub atoms : now.atoms ≡ before.atoms + atoms_by answer

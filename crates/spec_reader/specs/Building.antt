@@ -96,7 +96,8 @@ product_numbers names rows f = numbers names rows (listed_terms f.products)
 
 -- The numbers of a frame's factors, behind other nodes.
 abbrev pub factor_numbers : List (List ℕ) → List Row → Frame → List ℕ
-factor_numbers names rows f = numbers names (with_list names rows f.products) (listed_terms f.factors)
+factor_numbers names rows f = numbers names (with_list names rows f.products)
+    (listed_terms f.factors)
 
 -- What is kept of the sums around.
 abbrev pub stack_of : List (List ℕ) → LinesBefore → List Outer → List KeptOuter
@@ -171,7 +172,8 @@ wrapped_number s (over c r) sum = length s.nodes
 
 -- A sum ends: its last product is joined, and then its products.
 pub record EndsSum (before : Spec) (products factors : List ℕ) (now : Spec) (sum : ℕ) : Type 0 where
-  pub draft_is : now ≡ joined_in_node Node.Union (joined_in_node Node.Product before factors) (products
+  pub draft_is : now ≡ joined_in_node Node.Union (joined_in_node Node.Product before factors)
+      (products
       ++ joined_number before factors ∷ [])
   pub number_is : sum ≡ joined_number (joined_in_node Node.Product before factors) (products
       ++ joined_number before factors ∷ [])
@@ -183,7 +185,8 @@ pub record BreaksAt (s : ReaderState) (ts : List Placed) (place : ℕ) : Type 0 
   pub fails : run s (plain_tokens (take (place + 1) ts)) ≡ Failed
 
 -- The machine goes through the tokens up to the first that fails it, or through all of them.
-abbrev pub MachineStopsAt : List (List ℕ) → ReaderState → List Placed → Option ℕ → Expects → KeptSoFar
+abbrev pub MachineStopsAt : List (List ℕ) → ReaderState → List Placed → Option ℕ → Expects
+    → KeptSoFar
     → Type 0
 MachineStopsAt names s ts None e k = Represents names (run s (plain_tokens ts)) e k
 MachineStopsAt names s ts (Some place) e k = BreaksAt s ts place

@@ -61,7 +61,8 @@ pub data Bound (c : Counting) : List Token → Range → List Token → Type 0 w
   no_bound : {ts : List Token} → Bound c ts (without_bound c) ts
   at_least : {ts : List Token} {k : ℕ}
       → Bound c (Token.AtLeast ∷ Token.Number k ∷ ts) (from_on k) ts
-  at_most : {ts : List Token} {k : ℕ} → Bound c (Token.AtMost ∷ Token.Number k ∷ ts) (range_up_to c k) ts
+  at_most : {ts : List Token} {k : ℕ} → Bound c (Token.AtMost ∷ Token.Number k ∷ ts)
+      (range_up_to c k) ts
   exactly : {ts : List Token} {k : ℕ} → Bound c (Token.Exactly ∷ Token.Number k ∷ ts) (just k) ts
 
 -- Sums of products of factors.
@@ -114,7 +115,8 @@ spelled_mode Mode.Labelled = codes "labelled"
 -- The tokens of a text: the word of its mode, and one definition or more.
 pub data IsText : List Token → Mode → List Definition → Type 0 where
   text : {ts : List Token} {m : Mode} {d : Definition} {ds : List Definition}
-      → Definitions ts (d ∷ ds) → IsText (Token.Name (spelled_mode m) ∷ Token.LineEnd ∷ ts) m (d ∷ ds)
+      → Definitions ts (d ∷ ds) → IsText (Token.Name (spelled_mode m) ∷ Token.LineEnd ∷ ts) m
+      (d ∷ ds)
 
 -- Some text begins with these tokens.
 pub record Begins (ts : List Token) : Type 0 where

@@ -16,7 +16,8 @@ mutual
   pub data MoreProductsOne : List Token → List Term → List Token → Type 0 where
     no_products_one : {ts : List Token} → MoreProductsOne ts [] ts
     next_product_one : {ts mid rest : List Token} {us ps : List Term} → ProductOne ts us mid
-        → MoreProductsOne mid ps rest → MoreProductsOne (Token.Plus ∷ ts) (product_term us ∷ ps) rest
+        → MoreProductsOne mid ps rest → MoreProductsOne (Token.Plus ∷ ts)
+        (product_term us ∷ ps) rest
 
   pub data ProductOne : List Token → List Term → List Token → Type 0 where
     multiplied_one : {ts mid rest : List Token} {t : Term} {us : List Term} → FactorOne ts t mid
@@ -35,7 +36,8 @@ mutual
         → FactorOne (Token.Open ∷ ts) (sum_of ps) rest
     counting_one : {ts rest : List Token} {c : Counting} {ps : List Term}
         → SumOne ts ps (Token.Close ∷ rest)
-        → FactorOne (Token.Counted c ∷ Token.Open ∷ ts) (counted c (without_bound c) (sum_of ps)) rest
+        → FactorOne (Token.Counted c ∷ Token.Open ∷ ts) (counted c (without_bound c)
+        (sum_of ps)) rest
 
 -- The lines of definitions up to the end of the text.
 pub data DefinitionsOne : List Token → List Definition → Type 0 where

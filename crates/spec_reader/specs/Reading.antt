@@ -56,9 +56,11 @@ abbrev pub TokensFault : List Placed → SpecFault → Type 0
 TokensFault ts (SpecFault.TooLong len) = ⊥
 TokensFault ts (SpecFault.NotText place) = ⊥
 TokensFault ts (SpecFault.Syntax line column) = IsMisplaced ts line column
-TokensFault ts (SpecFault.Undefined line column) = HasFirstFault ts (SpecFault.Undefined line column)
+TokensFault ts (SpecFault.Undefined line column) = HasFirstFault ts
+    (SpecFault.Undefined line column)
 TokensFault ts (SpecFault.Twice line) = HasFirstFault ts (SpecFault.Twice line)
-TokensFault ts (SpecFault.NeedsLabels line column) = HasFirstFault ts (SpecFault.NeedsLabels line column)
+TokensFault ts (SpecFault.NeedsLabels line column) = HasFirstFault ts
+    (SpecFault.NeedsLabels line column)
 TokensFault ts (SpecFault.Limit fault) = ⊥
 TokensFault ts SpecFault.OutOfMemory = Unit {0}
 

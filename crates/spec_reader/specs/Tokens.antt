@@ -99,7 +99,8 @@ front b bs =
     if b == 10 then Front.LineFeed
     else if is_blank b then Front.Blank
     else if b == 35 then Front.Comment (prefix_len goes_on bs)
-    else if may_be_in_run b then run_front (b ∷ take_while may_be_in_run bs) (prefix_len may_be_in_run bs)
+    else if may_be_in_run b then run_front (b ∷ take_while may_be_in_run bs)
+    (prefix_len may_be_in_run bs)
     (drop (prefix_len may_be_in_run bs) bs)
     else sign_front b bs
 

@@ -82,7 +82,8 @@ impl Reader {
         requires { self.old.expects ≡ Expects.Line }
         ensures read { (names : List (List ℕ)) (b : LinesBefore) → RestsOn names b
             (kept_in_sums self.old.sums)
-            → LeadsOrFails names (step (Lines b) token.now) result self.new.expects (kept_in_sums self.new.sums) }
+            → LeadsOrFails names (step (Lines b) token.now) result self.new.expects
+            (kept_in_sums self.new.sums) }
         ensures few { self.new.sums.draft ≡ self.old.sums.draft }
     {
         match token {
@@ -115,7 +116,8 @@ impl Reader {
         requires few_names { length self.old.sums.draft.names < 2 ^ 32 }
         ensures read { IfOk result (λ stands. (names : List (List ℕ)) (p : Place)
             → Stands names p (kept_in_sums self.old.sums)
-            → LeadsOrFails names (step (Want p) token.now) stands self.new.expects (kept_in_sums self.new.sums)) }
+            → LeadsOrFails names (step (Want p) token.now) stands self.new.expects
+            (kept_in_sums self.new.sums)) }
         ensures few { OnOk result
             (length self.new.sums.draft.nodes ≤ length self.old.sums.draft.nodes + 1) }
         ensures names { OnOk result (self.new.sums.draft.names ≡ self.old.sums.draft.names) }
@@ -175,7 +177,8 @@ impl Reader {
 
     /// A bound's number is expected.
     fn number(&mut self, counting: Counting, sign: Sign, token: &Token) -> bool
-        ensures read { (names : List (List ℕ)) (p : Place) → Stands names p (kept_in_sums self.old.sums)
+        ensures read { (names : List (List ℕ)) (p : Place) → Stands names p
+            (kept_in_sums self.old.sums)
             → LeadsOrFails names (step (Signed p counting sign) token.now) result self.new.expects
             (kept_in_sums self.new.sums) }
         ensures few { self.new.sums.draft ≡ self.old.sums.draft }
@@ -219,7 +222,8 @@ impl Reader {
         requires few { length self.old.sums.draft.nodes + 2 < 2 ^ 32 }
         ensures read { IfOk result (λ stands. (names : List (List ℕ)) (p : Place)
             → Stands names p (kept_in_sums self.old.sums)
-            → LeadsOrFails names (step (Have p) token.now) stands self.new.expects (kept_in_sums self.new.sums)) }
+            → LeadsOrFails names (step (Have p) token.now) stands self.new.expects
+            (kept_in_sums self.new.sums)) }
         ensures few { OnOk result
             (length self.new.sums.draft.nodes ≤ length self.old.sums.draft.nodes + 3) }
         ensures names { OnOk result (self.new.sums.draft.names ≡ self.old.sums.draft.names) }
@@ -246,7 +250,8 @@ impl Reader {
         requires few_names { length self.old.sums.draft.names < 2 ^ 32 }
         ensures read { IfOk result (λ stands. (names : List (List ℕ)) (s : ReaderState)
             → Represents names s self.old.expects (kept_in_sums self.old.sums)
-            → LeadsOrFails names (step s token.now) stands self.new.expects (kept_in_sums self.new.sums)) }
+            → LeadsOrFails names (step s token.now) stands self.new.expects
+            (kept_in_sums self.new.sums)) }
         ensures few { OnOk result
             (length self.new.sums.draft.nodes ≤ length self.old.sums.draft.nodes + 3) }
         ensures names { OnOk result (self.new.sums.draft.names ≡ self.old.sums.draft.names) }
@@ -273,7 +278,8 @@ impl Reader {
         requires few_names { length self.old.sums.draft.names < 2 ^ 32 }
         ensures read { IfOk result (λ stop. (names : List (List ℕ)) (s : ReaderState)
             → Represents names s self.old.expects (kept_in_sums self.old.sums)
-            → MachineStopsAt names s tokens.now stop self.new.expects (kept_in_sums self.new.sums)) }
+            → MachineStopsAt names s tokens.now stop self.new.expects
+            (kept_in_sums self.new.sums)) }
     {
         for (i, placed) in tokens.iter().enumerate() {
             if !self.take(alloc, &placed.token)? {

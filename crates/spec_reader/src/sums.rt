@@ -67,7 +67,8 @@ pub enum Expects {
 /// The node of a union of parts; one part alone is itself.
 fn union_node(draft: &mut Draft, parts: Parts) -> Result<ExprId, AllocError>
     requires few { length draft.old.nodes < 2 ^ 32 }
-    ensures joined { OnOk result (draft.new ≡ joined_in_node Node.Union draft.old (map number parts)) }
+    ensures joined { OnOk result
+        (draft.new ≡ joined_in_node Node.Union draft.old (map number parts)) }
     ensures number { IfOk result (λ e. e.0 ≡ joined_number draft.old (map number parts)) }
     ensures few { OnOk result (length draft.new.nodes ≤ length draft.old.nodes + 1) }
     ensures names { OnOk result (draft.new.names ≡ draft.old.names) }
@@ -81,7 +82,8 @@ fn union_node(draft: &mut Draft, parts: Parts) -> Result<ExprId, AllocError>
 /// The node of a product of parts; one part alone is itself.
 fn product_node(draft: &mut Draft, parts: Parts) -> Result<ExprId, AllocError>
     requires few { length draft.old.nodes < 2 ^ 32 }
-    ensures joined { OnOk result (draft.new ≡ joined_in_node Node.Product draft.old (map number parts)) }
+    ensures joined { OnOk result
+        (draft.new ≡ joined_in_node Node.Product draft.old (map number parts)) }
     ensures number { IfOk result (λ e. e.0 ≡ joined_number draft.old (map number parts)) }
     ensures few { OnOk result (length draft.new.nodes ≤ length draft.old.nodes + 1) }
     ensures names { OnOk result (draft.new.names ≡ draft.old.names) }
@@ -128,7 +130,8 @@ impl Sums {
         requires plain { plain_range (spec_node node) ≡ record { low = 0; high = None } }
         ensures read { OnOk result ((names : List (List ℕ)) (p : Place) (t : Term)
             → IsLeaf names t (spec_node node)
-            → Stands names p (kept_in_sums self.old) → Stands names (with_one_more p t) (kept_in_sums self.new)) }
+            → Stands names p (kept_in_sums self.old) → Stands names (with_one_more p t)
+            (kept_in_sums self.new)) }
         ensures few { OnOk result (length self.new.draft.nodes ≤ length self.old.draft.nodes + 1) }
         ensures names { OnOk result (self.new.draft.names ≡ self.old.draft.names) }
     {
@@ -190,7 +193,8 @@ impl Sums {
         requires few { length self.old.draft.nodes + 2 < 2 ^ 32 }
         ensures read { IfOk result (λ closes. (names : List (List ℕ)) (p : Place)
             → Stands names p (kept_in_sums self.old)
-            → LeadsOrFails names (parenthesis_closed p p.outers) closes Expects.Joint (kept_in_sums self.new)) }
+            → LeadsOrFails names (parenthesis_closed p p.outers) closes Expects.Joint
+            (kept_in_sums self.new)) }
         ensures few { OnOk result (length self.new.draft.nodes ≤ length self.old.draft.nodes + 3) }
         ensures names { OnOk result (self.new.draft.names ≡ self.old.draft.names) }
     {

@@ -87,7 +87,8 @@ fn failing_shelf(alloc: Global) -> Result<MemoryShelf, Fail> {
 
 /// The tape over the content of the name `t`.
 fn tape_over(alloc: Global) -> Result<Tape, Fail>
-    ensures { IfOk result (λ tape. (contents : List ℕ → Option (List ℕ)) → BelongsToShelf contents tape) }
+    ensures { IfOk result (λ tape.
+        (contents : List ℕ → Option (List ℕ)) → BelongsToShelf contents tape) }
 {
     Ok(Tape::over(Word::from_bytes(alloc, b"t")?))
 }

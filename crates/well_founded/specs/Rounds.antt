@@ -26,7 +26,8 @@ abbrev pub PassesToClass : Spec → ℕ → (ℕ → Type 0) → ℕ → Node �
 PassesToClass s d P e (Node.Empty word) = ⊥
 PassesToClass s d P e (Node.Atom word) = ⊥
 PassesToClass s d P e (Node.Class c) = c ≡ d
-PassesToClass s d P e (Node.Union parts) = (i : ℕ) × (part : ℕ) × (slice_get parts i ≡ Some part) × P part
+PassesToClass s d P e (Node.Union parts) = (i : ℕ) × (part : ℕ) × (slice_get parts i ≡ Some part)
+    × P part
 PassesToClass s d P e (Node.Product parts) = (i : ℕ) × (part : ℕ) × (slice_get parts i ≡ Some part)
     × ((j q : ℕ) → slice_get parts j ≡ Some q → j ≢ i → HasEmpty s q) × P part
 PassesToClass s d P e (Node.Seq part) = (r : Range) × (range_at s e ≡ Some r)
