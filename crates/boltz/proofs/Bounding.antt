@@ -6,7 +6,7 @@ use Rattle.oracle_memo.specs.Levels.{level_down, level_down_from, level_up}
 use Rattle.oracle_memo.specs.Memos.{Memory}
 use Rattle.rounded_map.specs.RoundedMap.{Setting, setting}
 use Rattle.boltz.specs.OracleCommand.{class_level, level_lines, level_after}
-use Rattle.call_stages.specs.Lines.{lines_below, base_lines}
+use Rattle.call_stages.specs.Lines.{lines_below, printed_base_lines}
 use Rattle.call_stages.proofs.LinesBelow.{below_more}
 
 -- a text to which the levels so far and the next one were appended
@@ -50,5 +50,5 @@ levels_of t base s m same made =
     ap (λ (r : Spec). lines_below (level_after (setting r m.num m.den t.bits) m.base) 6) same ∙ ap (λ (k : Memory). lines_below (level_after (setting t.spec k.num k.den t.bits) k.base) 6) made
 
 -- the lines of a base
-pub base_lines_of : (s r : Spec) (values base : List ℕ) → s ≡ r → values ≡ base → base_lines s values ≡ base_lines r base
-base_lines_of s r values base same are = ap (λ (k : Spec). base_lines k values) same ∙ ap (base_lines r) are
+pub base_lines_of : (s r : Spec) (values base : List ℕ) → s ≡ r → values ≡ base → printed_base_lines s values ≡ printed_base_lines r base
+base_lines_of s r values base same are = ap (λ (k : Spec). printed_base_lines k values) same ∙ ap (printed_base_lines r) are

@@ -4,7 +4,7 @@ use Rattle.bz_model.specs.Spec.{Spec}
 use Rattle.bz_model.specs.declared.fraction.Fraction.{Fraction}
 use Rattle.oracle_memo.specs.Levels.{level_down, level_up, cost_at}
 use Rattle.rounded_map.specs.RoundedMap.{Setting, setting}
-use Rattle.call_stages.specs.Lines.{class_name, certified_header, base_lines, level_line}
+use Rattle.call_stages.specs.Lines.{class_name, certified_header, printed_base_lines, level_line}
 use Rattle.call_stages.specs.Lines.{lines_below, end_done_line}
 use Rattle.call_stages.specs.Outcomes.{Outcome, MaySay}
 use Rattle.call_stages.specs.Stages.{Files, Specified, Based}
@@ -29,7 +29,7 @@ level_after t base n = level_lines t base (suc n)
 abbrev pub bounded_text : Setting → (base : List ℕ) → List ℕ
 bounded_text t base =
     certified_header t.spec t.num t.den t.bits
-    ++ (base_lines t.spec base
+    ++ (printed_base_lines t.spec base
     ++ (lines_below (level_after t base) 6
     ++ end_done_line))
 

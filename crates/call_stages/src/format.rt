@@ -1,9 +1,13 @@
 //! The lines that the program writes.
 ghost use Rattle.std.specs.Prelude.{◌≡◌, ◌++◌, length, IfOk, OnOk, string_bytes};
-ghost use Rattle.call_stages.specs.Lines.{object_line, entry_lines, cells_line, cell_field};
-ghost use Rattle.call_stages.specs.Lines.{open_line, open_label_line, end_line, spec_end_line};
-ghost use Rattle.call_stages.specs.Lines.{class_name, header_lines, certified_header, window_line};
-ghost use Rattle.call_stages.specs.Lines.{base_line, base_lines, class_base, lines_below};
+ghost use Rattle.call_stages.specs.Lines.{printed_object_line, printed_entry_lines, cells_line};
+ghost use Rattle.call_stages.specs.Lines.{printed_cell_field};
+ghost use Rattle.call_stages.specs.Lines.{printed_open_line, open_label_line, printed_end_line};
+ghost use Rattle.call_stages.specs.Lines.{spec_end_line};
+ghost use Rattle.call_stages.specs.Lines.{class_name, printed_header_lines, certified_header};
+ghost use Rattle.call_stages.specs.Lines.{printed_window_line};
+ghost use Rattle.call_stages.specs.Lines.{printed_base_line, printed_base_lines, class_base};
+ghost use Rattle.call_stages.specs.Lines.{lines_below};
 ghost use Rattle.call_stages.specs.Lines.{level_line, feed};
 ghost use Rattle.class_system.specs.CanonicalText.{mode_word};
 ghost use Rattle.class_system.specs.Views.{spec_mode};
@@ -27,7 +31,7 @@ pub fn entry(
     cells: &[Cell],
 ) -> Result<Vec<u8>, AllocError>
     ensures { IfOk result (λ lines.
-        lines.items ≡ entry_lines number place size text.now cells.now) }
+        lines.items ≡ printed_entry_lines number place size text.now cells.now) }
 {
     let head = format!(in alloc; "object {number} at {place} size {size}\ntext ")?;
     let tail = cells_of(alloc, cells)?;
@@ -59,7 +63,7 @@ pub fn open_number(
     cell: Cell,
     bounds: Bounds,
 ) -> Result<String, AllocError>
-    ensures { IfOk result (λ text. string_bytes text ≡ open_line node cell bounds) }
+    ensures { IfOk result (λ text. string_bytes text ≡ printed_open_line node cell bounds) }
 {
     let (k, b) = (cell.k, cell.b);
     let (lo, hi) = (bounds.lo, bounds.hi);
@@ -83,7 +87,8 @@ pub fn end(
     bits: u64,
     turns: u64,
 ) -> Result<String, AllocError>
-    ensures { IfOk result (λ text. string_bytes text ≡ end_line word.now kept thrown bits turns) }
+    ensures { IfOk result (λ text.
+        string_bytes text ≡ printed_end_line word.now kept thrown bits turns) }
 {
     format!(in alloc; "end {word} kept {kept} thrown {thrown} bits {bits} turns {turns}\n")
 }
@@ -114,7 +119,7 @@ pub fn header_lines<const F: u32>(
     x: Fraction,
 ) -> Result<String, AllocError>
     ensures { IfOk result (λ text. string_bytes text
-        ≡ header_lines format.now system.now x.num x.den F) }
+        ≡ printed_header_lines format.now system.now x.num x.den F) }
 {
     let canonical = system.to_text()?;
     let digest = Sha256::digest(canonical.as_slice());
@@ -138,7 +143,7 @@ fn word_of_mode(mode: Mode) -> &'static str
 
 /// The line of a window of sizes.
 pub fn window(alloc: Global, min: u64, max: u64) -> Result<String, AllocError>
-    ensures { IfOk result (λ text. string_bytes text ≡ window_line min max) }
+    ensures { IfOk result (λ text. string_bytes text ≡ printed_window_line min max) }
 {
     format!(in alloc; "window {min} {max}\n")
 }
@@ -152,7 +157,8 @@ pub fn append_base(
     text: &mut Vec<u8>,
 ) -> Result<(), AllocError>
     requires one_per_class { length base.now ≡ length system.now.bodies }
-    ensures { OnOk result (text.new.items ≡ text.old.items ++ base_lines system.now base.now) }
+    ensures { OnOk result
+        (text.new.items ≡ text.old.items ++ printed_base_lines system.now base.now) }
 {
     system.known();
     for class in 0..base.len() {
@@ -169,7 +175,8 @@ pub fn base_of_class(
     class: u32,
     value: u64,
 ) -> Result<Vec<u8>, AllocError>
-    ensures { IfOk result (λ line. line.items ≡ base_line (class_name system.now class) value) }
+    ensures { IfOk result (λ line.
+        line.items ≡ printed_base_line (class_name system.now class) value) }
 {
     let tail = format!(in alloc; " {value}\n")?;
     let mut line = Vec::new(alloc);

@@ -3,7 +3,7 @@ use Rattle.bz_model.specs.Spec.{Spec}
 use Rattle.oracle_memo.specs.Memos.{Memory}
 use Rattle.rounded_map.specs.RoundedMap.{setting, IsPostFixed}
 use Rattle.boltz.specs.OracleCommand.{level_after}
-use Rattle.call_stages.specs.Lines.{certified_header, base_lines, lines_below, end_done_line}
+use Rattle.call_stages.specs.Lines.{certified_header, printed_base_lines, lines_below, end_done_line}
 use Rattle.boltz.proofs.Bounding.{joined_four, levels_of, base_lines_of}
 use Rattle.boltz.proofs.oracle.base_and_levels.Goals as goal
 
@@ -28,7 +28,7 @@ returns-clause-text g c =
     let header : first ≡ certified_header t.spec t.num t.den t.bits =
     subst (λ v. v.items ≡ certified_header c.system-system.result.now c.args.x.num c.args.x.den g.row.F) (sym c.into_bytes-text.ensures.value) c.in_ok-certified_header.ensures
     ∙ ap (λ (s : Spec). certified_header s c.args.x.num c.args.x.den g.row.F) same in
-    joined_four (certified_header t.spec t.num t.den t.bits) (base_lines t.spec c.args.base) (lines_below (level_after t c.args.base) 6) end_done_line first c.append_base.new.text.items c.append_levels.new.text.items c.extend_from_slice.new.self.items header
+    joined_four (certified_header t.spec t.num t.den t.bits) (printed_base_lines t.spec c.args.base) (lines_below (level_after t c.args.base) 6) end_done_line first c.append_base.new.text.items c.append_levels.new.text.items c.extend_from_slice.new.self.items header
     (c.in_ok-append_base.ensures ∙ ap (λ l. first ++ l) (base_lines_of c.system-system.result.now t.spec c.values.result.now c.args.base same c.values.ensures.entries))
     (c.in_ok-append_levels.ensures.text ∙ ap (λ l. c.append_base.new.text.items ++ l) (levels_of t c.args.base c.system-system.result.now c.in_ok-memo.memo same c.in_ok-memo.ensures.made))
     c.in_ok-extend_from_slice.ensures.items
