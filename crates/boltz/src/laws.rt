@@ -23,8 +23,8 @@ ghost use Rattle.rounded_map.specs.RoundedMap.{setting};
 ghost use Rattle.size_window.specs.Drawing.{limits_of};
 ghost use Rattle.size_window.specs.RunByBits.{Ending};
 ghost use Rattle.size_window.specs.declared.limits.Limits.{Limits};
-ghost use Rattle.boltz.specs.Answers.{World, Answers, Carries, IsUndisturbed};
-ghost use Rattle.boltz.specs.Commands.{AreRefused};
+ghost use Rattle.boltz.specs.Answers.{World, Answers, Carries, files_of, IsUndisturbed};
+ghost use Rattle.boltz.specs.Commands.{IsStoodFor, AreRefused};
 ghost use Rattle.boltz.specs.Complete.{AsksToPrint, IsUnfit, IsDrawable, IsBoundable, IsBaseless};
 ghost use Rattle.boltz.specs.Complete.{IsWithoutFast, IsCountable, undisturbed};
 ghost use Rattle.bulk_command.specs.BulkCommand.{bulk_course, course_line};
@@ -36,13 +36,11 @@ ghost use Rattle.boltz.specs.OracleCommand.{bounded_text};
 ghost use Rattle.call_stages.specs.Outcomes.{IsOne};
 ghost use Rattle.call_stages.specs.Refusals.{words_line, no_upper_text, no_fast_line};
 ghost use Rattle.boltz.specs.SpecCommand.{spec_text};
-ghost use Rattle.call_stages.specs.Stages.{HasSpecification};
+ghost use Rattle.call_stages.specs.Stages.{Files, AreCalm, HasSpecification};
 ghost use Rattle.call_stages.specs.declared.status.Status.{Status};
 
 use bulk_command::laws::a_run_that_ends_is_told;
-use certificate_commands::laws::{
-    the_command_has_one_outcome, what_is_found_valid_is_sound, what_migrate_wrote_is_valid,
-};
+use certificate_commands::laws::{what_is_found_valid_is_sound, what_migrate_wrote_is_valid};
 use certificate_commands::samples::what_sample_wrote_is_found_valid;
 
 /// A call in which no write fails writes the whole text of an answer, or memory runs out.
@@ -53,11 +51,24 @@ pub fn without_a_failed_write_the_answer_is_whole()
         ⊎ ((result ≢ Status.OutOfMemory) × IsWritten (Answers w) o result) }
 {}
 
+/// Where its files are calm a command has one outcome.
+pub fn each_command_has_one_outcome()
+    ensures one { (f : Files) (asked : Command) → IsStoodFor asked
+        → AreCalm f (files_of asked) → IsOne (Carries f asked) }
+{
+    pool_command::laws::the_command_has_one_outcome();
+    certificate_commands::laws::the_command_has_one_outcome();
+    bulk_command::laws::the_command_has_one_outcome();
+    point_command::laws::the_command_has_one_outcome();
+    chance_command::laws::the_command_has_one_outcome();
+    rank_commands::laws::each_command_has_one_outcome();
+}
+
 /// An undisturbed call has one status with one text, but for want of memory.
 pub fn an_undisturbed_call_has_one_answer()
     ensures one { (w : World) → IsUndisturbed w → IsOne (Answers w) }
 {
-    the_command_has_one_outcome();
+    each_command_has_one_outcome();
 }
 
 /// But for want of memory, what comes of words that stand for a command is what comes of the

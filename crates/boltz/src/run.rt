@@ -7,6 +7,7 @@ ghost use Rattle.call_stages.specs.Ends.{EndsBy, output};
 ghost use Rattle.call_stages.specs.Stages.{files};
 ghost use Rattle.call_stages.specs.declared.status.Status.{Status};
 
+use crate::laws::each_command_has_one_outcome;
 use crate::oracle::oracle;
 use crate::spec::spec;
 use bulk_command::bulk::bulk;
@@ -17,7 +18,6 @@ use bz_outside::word::Word;
 use call_stages::refusals::words_refusal;
 use call_stages::report::written;
 use call_stages::status::Status;
-use certificate_commands::laws::the_command_has_one_outcome;
 use certificate_commands::migrate::migrate;
 use certificate_commands::verify::verify;
 use chance_command::chance::chance;
@@ -65,7 +65,7 @@ pub fn run<S: Shelf, K: Sink, L: Ledger>(
     ensures counts { (name : List ℕ) → S.faults shelf.old name ≤ S.faults shelf.new name }
     ensures writes { K.faults out.old ≤ K.faults out.new }
 {
-    the_command_has_one_outcome();
+    each_command_has_one_outcome();
     match read_words(alloc, words) {
         Ok(command) => carried_out(alloc, &command, shelf, out, steps),
         Err(fault) => without_command(alloc, fault, out),
