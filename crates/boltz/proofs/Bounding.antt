@@ -6,7 +6,7 @@ use Rattle.oracle_memo.specs.Levels.{level_down, level_down_from, level_up}
 use Rattle.oracle_memo.specs.Memos.{Memory}
 use Rattle.rounded_map.specs.RoundedMap.{Setting, setting}
 use Rattle.boltz.specs.OracleCommand.{class_level, level_lines, level_after}
-use Rattle.call_stages.specs.Lines.{lines_below, base_lines}
+use Rattle.call_stages.specs.Lines.{lines_below}
 use Rattle.call_stages.proofs.LinesBelow.{below_more}
 
 -- a text to which the levels so far and the next one were appended
@@ -39,16 +39,12 @@ next_raised m old now before same raised =
 pub none_raised : (m : Memory) → m.raised ≡ 0 → m ≡ record m { raised = 0 }
 none_raised m is = ap (λ (r : ℕ). record m { raised = r }) is
 
--- a text that was put together from four
-pub joined_four : (head base levels last first second third all : List ℕ) → first ≡ head → second ≡ first ++ base → third ≡ second ++ levels → all ≡ third ++ last → all ≡ head ++ (base ++ (levels ++ last))
-joined_four head base levels last first second third all h b l e =
-    e ∙ ap (λ t. t ++ last) (l ∙ ap (λ s. s ++ levels) (b ∙ ap (λ f. f ++ base) h)) ∙ append_assoc (head ++ base) levels last ∙ append_assoc head base (levels ++ last)
+-- A text that was put together from three is the three, one after another.
+pub joined_three : (head levels last first second all : List ℕ) → first ≡ head → second ≡ first ++ levels → all ≡ second ++ last → all ≡ head ++ (levels ++ last)
+joined_three head levels last first second all h l e =
+    e ∙ ap (λ t. t ++ last) (l ∙ ap (λ f. f ++ levels) h) ∙ append_assoc head levels last
 
 -- the levels over a memo that was made of a base
 pub levels_of : (t : Setting) (base : List ℕ) (s : Spec) (m : Memory) → s ≡ t.spec → m ≡ record { spec = t.spec; num = t.num; den = t.den; start = zeros t; base = base; raised = 0 } → lines_below (level_after (setting s m.num m.den t.bits) m.base) 6 ≡ lines_below (level_after t base) 6
 levels_of t base s m same made =
     ap (λ (r : Spec). lines_below (level_after (setting r m.num m.den t.bits) m.base) 6) same ∙ ap (λ (k : Memory). lines_below (level_after (setting t.spec k.num k.den t.bits) k.base) 6) made
-
--- the lines of a base
-pub base_lines_of : (s r : Spec) (values base : List ℕ) → s ≡ r → values ≡ base → base_lines s values ≡ base_lines r base
-base_lines_of s r values base same are = ap (λ (k : Spec). base_lines k values) same ∙ ap (base_lines r) are

@@ -4,7 +4,9 @@ use Rattle.bz_model.specs.Spec.{Spec}
 use Rattle.bz_model.specs.declared.fraction.Fraction.{Fraction}
 use Rattle.oracle_memo.specs.Levels.{level_down, level_up, cost_at}
 use Rattle.rounded_map.specs.RoundedMap.{Setting, setting}
-use Rattle.call_stages.specs.Lines.{class_name, certified_header, base_lines, level_line}
+use Rattle.certificate.specs.Headers.{bounded_lines}
+use Rattle.certificate.specs.Lines.{text_of}
+use Rattle.call_stages.specs.Lines.{class_name, level_line}
 use Rattle.call_stages.specs.Lines.{lines_below, end_done_line}
 use Rattle.call_stages.specs.Outcomes.{Outcome, MaySay}
 use Rattle.call_stages.specs.Stages.{Files, Specified, Based}
@@ -25,13 +27,12 @@ level_lines t base level =
 abbrev pub level_after : Setting → (base : List ℕ) → (n : ℕ) → List ℕ
 level_after t base n = level_lines t base (suc n)
 
--- The header, the base, the levels 1 to 6, and the last line.
+-- The lines of a certificate's header without its window, of which the last are those of the base;
+-- the levels 1 to 6; and the last line.
 abbrev pub bounded_text : Setting → (base : List ℕ) → List ℕ
 bounded_text t base =
-    certified_header t.spec t.num t.den t.bits
-    ++ (base_lines t.spec base
-    ++ (lines_below (level_after t base) 6
-    ++ end_done_line))
+    text_of (bounded_lines t.spec t.num t.den t.bits base)
+    ++ (lines_below (level_after t base) 6 ++ end_done_line)
 
 -- The classes are bounded from a base: all six levels are raised and printed.
 abbrev pub Bounded : Setting → (base : List ℕ) → Outcome

@@ -7,6 +7,8 @@ ghost use Rattle.kleene_lower.specs.Lower.{zeros};
 ghost use Rattle.oracle_memo.specs.Memos.{Memory};
 ghost use Rattle.oracle_memo.specs.Levels.{cost_at};
 ghost use Rattle.command_words.specs.Fractions.{fraction_bits};
+ghost use Rattle.certificate.specs.Headers.{bounded_lines};
+ghost use Rattle.certificate.specs.Lines.{text_of};
 ghost use Rattle.call_stages.specs.Ends.{EndsBy, output};
 ghost use Rattle.call_stages.specs.Lines.{lines_below};
 ghost use Rattle.boltz.specs.OracleCommand.{CarriesOracle, Bounded, bounded_text, class_level};
@@ -20,10 +22,12 @@ use bz_outside::shelf::Shelf;
 use bz_outside::sink::Sink;
 use bz_outside::word::Word;
 use call_stages::at_fraction;
-use call_stages::format::{append_base, certified_header, level_of_class};
+use call_stages::format::level_of_class;
 use call_stages::report::{refused, written};
 use call_stages::stages::{based, specified};
 use call_stages::status::Status;
+use certificate::header::header_of;
+use certificate::write::write_without_window;
 use class_system::system::System;
 use command_words::command::FractionBits;
 use newton_upper::Base;
@@ -121,7 +125,7 @@ fn leveled<const F: u32, K: Sink, L: Ledger>(
     }
 }
 
-/// The header, the base, the levels and the last line.
+/// The header with the base, the levels and the last line.
 fn base_and_levels<const F: u32, L: Ledger>(
     alloc: Global,
     founded: &Founded,
@@ -137,12 +141,27 @@ fn base_and_levels<const F: u32, L: Ledger>(
     ensures ticks { steps.new ≤ steps.old + cost_at 6 }
 {
     let system = founded.system();
-    let mut text = certified_header::<F>(alloc, system, x)?.into_bytes();
-    append_base(alloc, system, base.values(), &mut text)?;
+    let mut text = header_and_base::<F>(alloc, system, x, base.values())?;
     let mut memo = Memo::make(alloc, founded, x, base)?;
     append_levels::<F, L>(alloc, system, &mut memo, steps, &mut text)?;
     text.extend_from_slice(b"end done\n")?;
     Ok(text)
+}
+
+/// The lines of a certificate's header without its window, of which the last are those of the base.
+fn header_and_base<const F: u32>(
+    alloc: Global,
+    system: &System,
+    x: Fraction,
+    base: &[u64],
+) -> Result<Vec<u8>, AllocError>
+    requires one_per_class { length base.now ≡ length system.now.bodies }
+    ensures { IfOk result (λ text. text.items
+        ≡ text_of (bounded_lines system.now x.num x.den F base.now)) }
+{
+    system.known();
+    let header = header_of(alloc, system, x, F, 0, 0, base)?;
+    write_without_window(alloc, &header)
 }
 
 /// Appends the lines of the levels 1 to 6, and raises each. None is raised yet, and the lower
