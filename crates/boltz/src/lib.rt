@@ -47,16 +47,14 @@
 //! are random.
 //!
 //! To believe it, read in this order: `specs/Answers.antt` (one line for each command); in
-//! `call_stages`
-//! `specs/Stages.antt`, `specs/Lines.antt` and `specs/Refusals.antt` (printed bytes) and
-//! `specs/Ends.antt`;
-//! the file of each command (`specs/SpecCommand.antt`, `specs/OracleCommand.antt`; in
-//! `sample_command`
-//! `specs/SampleCommand.antt`, `specs/Starts.antt` and `specs/Drawn.antt`; in `pool_command`
-//! `specs/PoolCommand.antt` and `specs/Schedule.antt`; in `certificate_commands`
-//! `specs/CertificateStage.antt`, `specs/Tested.antt` and the file of each; in `bulk_command`
-//! `specs/BulkCommand.antt`; in `point_command` and `chance_command` theirs; in `rank_commands`
-//! `specs/RankStages.antt` and the file of each); and the clauses of `run`.
+//! `call_stages` `specs/Stages.antt`, `specs/Lines.antt` and `specs/Refusals.antt` (printed bytes)
+//! and `specs/Ends.antt`; in `certificate` `specs/Lines.antt`, `specs/Certificates.antt` and
+//! `specs/Headers.antt` (printed bytes); the file of each command (`specs/SpecCommand.antt`,
+//! `specs/OracleCommand.antt`; in `sample_command` `specs/SampleCommand.antt`, `specs/Starts.antt`
+//! and `specs/Drawn.antt`; in `pool_command` `specs/PoolCommand.antt` and `specs/Schedule.antt`; in
+//! `certificate_commands` `specs/CertificateStage.antt`, `specs/Tested.antt` and the file of each;
+//! in `bulk_command` `specs/BulkCommand.antt`; in `point_command` and `chance_command` theirs; in
+//! `rank_commands` `specs/RankStages.antt` and the file of each); and the clauses of `run`.
 #![tactic(auto)]
 
 pub mod laws;
