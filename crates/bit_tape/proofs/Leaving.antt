@@ -1,6 +1,6 @@
 -- What calls with a tape leave, one after another.
 use Rattle.std.proofs.Common.{◌≡◌, ℕ, ◌≤◌, List, Option, Bool, true, false, refl, subst, ◌∙◌, ap, arith}
-use Rattle.bit_tape.specs.Tape.{TapeSource, TapeState, Belongs, CountsFault, LeavesTape, HasFault}
+use Rattle.bit_tape.specs.Tape.{TapeSource, TapeState, BelongsToShelf, CountsFault, LeavesTape, HasFault}
 
 -- no call falls short of a count
 pub counts-kept : (failed : Bool) (source : TapeSource) (before now : List ℕ → ℕ) → CountsFault failed source before now → (other : List ℕ) → before other ≤ now other
@@ -18,7 +18,7 @@ pub counts-after : (failed : Bool) (source first : TapeSource) (before middle no
 counts-after failed source first before middle now same steady last = subst (λ s. CountsFault failed s before now) same (subst (λ m. CountsFault failed source m now) steady last)
 
 -- nothing was done yet
-pub leaves-none : {S : Type 0} (contents : S → List ℕ → Option (List ℕ)) (counts : S → List ℕ → ℕ) (shelf : S) (tape : TapeState) → Belongs (contents shelf) tape → LeavesTape contents counts false shelf shelf tape tape
+pub leaves-none : {S : Type 0} (contents : S → List ℕ → Option (List ℕ)) (counts : S → List ℕ → ℕ) (shelf : S) (tape : TapeState) → BelongsToShelf (contents shelf) tape → LeavesTape contents counts false shelf shelf tape tape
 leaves-none contents counts shelf tape belongs = record { source = refl; belongs = belongs; content = refl; faults = refl; seeded = λ seed is_seed. refl }
 
 -- a call after calls that didn't fail

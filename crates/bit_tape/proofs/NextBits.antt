@@ -11,9 +11,9 @@ use Rattle.bit_tape.specs.declared.source.Source.{Source}
 use Rattle.bit_tape.specs.declared.source.Source.TheVariants.{File, Seed}
 use Rattle.bit_tape.specs.Bits.{within_tape, byte_bit, word_bit, file_bit, seed_bit, seed_word}
 use Rattle.bit_tape.specs.Buffer.{Ahead, after_bit}
-use Rattle.bit_tape.specs.Source.{source_of, GoesOn, IsRestOfWord}
+use Rattle.bit_tape.specs.Source.{name_or_seed, SourceGoesOn, IsRestOfWord}
 use Rattle.bit_tape.specs.Refill.{HasEnded}
-use Rattle.bit_tape.specs.Tape.{TapeSource, TapeState, AreAt, GivesBit, bits_of}
+use Rattle.bit_tape.specs.Tape.{TapeSource, TapeState, AreAt, GivesBit, bits_of_source}
 
 -- below the limit a bit stands, and from it on there is none
 within : (place : ℕ) (bit : Option Bool) → place < 2 ^ 63 → within_tape place bit ≡ bit
@@ -91,8 +91,8 @@ still_at (Some bytes) used ahead some h =
     subst (λ place. AreAt (drop ((used % 8 + 1) / 8) ahead) place bytes) (sym next) (later ahead bytes (used / 8) ((used % 8 + 1) / 8) (omega arith) h)
 
 -- the tape's fields before a bit is taken and after it
-gives : (source : Source) (used : ℕ) (ahead : List ℕ) → used < 2 ^ 63 → 0 < length ahead → GoesOn source (used / 8) ahead
-    → GivesBit (record { source = source_of source; used = used; ahead = ahead }) (byte_bit (get_or ahead 0 0) (used % 8)) (record { source = source_of source; used = used + 1; ahead = drop ((used % 8 + 1) / 8) ahead })
+gives : (source : Source) (used : ℕ) (ahead : List ℕ) → used < 2 ^ 63 → 0 < length ahead → SourceGoesOn source (used / 8) ahead
+    → GivesBit (record { source = name_or_seed source; used = used; ahead = ahead }) (byte_bit (get_or ahead 0 0) (used % 8)) (record { source = name_or_seed source; used = used + 1; ahead = drop ((used % 8 + 1) / 8) ahead })
 gives (File name) used ahead below some goes = record {
   source = refl;
   used = refl;
@@ -107,20 +107,20 @@ gives (Seed words) used ahead below some goes = record {
 }
 
 -- the same for a tape that is seen as these fields
-pub gives_bit : (source : Source) (used : ℕ) (buffer after : Ahead) (bit : Bool) (old : TapeState) → record { source = source_of source; used = used; ahead = buffer.bytes } ≡ old → 0 < length old.ahead → buffer.bit ≡ used % 8 → used / 8 + length buffer.bytes ≤ 2 ^ 60 → GoesOn source (used / 8) buffer.bytes → bit ≡ byte_bit (slice_index buffer.bytes 0) buffer.bit → after ≡ after_bit buffer
-    → GivesBit old bit (record { source = source_of source; used = used + 1; ahead = after.bytes })
+pub gives_bit : (source : Source) (used : ℕ) (buffer after : Ahead) (bit : Bool) (old : TapeState) → record { source = name_or_seed source; used = used; ahead = buffer.bytes } ≡ old → 0 < length old.ahead → buffer.bit ≡ used % 8 → used / 8 + length buffer.bytes ≤ 2 ^ 60 → SourceGoesOn source (used / 8) buffer.bytes → bit ≡ byte_bit (slice_index buffer.bytes 0) buffer.bit → after ≡ after_bit buffer
+    → GivesBit old bit (record { source = name_or_seed source; used = used + 1; ahead = after.bytes })
 gives_bit source used buffer after bit old seen there at room goes is then =
     let some : 0 < length buffer.bytes = subst (λ t. 0 < length t.ahead) (sym seen) there in
     let value : byte_bit (get_or buffer.bytes 0 0) (used % 8) ≡ bit = ap (byte_bit (get_or buffer.bytes 0 0)) (sym at) ∙ sym is in
     let left : drop ((used % 8 + 1) / 8) buffer.bytes ≡ after.bytes = ap (λ k. drop ((k + 1) / 8) buffer.bytes) (sym at) ∙ sym (ap (λ a. a.bytes) then) in
-    let new : List ℕ → TapeState = λ ahead. record { source = source_of source; used = used + 1; ahead = ahead } in
-    let now : TapeState = record { source = source_of source; used = used; ahead = buffer.bytes } in
+    let new : List ℕ → TapeState = λ ahead. record { source = name_or_seed source; used = used + 1; ahead = ahead } in
+    let now : TapeState = record { source = name_or_seed source; used = used; ahead = buffer.bytes } in
     let with_bit = subst (λ b. GivesBit now b (new (drop ((used % 8 + 1) / 8) buffer.bytes))) value (gives source used buffer.bytes (omega arith) some goes) in
     let with_left = subst (λ ahead. GivesBit now bit (new ahead)) left with_bit in
     subst (λ t. GivesBit t bit (new after.bytes)) seen with_left
 
 -- where the source has ended, or the limit is reached, there is no next bit
-pub no_next : (source : TapeSource) (contents : List ℕ → Option (List ℕ)) (used : ℕ) → (2 ^ 60 ≤ used / 8) ⊎ HasEnded source contents (used / 8) → IfSome (bits_of source contents) (λ bits. bits used ≡ None)
+pub no_next : (source : TapeSource) (contents : List ℕ → Option (List ℕ)) (used : ℕ) → (2 ^ 60 ≤ used / 8) ⊎ HasEnded source contents (used / 8) → IfSome (bits_of_source source contents) (λ bits. bits used ≡ None)
 no_next (TapeSource.Named name) contents used h = no_named (contents name) h
   where
     no_named : (content : Option (List ℕ)) → (2 ^ 60 ≤ used / 8) ⊎ IfSome content (λ bytes. length bytes ≤ used / 8) → IfSome (option_map file_bit content) (λ bits. bits used ≡ None)

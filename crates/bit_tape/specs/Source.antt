@@ -7,9 +7,9 @@ use Rattle.bit_tape.specs.Bits.{seed_word}
 use Rattle.bit_tape.specs.Tape.{TapeSource}
 
 -- the name or the seed
-abbrev pub source_of : Source → TapeSource
-source_of (File name) = TapeSource.Named name
-source_of (Seed words) = TapeSource.Seeded words.seed
+abbrev pub name_or_seed : Source → TapeSource
+name_or_seed (File name) = TapeSource.Named name
+name_or_seed (Seed words) = TapeSource.Seeded words.seed
 
 -- The bytes read ahead from a place on are the rest of the last word that a seed gave, the highest
 -- byte first.
@@ -19,6 +19,6 @@ pub record IsRestOfWord (seed words place : ℕ) (ahead : List ℕ) : Type 0 whe
   pub rest : ahead ≡ drop (4 - length ahead) (to_be_bytes w32 (seed_word seed (words - 1)))
 
 -- The source goes on where the bytes read ahead end. A file is read at any place.
-abbrev pub GoesOn : Source → (place : ℕ) → (ahead : List ℕ) → Type 0
-GoesOn (File name) place ahead = Unit {0}
-GoesOn (Seed words) place ahead = IsRestOfWord words.seed words.place place ahead
+abbrev pub SourceGoesOn : Source → (place : ℕ) → (ahead : List ℕ) → Type 0
+SourceGoesOn (File name) place ahead = Unit {0}
+SourceGoesOn (Seed words) place ahead = IsRestOfWord words.seed words.place place ahead

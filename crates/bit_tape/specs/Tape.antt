@@ -17,9 +17,10 @@ pub record TapeState : Type 0 where
   pub ahead : List ℕ
 
 -- The bits of a source over a shelf with these contents, where they are told.
-abbrev pub bits_of : TapeSource → (contents : List ℕ → Option (List ℕ)) → Option (ℕ → Option Bool)
-bits_of (TapeSource.Named name) contents = option_map file_bit (contents name)
-bits_of (TapeSource.Seeded seed) contents = Some (seed_bit seed)
+abbrev pub bits_of_source : TapeSource → (contents : List ℕ → Option (List ℕ))
+    → Option (ℕ → Option Bool)
+bits_of_source (TapeSource.Named name) contents = option_map file_bit (contents name)
+bits_of_source (TapeSource.Seeded seed) contents = Some (seed_bit seed)
 
 -- Bytes read ahead are those of a content from a place on.
 abbrev pub AreAt : (ahead : List ℕ) → (place : ℕ) → (content : List ℕ) → Type 0
@@ -33,7 +34,7 @@ ReadsAhead (TapeSource.Seeded seed) contents place ahead = Unit {0}
 
 -- A tape belongs to a shelf with these contents where the bytes that it has read ahead are those of
 -- its name's content.
-pub record Belongs (contents : List ℕ → Option (List ℕ)) (tape : TapeState) : Type 0 where
+pub record BelongsToShelf (contents : List ℕ → Option (List ℕ)) (tape : TapeState) : Type 0 where
   pub ahead : ReadsAhead tape.source contents (tape.used / 8) tape.ahead
 
 -- What a call leaves of the counts of faults: where it failed, the count of the source's name rose
@@ -49,7 +50,7 @@ CountsFault true (TapeSource.Seeded seed) before now = ⊥
 pub record LeavesTape {S : Type 0} (contents : S → List ℕ → Option (List ℕ)) (counts : S → List ℕ
     → ℕ) (failed : Bool) (before now : S) (old new : TapeState) : Type 0 where
   pub source : new.source ≡ old.source
-  pub belongs : Belongs (contents now) new
+  pub belongs : BelongsToShelf (contents now) new
   pub content : contents now ≡ contents before
   pub faults : CountsFault failed old.source (counts before) (counts now)
   pub seeded : (seed : ℕ) → old.source ≡ TapeSource.Seeded seed → now ≡ before
@@ -65,6 +66,7 @@ HasFault (TapeSource.Seeded seed) before now = ⊥
 pub record GivesBit (old : TapeState) (bit : Bool) (new : TapeState) : Type 0 where
   pub source : new.source ≡ old.source
   pub used : new.used ≡ old.used + 1
-  pub next : (contents : List ℕ → Option (List ℕ)) → Belongs contents old
-      → IfSome (bits_of old.source contents) (λ bits. bits old.used ≡ Some bit)
-  pub belongs : (contents : List ℕ → Option (List ℕ)) → Belongs contents old → Belongs contents new
+  pub next : (contents : List ℕ → Option (List ℕ)) → BelongsToShelf contents old
+      → IfSome (bits_of_source old.source contents) (λ bits. bits old.used ≡ Some bit)
+  pub belongs : (contents : List ℕ → Option (List ℕ)) → BelongsToShelf contents old
+      → BelongsToShelf contents new

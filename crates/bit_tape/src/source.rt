@@ -25,7 +25,7 @@ pub enum Refill {
 }
 
 impl Source {
-    ghost use Rattle.bit_tape.specs.Source.{source_of, GoesOn};
+    ghost use Rattle.bit_tape.specs.Source.{name_or_seed, SourceGoesOn};
     ghost use Rattle.bit_tape.specs.Refill.{Refills};
     ghost use Rattle.bit_tape.specs.Tape.{TapeSource};
 
@@ -33,14 +33,14 @@ impl Source {
     pub fn refill<S: Shelf>(&mut self, place: u64, buffer: &mut BitBuffer, shelf: &mut S) -> Refill
         requires empty { length buffer.old.bytes ≡ 0 }
         requires within { place < 2 ^ 60 }
-        requires goes_on { GoesOn self.old place buffer.old.bytes }
+        requires goes_on { SourceGoesOn self.old place buffer.old.bytes }
         ensures content { S.content shelf.new ≡ S.content shelf.old }
-        ensures source { source_of self.new ≡ source_of self.old }
+        ensures source { name_or_seed self.new ≡ name_or_seed self.old }
         ensures bit { buffer.new.bit ≡ buffer.old.bit }
-        ensures refills { Refills result (source_of self.old) (S.content shelf.old)
+        ensures refills { Refills result (name_or_seed self.old) (S.content shelf.old)
             (S.faults shelf.old) (S.faults shelf.new) place buffer.old.bytes buffer.new.bytes }
-        ensures goes_on { GoesOn self.new place buffer.new.bytes }
-        ensures seeded { (seed : ℕ) → source_of self.old ≡ TapeSource.Seeded seed
+        ensures goes_on { SourceGoesOn self.new place buffer.new.bytes }
+        ensures seeded { (seed : ℕ) → name_or_seed self.old ≡ TapeSource.Seeded seed
             → shelf.new ≡ shelf.old }
     {
         match self {

@@ -1,7 +1,8 @@
 //! A tape of bits.
 ghost use Rattle.std.specs.Prelude.{◌≡◌, ℕ, ◌+◌, ◌^◌, ◌<◌, ◌≤◌, [], List, length, Option, IfSome};
 ghost use Rattle.std.specs.Prelude.{IsTrue, ◌↔◌};
-ghost use Rattle.bit_tape.specs.Tape.{TapeSource, Belongs, LeavesTape, bits_of, GivesBit};
+ghost use Rattle.bit_tape.specs.Tape.{TapeSource, BelongsToShelf, LeavesTape, bits_of_source};
+ghost use Rattle.bit_tape.specs.Tape.{GivesBit};
 
 use crate::buffer::{BitBuffer, MOST_BYTES};
 use crate::source::{Refill, Source};
@@ -35,23 +36,23 @@ pub struct Tape {
 impl Model for Tape {
     ghost use Rattle.std.specs.Prelude.{◌≡◌, ◌+◌, ◌/◌, ◌%◌, ◌^◌, ◌≤◌, length};
     ghost use Rattle.bit_tape.specs.Tape.{TapeState};
-    ghost use Rattle.bit_tape.specs.Source.{source_of, GoesOn};
+    ghost use Rattle.bit_tape.specs.Source.{name_or_seed, SourceGoesOn};
 
     ghost Value = { TapeState };
 
     ghost view = { λ t. record {
-      source = source_of t.source;
+      source = name_or_seed t.source;
       used = t.used;
       ahead = t.buffer.bytes;
     } };
 
     ghost invariant = { λ t. (t.buffer.bit ≡ t.used % 8) ×
         (t.used / 8 + length t.buffer.bytes ≤ 2 ^ 60)
-        × GoesOn t.source (t.used / 8) t.buffer.bytes };
+        × SourceGoesOn t.source (t.used / 8) t.buffer.bytes };
 }
 
 impl Tape {
-    ghost use Rattle.bit_tape.specs.Answers.{Tells, Leaves, is_fault};
+    ghost use Rattle.bit_tape.specs.Answers.{TellsBit, UsesOrLeavesTape, is_fault};
     ghost use Rattle.bit_tape.specs.RefillsTape.{RefillsTape};
 
     /// The tape over the bytes under a name. Its bits are those of the bytes in order, each byte's
@@ -59,7 +60,7 @@ impl Tape {
     #[tactic(auto, using(crate::proofs::NewTapes::belongs_new))]
     pub fn over(name: Word) -> Tape
         ensures new { result ≡ record { source = TapeSource.Named name; used = 0; ahead = [] } }
-        ensures belongs { (contents : List ℕ → Option (List ℕ)) → Belongs contents result }
+        ensures belongs { (contents : List ℕ → Option (List ℕ)) → BelongsToShelf contents result }
     {
         Tape {
             source: Source::File(name),
@@ -74,7 +75,7 @@ impl Tape {
     #[tactic(auto, using(crate::proofs::NewTapes::belongs_new))]
     pub fn seeded(seed: u64) -> Tape
         ensures new { result ≡ record { source = TapeSource.Seeded seed; used = 0; ahead = [] } }
-        ensures belongs { (contents : List ℕ → Option (List ℕ)) → Belongs contents result }
+        ensures belongs { (contents : List ℕ → Option (List ℕ)) → BelongsToShelf contents result }
     {
         Tape {
             source: Source::Seed(Words::new(seed)),
@@ -98,11 +99,11 @@ impl Tape {
     /// this
     /// call, by one. Both leave the tape as it was. A seeded tape never asks the shelf.
     pub fn next_bit<S: Shelf>(&mut self, shelf: &mut S) -> BitAnswer
-        requires belongs { Belongs (S.content shelf.old) self.old }
-        ensures tells { IfSome (bits_of self.old.source (S.content shelf.old))
-            (λ bits. Tells result (bits self.old.used)) }
+        requires belongs { BelongsToShelf (S.content shelf.old) self.old }
+        ensures tells { IfSome (bits_of_source self.old.source (S.content shelf.old))
+            (λ bits. TellsBit result (bits self.old.used)) }
         ensures limit { 2 ^ 63 ≤ self.old.used → result ≡ BitAnswer.Ended }
-        ensures leaves { Leaves result self.old self.new }
+        ensures leaves { UsesOrLeavesTape result self.old self.new }
         ensures asks { 0 < length self.old.ahead → shelf.new ≡ shelf.old }
         ensures tape { LeavesTape S.content S.faults (is_fault result) shelf.old shelf.new self.old
             self.new }

@@ -5,8 +5,8 @@ use Rattle.bz_model.specs.Spec.{Spec}
 use Rattle.bz_model.specs.declared.fraction.Fraction.{Fraction}
 use Rattle.bz_outside.specs.Outside.{Rose, Appends}
 use Rattle.bit_tape.specs.Bits.{file_bit, seed_bit}
-use Rattle.bit_tape.specs.Tape.{bits_of}
-use Rattle.command_words.specs.Commands.{IsCommand, Refuses}
+use Rattle.bit_tape.specs.Tape.{bits_of_source}
+use Rattle.command_words.specs.Commands.{IsCommand, RefusesWords}
 use Rattle.command_words.specs.Fractions.{fraction_bits}
 use Rattle.command_words.specs.declared.command.Command.{Command}
 use Rattle.command_words.specs.declared.command.Command.TheVariants as command
@@ -29,7 +29,7 @@ use Rattle.call_stages.specs.Outcomes.{Outcome, Says, MaySay, IsOne}
 use Rattle.call_stages.specs.Outcomes as outcomes
 use Rattle.call_stages.specs.Refusals.{words_line}
 use Rattle.sample_command.specs.SampleCommand.{source_of, tape_in, DrawnOver}
-use Rattle.boltz.specs.SpecCommand.{Printed, spec_text}
+use Rattle.boltz.specs.SpecCommand.{SpecPrinted, spec_text}
 use Rattle.call_stages.specs.Stages.{IsCalm, AreCalm, Files, files, Based}
 use Rattle.call_stages.specs.declared.status.Status.{Status}
 use Rattle.boltz.proofs.Commands.{not-refused, one-fault, pool_limits}
@@ -48,7 +48,7 @@ use Rattle.rank_commands.specs.RankCommand.{CarriesRank}
 use Rattle.call_stages.proofs.OneReading.{one-said, one-specified, one-based}
 
 -- the tape of a sample is known, and no read of it failed
-pub known-bits : (f : Files) (word : TapeWord) → AreCalm f (tape_files word) → (bits : ℕ → Option Bool) × (bits_of (source_of word) f.content ≡ Some bits)
+pub known-bits : (f : Files) (word : TapeWord) → AreCalm f (tape_files word) → (bits : ℕ → Option Bool) × (bits_of_source (source_of word) f.content ≡ Some bits)
 known-bits f (tape.File name) calm = (file_bit calm.0.bytes, ap (option_map file_bit) calm.0.known)
 known-bits f (tape.Seed seed) calm = (seed_bit seed, refl)
 
@@ -71,7 +71,7 @@ pub record CommandLaws : Type 0 where
 
 -- Each command has one outcome where its files are calm. A command adds its line.
 pub one-carried : (laws : CommandLaws) (f : Files) (asked : Command) → IsStoodFor asked → AreCalm f (files_of asked) → IsOne (Carries f asked)
-one-carried laws f (command.Spec file) named calm = one-specified f file Printed calm.0 (λ s. one-said Status.Done (spec_text s) 0)
+one-carried laws f (command.Spec file) named calm = one-specified f file SpecPrinted calm.0 (λ s. one-said Status.Done (spec_text s) 0)
 one-carried laws f (command.Oracle file x F) named calm = one-specified f file (λ s. Based (setting s x.num x.den (fraction_bits F)) (Bounded (setting s x.num x.den (fraction_bits F)))) calm.0 (λ s. one-based (setting s x.num x.den (fraction_bits F)) (Bounded (setting s x.num x.den (fraction_bits F))) (λ base. one-said Status.Done (bounded_text (setting s x.num x.den (fraction_bits F)) base) (cost_at 6)))
 one-carried laws f (command.Sample file x word limits F fast) named calm =
     let bits = known-bits f word calm.1 in
@@ -123,7 +123,7 @@ carried_answers words f asked b a fb fa tb ta result named h = ends_as (Carries 
 
 -- A call whose words are refused and that ends by writing that refusal ends as an answer to those
 -- words.
-pub refused_answers : (words : List (List ℕ)) (f : Files) (fault : WordsFault) (b a : Option (List ℕ)) (fb fa tb ta : ℕ) (result : Status) → Refuses words fault → EndsBy (Unworded fault) (output b a fb fa tb ta) result → EndsBy (Answers (world words f)) (output b a fb fa tb ta) result
+pub refused_answers : (words : List (List ℕ)) (f : Files) (fault : WordsFault) (b a : Option (List ℕ)) (fb fa tb ta : ℕ) (result : Status) → RefusesWords words fault → EndsBy (Unworded fault) (output b a fb fa tb ta) result → EndsBy (Answers (world words f)) (output b a fb fa tb ta) result
 refused_answers words f fault b a fb fa tb ta result refuses h = ends_as (Unworded fault) (Answers (world words f)) b a fb fa tb ta result (λ status text ticks p. answers.refused fault refuses p) h
 
 -- words that stand for a command aren't refused

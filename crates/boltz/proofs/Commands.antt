@@ -4,7 +4,7 @@ use Rattle.size_window.specs.Drawing.{AreLimits as AreWithin, limits_of}
 use Rattle.size_window.specs.declared.limits.Limits.{Limits}
 use Rattle.command_words.specs.Values.{IsSet}
 use Rattle.command_words.specs.Words.{Given, Takes}
-use Rattle.command_words.specs.Commands.{AreLimitsAsked, Makes, IsCommand, Refuses}
+use Rattle.command_words.specs.Commands.{AreLimitsAsked, Makes, IsCommand, RefusesWords}
 use Rattle.command_words.specs.Commands as makes
 use Rattle.command_words.specs.declared.command.Command.{Command}
 use Rattle.command_words.specs.declared.command.Command.TheVariants as command
@@ -21,13 +21,13 @@ use Rattle.boltz.specs.Commands.{IsStoodFor}
 use Rattle.bz_model.specs.declared.fraction.Fraction.{Fraction}
 
 -- words that stand for a command aren't refused
-pub not-refused : (words : List (List ℕ)) (c : Command) (fault : WordsFault) → IsCommand words c → fault ≢ OutOfMemory → ¬ (Refuses words fault)
+pub not-refused : (words : List (List ℕ)) (c : Command) (fault : WordsFault) → IsCommand words c → fault ≢ OutOfMemory → ¬ (RefusesWords words fault)
 not-refused words c NotACommand is memory refuses = refuses.formless is.name is.arguments is.form
 not-refused words c (BadValue name) is memory refuses = no_bad_value words c name is refuses
 not-refused words c OutOfMemory is memory refuses = memory refl
 
 -- words are refused in one way
-pub one-fault : (words : List (List ℕ)) (a b : WordsFault) → a ≢ OutOfMemory → b ≢ OutOfMemory → Refuses words a → Refuses words b → a ≡ b
+pub one-fault : (words : List (List ℕ)) (a b : WordsFault) → a ≢ OutOfMemory → b ≢ OutOfMemory → RefusesWords words a → RefusesWords words b → a ≡ b
 one-fault words OutOfMemory b m n h i = absurd (m refl)
 one-fault words NotACommand OutOfMemory m n h i = absurd (n refl)
 one-fault words (BadValue v) OutOfMemory m n h i = absurd (n refl)

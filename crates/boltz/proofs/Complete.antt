@@ -5,7 +5,7 @@ use Rattle.bz_model.specs.Fraction.{ratio}
 use Rattle.bz_model.specs.Spec.{Spec}
 use Rattle.bz_model.specs.WellFounded.{IsWellFounded}
 use Rattle.bz_model.specs.declared.fraction.Fraction.{Fraction}
-use Rattle.bit_tape.specs.Tape.{bits_of}
+use Rattle.bit_tape.specs.Tape.{bits_of_source}
 use Rattle.oracle_memo.specs.Levels.{level_bounds_from, cost_at}
 use Rattle.rounded_map.specs.RoundedMap.{Setting, setting}
 use Rattle.size_window.specs.Drawing.{limits_of}
@@ -13,7 +13,7 @@ use Rattle.size_window.specs.RunByBits.{Limits as Window, Course, Ending}
 use Rattle.size_window.specs.declared.limits.Limits.{Limits}
 use Rattle.newton_upper.specs.BaseRule.{HasNoUpper}
 use Rattle.newton_upper.specs.declared.trials.Trial.{Trial}
-use Rattle.command_words.specs.Commands.{IsCommand, Refuses}
+use Rattle.command_words.specs.Commands.{IsCommand, RefusesWords}
 use Rattle.command_words.specs.Fractions.{fraction_bits}
 use Rattle.command_words.specs.declared.command.Command.{Command}
 use Rattle.command_words.specs.declared.command.Command.TheVariants as command
@@ -26,7 +26,7 @@ use Rattle.boltz.specs.Answers as answers
 use Rattle.boltz.specs.Commands.{Specifies, AreRefused}
 use Rattle.boltz.specs.Complete.{IsGiven, IsFit, AsksToPrint, IsUnfit, undisturbed, IsDrawable, IsBoundable, IsBaseless, IsWithoutFast}
 use Rattle.boltz.specs.Complete as complete
-use Rattle.sample_command.specs.Drawn.{TapeMet, HasFailed, Drawn, Lists, drawn_header, closing_lines, ending_status}
+use Rattle.sample_command.specs.Drawn.{TapeMet, HasFailed, Drawn, Lists, drawn_header, closing_text, ending_status}
 use Rattle.sample_command.specs.Drawn as drawn
 use Rattle.bulk_command.specs.BulkText.{bulk_text}
 use Rattle.bulk_command.specs.BulkCommand.{BulkDrawn}
@@ -56,7 +56,7 @@ use Rattle.call_stages.specs.Refusals.{words_line, no_upper_text, no_fast_line}
 use Rattle.sample_command.specs.SampleCommand.{DrawnFrom, DrawnOver, source_of, tape_in}
 use Rattle.sample_command.specs.Starts.{format_of, start_of, Started}
 use Rattle.sample_command.specs.Starts as starting
-use Rattle.boltz.specs.SpecCommand.{Printed, spec_text}
+use Rattle.boltz.specs.SpecCommand.{SpecPrinted, spec_text}
 use Rattle.call_stages.specs.Stages.{IsCalm, Files, IsAccepted, FileRead, Judged, Specified, Based}
 use Rattle.call_stages.specs.Stages as stages
 use Rattle.call_stages.specs.declared.status.Status.{Status}
@@ -89,14 +89,14 @@ fit-only w asked file s fit next status text ticks memory p = specified-only w.f
 pub printed : (w : World) (s : Spec) (status : Status) (text : List ℕ) (ticks : ℕ) → AsksToPrint w s → status ≢ Status.OutOfMemory → Answers w status text ticks → (status ≡ Status.Done) × (text ≡ spec_text s)
 printed w s status text ticks p memory h =
     let asked = command.Spec p.file in
-    may-say-only Status.Done (spec_text s) 0 status text ticks memory (fit-only w asked p.file s p.fit Printed status text ticks memory (outcome-of w asked p.fit.named status text ticks memory h))
+    may-say-only Status.Done (spec_text s) 0 status text ticks memory (fit-only w asked p.file s p.fit SpecPrinted status text ticks memory (outcome-of w asked p.fit.named status text ticks memory h))
 
 -- what is read of an unfit specification is refused
 unfit-only : (w : World) (p : IsUnfit w) (next : Spec → Outcome) (status : Status) (text : List ℕ) (ticks : ℕ) → status ≢ Status.OutOfMemory → Specified w.files p.file next status text ticks → status ≡ Status.SpecRefused
 unfit-only w p next status text ticks memory h = unfit-refused next (take 65537 p.bytes) p.unfit status text ticks memory (read-only w.files p.file 65537 (Judged next) (calm-of w p.asked p.file p.bytes p.given) status text ticks memory h)
 
 unfit-carried : (w : World) (p : IsUnfit w) (asked : Command) → Specifies asked p.file → (status : Status) (text : List ℕ) (ticks : ℕ) → status ≢ Status.OutOfMemory → Carries w.files asked status text ticks → status ≡ Status.SpecRefused
-unfit-carried w p (command.Spec file) is status text ticks memory h = unfit-only w p Printed status text ticks memory (subst (λ f. Specified w.files f Printed status text ticks) is h)
+unfit-carried w p (command.Spec file) is status text ticks memory h = unfit-only w p SpecPrinted status text ticks memory (subst (λ f. Specified w.files f SpecPrinted status text ticks) is h)
 unfit-carried w p (command.Oracle file x F) is status text ticks memory h =
     let next = λ (s : Spec). Based (setting s x.num x.den (fraction_bits F)) (Bounded (setting s x.num x.den (fraction_bits F))) in
     unfit-only w p next status text ticks memory (subst (λ f. Specified w.files f next status text ticks) is h)
@@ -150,7 +150,7 @@ baseless w s x F status text ticks (complete.to_draw file word limits fast fit n
     baseless-only (t s) (DrawnOver fast (t s) (limits_of limits) met) none status text ticks memory (fit-only w asked file s fit (λ s. Based (t s) (DrawnOver fast (t s) (limits_of limits) met)) status text ticks memory (outcome-of w asked fit.named status text ticks memory h))
 
 -- a drawing over a tape that is known is the undisturbed one
-drawn-only : (cost : ℕ → ℕ) (header : List ℕ) (a : Setting) (base start : List ℕ) (limits : Window) (t : TapeMet) (bits : ℕ → Option Bool) (turns : ℕ) (ending : Ending) → bits_of t.source t.contents ≡ Some bits → ¬ (HasFailed t) → (undisturbed a base start limits bits turns).state.ending ≡ Some ending → (status : Status) (text : List ℕ) (ticks : ℕ) → status ≢ Status.OutOfMemory → Drawn cost header a.spec (ratio a.num a.den) a.bits (level_bounds_from a start base) limits t status text ticks → (status ≡ ending_status ending) × ((lines : List ℕ) × Lists a.spec (undisturbed a base start limits bits turns).entries lines × (text ≡ header ++ (lines ++ closing_lines (level_bounds_from a start base) (undisturbed a base start limits bits turns) ending)))
+drawn-only : (cost : ℕ → ℕ) (header : List ℕ) (a : Setting) (base start : List ℕ) (limits : Window) (t : TapeMet) (bits : ℕ → Option Bool) (turns : ℕ) (ending : Ending) → bits_of_source t.source t.contents ≡ Some bits → ¬ (HasFailed t) → (undisturbed a base start limits bits turns).state.ending ≡ Some ending → (status : Status) (text : List ℕ) (ticks : ℕ) → status ≢ Status.OutOfMemory → Drawn cost header a.spec (ratio a.num a.den) a.bits (level_bounds_from a start base) limits t status text ticks → (status ≡ ending_status ending) × ((lines : List ℕ) × Lists a.spec (undisturbed a base start limits bits turns).entries lines × (text ≡ header ++ (lines ++ closing_text (level_bounds_from a start base) (undisturbed a base start limits bits turns) ending)))
 drawn-only cost header a base start limits t bits turns ending are_known calm ends status text ticks memory (drawn.so_far c given first others lines h e l says) = absurd (memory says.status_is)
 drawn-only cost header a base start limits t bits turns ending are_known calm ends status text ticks memory (drawn.no_memory says) = absurd (memory says.status_is)
 drawn-only cost header a base start limits t bits turns ending are_known calm ends status text ticks memory (drawn.ended c given d lines h l says) =
@@ -159,13 +159,13 @@ drawn-only cost header a base start limits t bits turns ending are_known calm en
       (
         lines,
         subst (λ (z : Course). Lists a.spec z.entries lines) same.0 l,
-        says.text_is ∙ ap (λ (z : Course). header ++ (lines ++ closing_lines (level_bounds_from a start base) z d)) same.0 ∙ ap (λ z. header ++ (lines ++ closing_lines (level_bounds_from a start base) (undisturbed a base start limits bits turns) z)) same.1,
+        says.text_is ∙ ap (λ (z : Course). header ++ (lines ++ closing_text (level_bounds_from a start base) z d)) same.0 ∙ ap (λ z. header ++ (lines ++ closing_text (level_bounds_from a start base) (undisturbed a base start limits bits turns) z)) same.1,
       ),
     )
 
 -- A drawing that the words ask for and that ends is answered by its header, kept objects' lines,
 -- closing and its ending's status, unless memory runs out.
-pub draws : (w : World) (s : Spec) (x : Fraction) (F : FractionBits) (fast : Bool) (turns : ℕ) (limits : Limits) (base start : List ℕ) (bits : ℕ → Option Bool) (ending : Ending) (status : Status) (text : List ℕ) (ticks : ℕ) → IsDrawable w s x F fast limits base start bits turns ending → status ≢ Status.OutOfMemory → Answers w status text ticks → (status ≡ ending_status ending) × ((lines : List ℕ) × Lists s (undisturbed (setting s x.num x.den (fraction_bits F)) base start (limits_of limits) bits turns).entries lines × (text ≡ drawn_header (format_of fast) (setting s x.num x.den (fraction_bits F)) base (limits_of limits) ++ (lines ++ closing_lines (level_bounds_from (setting s x.num x.den (fraction_bits F)) start base) (undisturbed (setting s x.num x.den (fraction_bits F)) base start (limits_of limits) bits turns) ending)))
+pub draws : (w : World) (s : Spec) (x : Fraction) (F : FractionBits) (fast : Bool) (turns : ℕ) (limits : Limits) (base start : List ℕ) (bits : ℕ → Option Bool) (ending : Ending) (status : Status) (text : List ℕ) (ticks : ℕ) → IsDrawable w s x F fast limits base start bits turns ending → status ≢ Status.OutOfMemory → Answers w status text ticks → (status ≡ ending_status ending) × ((lines : List ℕ) × Lists s (undisturbed (setting s x.num x.den (fraction_bits F)) base start (limits_of limits) bits turns).entries lines × (text ≡ drawn_header (format_of fast) (setting s x.num x.den (fraction_bits F)) base (limits_of limits) ++ (lines ++ closing_text (level_bounds_from (setting s x.num x.den (fraction_bits F)) start base) (undisturbed (setting s x.num x.den (fraction_bits F)) base start (limits_of limits) bits turns) ending)))
 draws w s x F fast turns limits base start bits ending status text ticks p memory h =
     let asked = command.Sample p.file x p.word limits F fast in
     let t = λ (s : Spec). setting s x.num x.den (fraction_bits F) in
@@ -282,7 +282,7 @@ module _ (s : Spec) (next : Certificate → Outcome) (on : (c : Certificate) (st
   tested-no-words f cert (stages.read bytes are p) is = certificate-no-words bytes p is
 
 carried-no-words : (f : Files) (asked : Command) → (status : Status) (text : List ℕ) (ticks : ℕ) → Carries f asked status text ticks → status ≡ Status.WordsRefused → ⊥
-carried-no-words f (command.Spec file) status text ticks h is = specified-no-words f file Printed (λ s status text ticks p e. said-no-words Status.Done (spec_text s) 0 status text ticks (λ e. absurd (cc)) p e) status text ticks h is
+carried-no-words f (command.Spec file) status text ticks h is = specified-no-words f file SpecPrinted (λ s status text ticks p e. said-no-words Status.Done (spec_text s) 0 status text ticks (λ e. absurd (cc)) p e) status text ticks h is
 carried-no-words f (command.Oracle file x F) status text ticks h is =
     let t = λ (s : Spec). setting s x.num x.den (fraction_bits F) in
     specified-no-words f file (λ s. Based (t s) (Bounded (t s))) (λ s. based-no-words (t s) (Bounded (t s)) (λ base status text ticks p e. said-no-words Status.Done (bounded_text (t s) base) (cost_at 6) status text ticks (λ e. absurd (cc)) p e)) status text ticks h is
@@ -313,7 +313,7 @@ words_only w status text ticks (answers.refused fault refuses (answers.no_memory
 words_only w status text ticks (answers.carried asked named h) is = absurd (carried-no-words w.files asked status text ticks h is)
 
 -- words that stand for no command
-pub no_command : (w : World) (fault : WordsFault) (status : Status) (text : List ℕ) (ticks : ℕ) → Refuses w.words fault → fault ≢ WordsFault.OutOfMemory → status ≢ Status.OutOfMemory → Answers w status text ticks → (status ≡ Status.WordsRefused) × (text ≡ words_line fault)
+pub no_command : (w : World) (fault : WordsFault) (status : Status) (text : List ℕ) (ticks : ℕ) → RefusesWords w.words fault → fault ≢ WordsFault.OutOfMemory → status ≢ Status.OutOfMemory → Answers w status text ticks → (status ≡ Status.WordsRefused) × (text ≡ words_line fault)
 no_command w fault status text ticks refuses m memory (answers.refused other refuses_too (answers.refused n says)) = (says.status_is, says.text_is ∙ ap words_line (one-fault w.words other fault n m refuses_too refuses))
 no_command w fault status text ticks refuses m memory (answers.refused other refuses_too (answers.no_memory says)) = absurd (memory says.status_is)
 no_command w fault status text ticks refuses m memory (answers.carried asked named h) = absurd (not-refused w.words asked fault named m refuses)

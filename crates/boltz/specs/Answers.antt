@@ -2,7 +2,7 @@
 -- these definitions, and a line here.
 use Rattle.std.specs.Prelude.{◌≡◌, ◌≢◌, ℕ, List, [], ◌∷◌, Option, Some}
 use Rattle.bz_outside.specs.Outside.{Rose}
-use Rattle.command_words.specs.Commands.{IsCommand, Refuses}
+use Rattle.command_words.specs.Commands.{IsCommand, RefusesWords}
 use Rattle.command_words.specs.Fractions.{fraction_bits}
 use Rattle.command_words.specs.declared.command.Command.{Command}
 use Rattle.command_words.specs.declared.command.Command.TheVariants as command
@@ -60,7 +60,7 @@ pub data Unworded (fault : WordsFault) (status : Status) (text : List ℕ) (tick
 
 -- Words are read: they are refused, or they stand for a command and it is carried out.
 pub data Answers (w : World) (status : Status) (text : List ℕ) (ticks : ℕ) : Type 0 where
-  refused : (fault : WordsFault) → Refuses w.words fault → Unworded fault status text ticks
+  refused : (fault : WordsFault) → RefusesWords w.words fault → Unworded fault status text ticks
       → Answers w status text ticks
   carried : (asked : Command) → IsCommand w.words asked → Carries w.files asked status text ticks
       → Answers w status text ticks

@@ -1,6 +1,6 @@
 -- Which words are refused, and which specification a command reads.
 use Rattle.std.specs.Prelude.{◌≡◌, ◌≢◌, ℕ, List}
-use Rattle.command_words.specs.Commands.{IsCommand, Refuses}
+use Rattle.command_words.specs.Commands.{IsCommand, RefusesWords}
 use Rattle.command_words.specs.declared.command.Command.{Command}
 use Rattle.command_words.specs.declared.command.Command.TheVariants as command
 use Rattle.command_words.specs.declared.fault.WordsFault.{WordsFault}
@@ -29,4 +29,4 @@ pub record IsStoodFor (asked : Command) : Type 0 where
 pub record AreRefused (words : List (List ℕ)) : Type 0 where
   pub fault : WordsFault
   pub not_memory : fault ≢ WordsFault.OutOfMemory
-  pub refuses : Refuses words fault
+  pub refuses : RefusesWords words fault

@@ -4,7 +4,7 @@ use Rattle.std.specs.Prelude.{true, ◌≡◌, ℕ, Bool, List, take, Option, So
 use Rattle.bz_model.specs.Spec.{Spec}
 use Rattle.bz_model.specs.WellFounded.{IsWellFounded}
 use Rattle.bz_model.specs.declared.fraction.Fraction.{Fraction}
-use Rattle.bit_tape.specs.Tape.{bits_of}
+use Rattle.bit_tape.specs.Tape.{bits_of_source}
 use Rattle.newton_upper.specs.BaseRule.{base_of}
 use Rattle.oracle_memo.specs.Levels.{level_bounds_from}
 use Rattle.rounded_map.specs.RoundedMap.{Setting, setting}
@@ -99,7 +99,7 @@ pub record IsDrawable (w : World) (s : Spec) (x : Fraction) (F : FractionBits) (
   pub fit : IsFit w (command.Sample file x word limits F fast) file s
   pub has_base : base_of (setting s x.num x.den (fraction_bits F)) ≡ Some base
   pub has_start : start_of fast (setting s x.num x.den (fraction_bits F)) base ≡ Some start
-  pub are_told : bits_of (source_of word) w.files.content ≡ Some bits
+  pub are_told : bits_of_source (source_of word) w.files.content ≡ Some bits
   pub no_fault : ¬ (HasFailed (tape_in w.files (source_of word)))
   pub ends : (undisturbed (setting s x.num x.den (fraction_bits F)) base start (limits_of limits)
       bits turns).state.ending ≡ Some ending

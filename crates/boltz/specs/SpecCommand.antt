@@ -12,9 +12,9 @@ abbrev pub spec_text : Spec → List ℕ
 spec_text s = canonical_text s ++ spec_end_line (length s.names) (length s.nodes)
 
 -- A specification is printed in its canonical form.
-abbrev pub Printed : Spec → Outcome
-Printed s = MaySay Status.Done (spec_text s) 0
+abbrev pub SpecPrinted : Spec → Outcome
+SpecPrinted s = MaySay Status.Done (spec_text s) 0
 
 -- `spec FILE`: a specification is read, judged and printed.
 abbrev pub CarriesSpec : Files → (file : List ℕ) → Outcome
-CarriesSpec f file = Specified f file Printed
+CarriesSpec f file = Specified f file SpecPrinted

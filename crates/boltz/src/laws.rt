@@ -6,7 +6,7 @@ ghost use Rattle.std.specs.Prelude.{◌≡◌, ◌≢◌, ◌⊎◌, ℕ, Bool, 
 ghost use Rattle.bz_model.specs.Spec.{Spec};
 ghost use Rattle.bz_model.specs.declared.fraction.Fraction.{Fraction};
 ghost use Rattle.bz_outside.specs.Outside.{Rose};
-ghost use Rattle.command_words.specs.Commands.{IsCommand, Refuses};
+ghost use Rattle.command_words.specs.Commands.{IsCommand, RefusesWords};
 ghost use Rattle.command_words.specs.Fractions.{fraction_bits};
 ghost use Rattle.certificate.specs.declared.certificate.Certificate.{Certificate};
 ghost use Rattle.certificate_commands.specs.Completeness.{HasCertificate, HoldsText, IsVerifiedAs};
@@ -30,7 +30,7 @@ ghost use Rattle.boltz.specs.Complete.{IsWithoutFast, IsCountable, undisturbed};
 ghost use Rattle.bulk_command.specs.BulkCommand.{bulk_course, course_line};
 ghost use Rattle.bulk_command.specs.BulkTables.{bulk_tables};
 ghost use Rattle.sample_command.specs.Starts.{format_of};
-ghost use Rattle.sample_command.specs.Drawn.{Lists, drawn_header, closing_lines, ending_status};
+ghost use Rattle.sample_command.specs.Drawn.{Lists, drawn_header, closing_text, ending_status};
 ghost use Rattle.call_stages.specs.Ends.{Output, EndsBy, IsWritten};
 ghost use Rattle.boltz.specs.OracleCommand.{bounded_text};
 ghost use Rattle.call_stages.specs.Outcomes.{IsOne};
@@ -84,7 +84,7 @@ pub fn a_call_has_the_outcome_of_its_command()
 /// aren't refused.
 pub fn words_are_refused_by_their_line()
     ensures no_command { (w : World) (fault : WordsFault) (status : Status) (text : List ℕ)
-        (ticks : ℕ) → Refuses w.words fault
+        (ticks : ℕ) → RefusesWords w.words fault
         → fault ≢ WordsFault.OutOfMemory → status ≢ Status.OutOfMemory → Answers w status text ticks
         → (status ≡ Status.WordsRefused) × (text ≡ words_line fault) }
     ensures only { (w : World) (status : Status) (text : List ℕ) (ticks : ℕ)
@@ -140,7 +140,7 @@ pub fn what_can_be_drawn_is_drawn()
         × (text ≡ drawn_header (format_of fast) (setting s x.num x.den (fraction_bits F)) base
         (limits_of limits)
         ++ (lines
-        ++ closing_lines (level_bounds_from (setting s x.num x.den (fraction_bits F)) start
+        ++ closing_text (level_bounds_from (setting s x.num x.den (fraction_bits F)) start
         base) (undisturbed (setting s x.num x.den (fraction_bits F)) base start
         (limits_of limits) bits turns) ending))) }
 {}

@@ -1,7 +1,7 @@
 //! The command `spec`: a specification in its canonical form.
 ghost use Rattle.std.specs.Prelude.{◌≡◌, ℕ, ◌≤◌, List, IfOk};
 ghost use Rattle.call_stages.specs.Ends.{EndsBy, output};
-ghost use Rattle.boltz.specs.SpecCommand.{CarriesSpec, Printed, spec_text};
+ghost use Rattle.boltz.specs.SpecCommand.{CarriesSpec, SpecPrinted, spec_text};
 ghost use Rattle.call_stages.specs.Stages.{files};
 
 use bz_outside::shelf::Shelf;
@@ -35,7 +35,7 @@ pub fn spec<S: Shelf, K: Sink>(alloc: Global, file: &Word, shelf: &mut S, out: &
 /// Prints a specification in its canonical form.
 fn printed<K: Sink>(alloc: Global, founded: &Founded, out: &mut K) -> Status
     ensures ends { (ticks : ℕ)
-        → EndsBy (Printed founded.now)
+        → EndsBy (SpecPrinted founded.now)
         (output (K.written out.old) (K.written out.new) (K.faults out.old) (K.faults out.new) ticks
         ticks) result }
     ensures writes { K.faults out.old ≤ K.faults out.new }

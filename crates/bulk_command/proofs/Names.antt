@@ -10,7 +10,7 @@ use Rattle.std.proofs.lemmas.List.Sums.{AllPass-from_list_all}
 use Rattle.std.proofs.lemmas.Option.{slice_get_within, same_Some}
 use Rattle.class_system.specs.Words.{is_run_byte, IsName}
 use Rattle.class_system.specs.Distinct.{AreDistinct}
-use Rattle.bulk_command.specs.BulkText.{classes_of, class_name}
+use Rattle.bulk_command.specs.BulkText.{classes_of, numbered_name}
 use Rattle.bulk_command.proofs.Blocks.{at-mapped}
 
 -- there are 2 to 41 classes
@@ -42,23 +42,23 @@ each-below test (suc n) i less e = go (λ h. each-below test n i h (both (test n
 
 -- a name of a class is short, and its bytes are letters and digits
 is_short_run : ℕ → Bool
-is_short_run class = nat_le (length (class_name class)) 32 && list_all is_run_byte (class_name class)
+is_short_run class = nat_le (length (numbered_name class)) 32 && list_all is_run_byte (numbered_name class)
 
 all-short : all_below is_short_run 41 ≡ true
 unfolding all_below is_short_run digits
 all-short = refl
 
-short-run : (class : ℕ) → class < 41 → (length (class_name class) ≤ 32) × AllPass is_run_byte (class_name class)
+short-run : (class : ℕ) → class < 41 → (length (numbered_name class) ≤ 32) × AllPass is_run_byte (numbered_name class)
 unfolding is_short_run
 short-run class less =
-    let h = both (nat_le (length (class_name class)) 32) (list_all is_run_byte (class_name class)) (each-below is_short_run 41 class less all-short) in
-    (search rules, AllPass-from_list_all is_run_byte (class_name class) h.1)
+    let h = both (nat_le (length (numbered_name class)) 32) (list_all is_run_byte (numbered_name class)) (each-below is_short_run 41 class less all-short) in
+    (search rules, AllPass-from_list_all is_run_byte (numbered_name class) h.1)
 
-other-word : (class b : ℕ) (rest : List ℕ) → 65 ≢ b → class_name class ≢ (b ∷ rest)
+other-word : (class b : ℕ) (rest : List ℕ) → 65 ≢ b → numbered_name class ≢ (b ∷ rest)
 other-word class b rest differ e = differ (ap (λ word. slice_index word 0) e)
 
 -- The letter A followed by a number below 41 is an allowed name of a class.
-pub is-name : (class : ℕ) → class < 41 → IsName (class_name class)
+pub is-name : (class : ℕ) → class < 41 → IsName (numbered_name class)
 is-name class less =
     let h = short-run class less in
     record {
@@ -69,16 +69,16 @@ is-name class less =
     }
 
 -- no two names are one
-one-name : (i j : ℕ) → i < 41 → j < 41 → class_name i ≡ class_name j → i ≡ j
+one-name : (i j : ℕ) → i < 41 → j < 41 → numbered_name i ≡ numbered_name j → i ≡ j
 one-name i j h k e = let same : decimal i ≡ decimal j = cc in decimal_injective i j (omega (arith, h)) (omega (arith, k)) same
 
 -- The names of at most 41 classes are pairwise distinct.
-pub are-distinct : (classes : ℕ) → classes ≤ 41 → AreDistinct (map class_name (range_with_len 0 classes))
+pub are-distinct : (classes : ℕ) → classes ≤ 41 → AreDistinct (map numbered_name (range_with_len 0 classes))
 are-distinct classes few = record { once = go }
   where
-    go : (i j : ℕ) (name : List ℕ) → slice_get (map class_name (range_with_len 0 classes)) i ≡ Some name → slice_get (map class_name (range_with_len 0 classes)) j ≡ Some name → i ≡ j
+    go : (i j : ℕ) (name : List ℕ) → slice_get (map numbered_name (range_with_len 0 classes)) i ≡ Some name → slice_get (map numbered_name (range_with_len 0 classes)) j ≡ Some name → i ≡ j
     go i j name at_i at_j =
-        let long = length-map-range_with_len class_name 0 classes in
-        let i_less : i < classes = subst (λ n. i < n) long (slice_get_within (map class_name (range_with_len 0 classes)) i name at_i) in
-        let j_less : j < classes = subst (λ n. j < n) long (slice_get_within (map class_name (range_with_len 0 classes)) j name at_j) in
-        one-name i j (omega (arith, i_less, few)) (omega (arith, j_less, few)) (same_Some (class_name i) (class_name j) (sym (at-mapped class_name classes i i_less) ∙ at_i ∙ sym at_j ∙ at-mapped class_name classes j j_less))
+        let long = length-map-range_with_len numbered_name 0 classes in
+        let i_less : i < classes = subst (λ n. i < n) long (slice_get_within (map numbered_name (range_with_len 0 classes)) i name at_i) in
+        let j_less : j < classes = subst (λ n. j < n) long (slice_get_within (map numbered_name (range_with_len 0 classes)) j name at_j) in
+        one-name i j (omega (arith, i_less, few)) (omega (arith, j_less, few)) (same_Some (numbered_name i) (numbered_name j) (sym (at-mapped numbered_name classes i i_less) ∙ at_i ∙ sym at_j ∙ at-mapped numbered_name classes j j_less))

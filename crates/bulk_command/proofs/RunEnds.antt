@@ -5,7 +5,7 @@ use Rattle.bz_model.specs.declared.cell.Bounds.{Bounds}
 use Rattle.bz_model.specs.Fraction.{Fraction, ratio}
 use Rattle.bz_model.specs.Spec.{Spec}
 use Rattle.bz_model.specs.WellFounded.{IsWellFounded}
-use Rattle.bit_tape.specs.Tape.{TapeSource, CountsFault, bits_of}
+use Rattle.bit_tape.specs.Tape.{TapeSource, CountsFault, bits_of_source}
 use Rattle.choice_draw.specs.Decision.{level_for}
 use Rattle.oracle_memo.specs.Levels.{level_bounds, cost_at}
 use Rattle.rounded_map.specs.RoundedMap.{Setting, setting}
@@ -42,7 +42,7 @@ bulk-limits n some few = record { window = omega arith; max = omega arith; some 
 pub starts-running : (law : TracesStart) (s : Spec) (x : Fraction) (F : ℕ) (table : (level node : ℕ) → Bounds) (limits : Limits) (source : TapeSource) (d : DrawingState) (used raised : ℕ) → used ≡ 0 → state_of d 0 ≡ start → d.limits ≡ limits → d.atoms ≡ 0 → raised ≡ 0 → IsRunning s x F table limits source d used raised
 starts-running law s x F table limits source d used raised none at within atoms unraised = record {
   most = 0;
-  so_far = course-starts law s x F table limits (bits_of source empty_files) d used none at within atoms;
+  so_far = course-starts law s x F table limits (bits_of_source source empty_files) d used none at within atoms;
   raised_is = unraised;
 }
 

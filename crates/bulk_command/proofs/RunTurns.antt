@@ -3,7 +3,7 @@ use Rattle.std.proofs.Common.{◌≡◌, ℕ, ◌-◌, max, subst, sym}
 use Rattle.bz_model.specs.declared.cell.Bounds.{Bounds}
 use Rattle.bz_model.specs.Fraction.{Fraction}
 use Rattle.bz_model.specs.Spec.{Spec}
-use Rattle.bit_tape.specs.Tape.{TapeSource, bits_of}
+use Rattle.bit_tape.specs.Tape.{TapeSource, bits_of_source}
 use Rattle.choice_draw.specs.Decision.{level_for}
 use Rattle.size_window.specs.declared.turned.Turned.{Turned as Answer}
 use Rattle.size_window.specs.RunByBits.{Limits}
@@ -15,10 +15,10 @@ use Rattle.bulk_command.specs.NoFiles.{empty_files}
 use Rattle.bulk_command.specs.Running.{IsRunning}
 
 -- a run is under way still
-pub running-on : (s : Spec) (x : Fraction) (F : ℕ) (table : (level node : ℕ) → Bounds) (limits : Limits) (source : TapeSource) (d now : DrawingState) (start used : ℕ) (a : Answer) → TellsTurn s x F table limits (bits_of source empty_files) d now start used a → (raised raised_now : ℕ) → raised_now ≡ max raised (level_for (node_bits d.waiting (used - start))) → IsRunning s x F table limits source d start raised → IsRunning s x F table limits source now used raised_now
+pub running-on : (s : Spec) (x : Fraction) (F : ℕ) (table : (level node : ℕ) → Bounds) (limits : Limits) (source : TapeSource) (d now : DrawingState) (start used : ℕ) (a : Answer) → TellsTurn s x F table limits (bits_of_source source empty_files) d now start used a → (raised raised_now : ℕ) → raised_now ≡ max raised (level_for (node_bits d.waiting (used - start))) → IsRunning s x F table limits source d start raised → IsRunning s x F table limits source now used raised_now
 running-on s x F table limits source d now start used a h raised raised_now raises p = record {
   most = max p.most (node_bits d.waiting (used - start));
-  so_far = so-far-on s x F table limits (bits_of source empty_files) d now start used a h p.most p.so_far;
+  so_far = so-far-on s x F table limits (bits_of_source source empty_files) d now start used a h p.most p.so_far;
   raised_is = raised-for raised raised_now p.most (node_bits d.waiting (used - start)) p.raised_is raises;
 }
 

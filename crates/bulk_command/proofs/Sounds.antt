@@ -14,7 +14,7 @@ use Rattle.class_system.specs.Sound.{HasTwoParts, RefersBelow, HasLeafWord, Suit
 use Rattle.class_system.specs.Words.{IsName}
 use Rattle.class_system.proofs.Growth.{SpanEach-append, SpanEach-more}
 use Rattle.bulk_command.specs.BulkTables.{class_nodes, tables_of}
-use Rattle.bulk_command.specs.BulkText.{class_name, next_class}
+use Rattle.bulk_command.specs.BulkText.{numbered_name, next_class}
 use Rattle.bulk_command.proofs.Blocks.{blocks-more, blocks-length, mapped-more, at-behind, each-blocks, each-mapped, each-six}
 use Rattle.bulk_command.proofs.Names.{is-name}
 
@@ -67,16 +67,16 @@ plain-ranges nodes each = record {
 -- The tables of 2 to 41 classes are sound.
 pub is-sound : (m : ℕ) → 2 ≤ m → m ≤ 41 → IsSound (tables_of m)
 is-sound m some few =
-    let named : length (map class_name (range_with_len 0 m)) ≡ m = length-map-range_with_len class_name 0 m in
+    let named : length (map numbered_name (range_with_len 0 m)) ≡ m = length-map-range_with_len numbered_name 0 m in
     let bodied : length (first_bodies m) ≡ m = length-map-range_with_len (λ class. 6 * class + 5) 0 m in
     let long : length (first_nodes m m) ≡ 6 * m = blocks-length (class_nodes m) (λ i. refl) m in
     record {
       a_class = omega (arith, named, some);
       bodies = bodied ∙ sym named;
       parts = each-blocks HasTwoParts (class_nodes m) m (λ i less. each-six HasTwoParts _ _ _ _ _ _ tt tt tt tt (omega arith) (omega arith));
-      references = each-blocks (RefersBelow (length (map class_name (range_with_len 0 m)))) (class_nodes m) m (λ i less. each-six (RefersBelow (length (map class_name (range_with_len 0 m)))) _ _ _ _ _ _ tt tt (omega (arith, named, less)) (let h = next-below m i some in omega (arith, named, h)) tt tt);
+      references = each-blocks (RefersBelow (length (map numbered_name (range_with_len 0 m)))) (class_nodes m) m (λ i less. each-six (RefersBelow (length (map numbered_name (range_with_len 0 m)))) _ _ _ _ _ _ tt tt (omega (arith, named, less)) (let h = next-below m i some in omega (arith, named, h)) tt tt);
       order = subst (SpanEach (first_nodes m m) 0 (first_bodies m)) (sym long) (in-order m m);
-      names = each-mapped IsName class_name m (λ i less. is-name i (omega (arith, less, few)));
+      names = each-mapped IsName numbered_name m (λ i less. is-name i (omega (arith, less, few)));
       leaves = each-blocks HasLeafWord (class_nodes m) m (λ i less. each-six HasLeafWord _ _ _ _ _ _ (search rules) (search rules) tt tt tt tt);
       modes = each-blocks (SuitsMode Mode.Unlabelled) (class_nodes m) m (λ i less. each-six (SuitsMode Mode.Unlabelled) _ _ _ _ _ _ tt tt tt tt tt tt);
       ranges = plain-ranges (first_nodes m m) (each-blocks (λ n. HasTextRange n (plain_range n)) (class_nodes m) m (λ i less. each-six (λ n. HasTextRange n (plain_range n)) _ _ _ _ _ _ refl refl refl refl refl refl));

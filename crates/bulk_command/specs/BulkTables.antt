@@ -2,7 +2,7 @@
 use Rattle.std.specs.Prelude.{ℕ, ◌+◌, ◌*◌, List, [], ◌∷◌, map, flat_map}
 use Rattle.std.specs.List.{range_with_len}
 use Rattle.bz_model.specs.Spec.{Spec, Mode, Node, plain_range}
-use Rattle.bulk_command.specs.BulkText.{classes_of, class_name, next_class}
+use Rattle.bulk_command.specs.BulkText.{classes_of, numbered_name, next_class}
 
 -- The nodes of a class: a neutral leaf, an atom, the class, the class after it, the product of
 -- these three, and the union of the first and the product.
@@ -24,7 +24,7 @@ all_nodes classes = flat_map (class_nodes classes) (range_with_len 0 classes)
 abbrev pub tables_of : (classes : ℕ) → Spec
 tables_of classes = record {
   mode = Mode.Unlabelled;
-  names = map class_name (range_with_len 0 classes);
+  names = map numbered_name (range_with_len 0 classes);
   bodies = map (λ class. 6 * class + 5) (range_with_len 0 classes);
   nodes = all_nodes classes;
   ranges = map plain_range (all_nodes classes);

@@ -8,8 +8,8 @@ abbrev pub classes_of : (n : ℕ) → ℕ
 classes_of n = 2 + n % 40
 
 -- A class's name is A with its number.
-abbrev pub class_name : (class : ℕ) → List ℕ
-class_name class = codes "A" ++ decimal class
+abbrev pub numbered_name : (class : ℕ) → List ℕ
+numbered_name class = codes "A" ++ decimal class
 
 -- After the last of so many classes comes the first.
 abbrev pub next_class : (classes class : ℕ) → ℕ
@@ -18,9 +18,9 @@ next_class classes class = (class + 1) % classes
 -- The line of a class: an object is empty, or an atom with an object of the class and one of the
 -- class after it.
 abbrev pub rule_line : (classes class : ℕ) → List ℕ
-rule_line classes class = class_name class
+rule_line classes class = numbered_name class
     ++ (codes " = E + Z*"
-    ++ (class_name class ++ (codes "*" ++ (class_name (next_class classes class) ++ feed))))
+    ++ (numbered_name class ++ (codes "*" ++ (numbered_name (next_class classes class) ++ feed))))
 
 -- The text: the mode, and the line of each class.
 abbrev pub bulk_text : (n : ℕ) → List ℕ

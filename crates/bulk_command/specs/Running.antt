@@ -3,7 +3,7 @@ use Rattle.std.specs.Prelude.{◌≡◌, ℕ, Bool, Option}
 use Rattle.bz_model.specs.Fraction.{Fraction}
 use Rattle.bz_model.specs.Spec.{Spec}
 use Rattle.bz_model.specs.declared.cell.Bounds.{Bounds}
-use Rattle.bit_tape.specs.Tape.{TapeSource, bits_of}
+use Rattle.bit_tape.specs.Tape.{TapeSource, bits_of_source}
 use Rattle.choice_draw.specs.Decision.{level_for}
 use Rattle.size_window.specs.RunByBits.{Limits}
 use Rattle.size_window.specs.Drawing.{DrawingState}
@@ -16,5 +16,5 @@ pub record IsRunning (s : Spec) (x : Fraction) (F : ℕ) (table : (level node : 
     → Bounds) (limits : Limits) (source : TapeSource) (d : DrawingState) (used raised : ℕ) : Type 0
   where
     pub most : ℕ
-    pub so_far : IsCourseSoFar s x F table limits (bits_of source empty_files) d used most
+    pub so_far : IsCourseSoFar s x F table limits (bits_of_source source empty_files) d used most
     pub raised_is : raised ≡ level_for most

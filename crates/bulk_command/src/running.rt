@@ -6,7 +6,7 @@ ghost use Rattle.bz_model.specs.Oracle.{AreCosts, LeavesOracle};
 ghost use Rattle.rounded_map.specs.RoundedMap.{setting, IsPostFixed};
 ghost use Rattle.size_window.specs.Drawing.{ending_of};
 ghost use Rattle.sample_command.specs.Drawn.{ending_word, ending_status};
-ghost use Rattle.sample_command.specs.UnderWay.{CanTurn, GoesOn, IsAtEnd, has_failed};
+ghost use Rattle.sample_command.specs.UnderWay.{CanTurn, DrawingGoesOn, IsAtEnd, has_failed};
 ghost use Rattle.call_stages.specs.Ends.{EndsBy, output};
 ghost use Rattle.call_stages.specs.Outcomes.{MaySay};
 ghost use Rattle.bulk_command.specs.BulkCommand.{run_counts, bulk_line, BulkDrawn};
@@ -193,7 +193,7 @@ fn turn_once<const F: u32, O: Oracle<F>, L: Ledger>(
         drawing.old.limits tape.old.source drawing.old tape.old.used (O.raised oracle.old)
         → IsRunning founded.now (O.x oracle.old) F (O.table oracle.old)
         drawing.old.limits tape.old.source drawing.new tape.new.used (O.raised oracle.new) }
-    ensures goes_on { IfOk result (GoesOn founded.now (O.x oracle.old) (O.table oracle.old)
+    ensures goes_on { IfOk result (DrawingGoesOn founded.now (O.x oracle.old) (O.table oracle.old)
         empty_files drawing.old.limits drawing.old drawing.new tape.new) }
     ensures oracle { LeavesOracle O.spec O.x O.table O.cost O.raised
         oracle.old oracle.new steps.old steps.new }

@@ -20,7 +20,7 @@ use Rattle.newton_upper.specs.declared.trials.Trial.{Trial}
 use Rattle.rounded_map.specs.RoundedMap.{Setting}
 use Rattle.call_stages.specs.Outcomes.{Outcome, Says, MaySay, IsOne}
 use Rattle.call_stages.specs.Outcomes as outcomes
-use Rattle.call_stages.specs.Refusals.{text_line, cause_line, no_upper_text}
+use Rattle.call_stages.specs.Refusals.{spec_fault_line, cause_line, no_upper_text}
 use Rattle.call_stages.specs.Stages.{Files, HasFailedRead, IsCalm, AreRead, FileRead, IsAccepted, Judged, Specified, Based}
 use Rattle.call_stages.specs.Stages as stages
 use Rattle.call_stages.specs.declared.status.Status.{Status}
@@ -106,7 +106,7 @@ module _ (next : Spec → Outcome) (bytes : List ℕ) (ones : (s : Spec) → IsS
   judged-twice (stages.refused fault mem refuses says) (stages.no_memory says_too) = no-answer other [] others 0 more n says_too
   judged-twice (stages.refused fault mem refuses says) (stages.founded s a g p) = not-refused bytes s fault a mem refuses
   judged-twice (stages.refused fault mem refuses says) (stages.unfounded s cause a mem_too tells says_too) = not-refused bytes s fault a mem refuses
-  judged-twice (stages.refused fault mem refuses says) (stages.refused fault_too mem_too refuses_too says_too) = same-said Status.SpecRefused Status.SpecRefused status other (text_line fault) (text_line fault_too) text others 0 0 ticks more refl (ap text_line (one_refusal bytes fault fault_too mem mem_too refuses refuses_too)) says says_too
+  judged-twice (stages.refused fault mem refuses says) (stages.refused fault_too mem_too refuses_too says_too) = same-said Status.SpecRefused Status.SpecRefused status other (spec_fault_line fault) (spec_fault_line fault_too) text others 0 0 ticks more refl (ap spec_fault_line (one_refusal bytes fault fault_too mem mem_too refuses refuses_too)) says says_too
   judged-twice (stages.unfounded s cause a mem tells says) (stages.no_memory says_too) = no-answer other [] others 0 more n says_too
   judged-twice (stages.unfounded s cause a mem tells says) (stages.founded t b g p) = not-unfounded bytes s t cause a b mem tells g
   judged-twice (stages.unfounded s cause a mem tells says) (stages.refused fault mem_too refuses says_too) = not-refused bytes s fault a mem_too refuses

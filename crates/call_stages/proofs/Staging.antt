@@ -14,7 +14,7 @@ use Rattle.well_founded.specs.Foundedness as leads
 use Rattle.well_founded.specs.declared.cause.UnfoundedCause.{UnfoundedCause}
 use Rattle.well_founded.specs.declared.cause.UnfoundedCause.TheVariants.{NoObject, ZeroPart, ZeroLoop, OutOfMemory}
 use Rattle.call_stages.specs.Outcomes.{Outcome, Never, Says}
-use Rattle.call_stages.specs.Refusals.{read_line, text_line, cause_line, IsNamed}
+use Rattle.call_stages.specs.Refusals.{read_line, spec_fault_line, cause_line, IsClassNamed}
 use Rattle.call_stages.specs.Reports.{refusal_status, refusal_text}
 use Rattle.call_stages.specs.Stages.{Files, files, AreRead, FileRead, IsAccepted, Judged, Specified, IsSpecified}
 use Rattle.call_stages.specs.Stages as stages
@@ -34,7 +34,7 @@ pub read_lacks_memory : (f : Files) (name : List ℕ) (most : ℕ) (e : Refusal)
 read_lacks_memory f name most e is = stages.no_memory (says-nothing 0 e is)
 
 -- a text is refused
-pub text_refused : (bytes : List ℕ) (fault : SpecFault) (status : Status) (text : List ℕ) → fault ≢ SpecFault.OutOfMemory → Refuses bytes fault → Says Status.SpecRefused (text_line fault) 0 status text 0 → Judged (λ s. Never) bytes status text 0
+pub text_refused : (bytes : List ℕ) (fault : SpecFault) (status : Status) (text : List ℕ) → fault ≢ SpecFault.OutOfMemory → Refuses bytes fault → Says Status.SpecRefused (spec_fault_line fault) 0 status text 0 → Judged (λ s. Never) bytes status text 0
 text_refused bytes fault status text memory refuses says = stages.refused fault memory refuses says
 
 pub judging_lacks_memory : (bytes : List ℕ) (e : Refusal) → e ≡ refusal.OutOfMemory → Judged (λ s. Never) bytes (refusal_status e) (refusal_text e) 0
@@ -86,7 +86,7 @@ first-within : (s : Spec) (c d : ℕ) → Leads s c d → c < length s.bodies
 first-within s c d (leads.one h) = step-within s c d h
 first-within s c d (leads.further h more) = first-within s c _ h
 
-pub is_named : (s : Spec) (cause : UnfoundedCause) → IsSound s → TellsCause s cause → IsNamed s cause
+pub is_named : (s : Spec) (cause : UnfoundedCause) → IsSound s → TellsCause s cause → IsClassNamed s cause
 is_named s (NoObject c) sound h = subst (λ n. c.0 < n) sound.bodies (slice_get_within s.bodies c.0 h.holds.body h.holds.is_body)
 is_named s (ZeroPart e) sound h = tt
 is_named s (ZeroLoop c) sound h = subst (λ n. c.0 < n) sound.bodies (first-within s c.0 c.0 h.first.holds.leads)

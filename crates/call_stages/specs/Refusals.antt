@@ -35,8 +35,8 @@ abbrev pub read_line : List ℕ
 read_line = codes "refused read" ++ feed
 
 -- A place in a text.
-abbrev pub at_place : (line column : ℕ) → List ℕ
-at_place line column =
+abbrev pub line_and_column : (line column : ℕ) → List ℕ
+line_and_column line column =
     codes " line " ++ (decimal line ++ (codes " column " ++ (decimal column ++ feed)))
 
 -- The limit that is broken, with the number that breaks it, to the end of the line; none is named
@@ -54,16 +54,19 @@ abbrev pub limit_line : (kind : List ℕ) → BuildFault → List ℕ
 limit_line kind fault = codes "refused " ++ (kind ++ limit_words fault)
 
 -- Why a text is no specification; nothing is told of want of memory.
-abbrev pub text_line : SpecFault → List ℕ
-text_line (SpecFault.TooLong len) = codes "refused spec too long " ++ (decimal len ++ feed)
-text_line (SpecFault.NotText place) = codes "refused spec not text at " ++ (decimal place ++ feed)
-text_line (SpecFault.Syntax line column) = codes "refused spec syntax" ++ at_place line column
-text_line (SpecFault.Undefined line column) = codes "refused spec undefined" ++ at_place line column
-text_line (SpecFault.Twice line) = codes "refused spec twice line " ++ (decimal line ++ feed)
-text_line (SpecFault.NeedsLabels line column) = codes "refused spec needs labels"
-    ++ at_place line column
-text_line (SpecFault.Limit fault) = limit_line (codes "spec") fault
-text_line SpecFault.OutOfMemory = []
+abbrev pub spec_fault_line : SpecFault → List ℕ
+spec_fault_line (SpecFault.TooLong len) = codes "refused spec too long " ++ (decimal len ++ feed)
+spec_fault_line (SpecFault.NotText place) = codes "refused spec not text at "
+    ++ (decimal place ++ feed)
+spec_fault_line (SpecFault.Syntax line column) = codes "refused spec syntax"
+    ++ line_and_column line column
+spec_fault_line (SpecFault.Undefined line column) = codes "refused spec undefined"
+    ++ line_and_column line column
+spec_fault_line (SpecFault.Twice line) = codes "refused spec twice line " ++ (decimal line ++ feed)
+spec_fault_line (SpecFault.NeedsLabels line column) = codes "refused spec needs labels"
+    ++ line_and_column line column
+spec_fault_line (SpecFault.Limit fault) = limit_line (codes "spec") fault
+spec_fault_line SpecFault.OutOfMemory = []
 
 -- Why a specification isn't well founded; nothing is told of want of memory.
 abbrev pub cause_line : Spec → UnfoundedCause → List ℕ
@@ -76,10 +79,10 @@ cause_line s (UnfoundedCause.ZeroLoop c) = codes "refused spec zero loop "
 cause_line s UnfoundedCause.OutOfMemory = []
 
 -- The class that a cause tells of is there.
-abbrev pub IsNamed : Spec → UnfoundedCause → Type 0
-IsNamed s (UnfoundedCause.NoObject c) = c.0 < length s.names
-IsNamed s (UnfoundedCause.ZeroLoop c) = c.0 < length s.names
-IsNamed s cause = Unit {0}
+abbrev pub IsClassNamed : Spec → UnfoundedCause → Type 0
+IsClassNamed s (UnfoundedCause.NoObject c) = c.0 < length s.names
+IsClassNamed s (UnfoundedCause.ZeroLoop c) = c.0 < length s.names
+IsClassNamed s cause = Unit {0}
 
 -- A number, after a space.
 abbrev pub number_field : ℕ → List ℕ

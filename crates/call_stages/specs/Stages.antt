@@ -14,7 +14,7 @@ use Rattle.newton_upper.specs.BaseRule.{base_of, HasNoUpper, most_ticks}
 use Rattle.newton_upper.specs.declared.trials.Trial.{Trial}
 use Rattle.rounded_map.specs.RoundedMap.{Setting}
 use Rattle.call_stages.specs.Outcomes.{Outcome, Says}
-use Rattle.call_stages.specs.Refusals.{read_line, text_line, cause_line, no_upper_text}
+use Rattle.call_stages.specs.Refusals.{read_line, spec_fault_line, cause_line, no_upper_text}
 use Rattle.call_stages.specs.declared.status.Status.{Status}
 
 -- The files that a call meets: their contents where they are known, and the counts of failed reads
@@ -76,7 +76,7 @@ pub record HasSpecification (f : Files) (file : List ℕ) (s : Spec) : Type 0 wh
 pub data Judged (next : Spec → Outcome) (bytes : List ℕ) (status : Status) (text : List ℕ)
     (ticks : ℕ) : Type 0 where
   refused : (fault : SpecFault) → fault ≢ SpecFault.OutOfMemory → Refuses bytes fault
-      → Says Status.SpecRefused (text_line fault) 0 status text ticks
+      → Says Status.SpecRefused (spec_fault_line fault) 0 status text ticks
       → Judged next bytes status text ticks
   unfounded : (s : Spec) (cause : UnfoundedCause) → IsAccepted bytes s
       → cause ≢ UnfoundedCause.OutOfMemory → TellsCause s cause

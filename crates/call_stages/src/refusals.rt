@@ -8,7 +8,8 @@ ghost use Rattle.call_stages.specs.Lines.{feed};
 ghost use Rattle.call_stages.specs.Outcomes.{Says};
 ghost use Rattle.call_stages.specs.declared.status.Status.{Status};
 ghost use Rattle.call_stages.specs.Refusals.{value_name, words_line, read_line, limit_line};
-ghost use Rattle.call_stages.specs.Refusals.{text_line, cause_line, IsNamed, number_field};
+ghost use Rattle.call_stages.specs.Refusals.{spec_fault_line, cause_line, IsClassNamed};
+ghost use Rattle.call_stages.specs.Refusals.{number_field};
 ghost use Rattle.call_stages.specs.Refusals.{value_text, proposal_line, no_upper_line};
 ghost use Rattle.call_stages.specs.Refusals.{no_upper_text, no_fast_line};
 
@@ -46,7 +47,7 @@ pub fn read_refusal(alloc: Global) -> Result<Report, AllocError>
 /// A text is no specification, or breaks a limit; `Err` where that is want of memory.
 pub fn text_refusal(alloc: Global, fault: SpecFault) -> Result<Report, AllocError>
     ensures says { IfOk result (λ r.
-        Says Status.SpecRefused (text_line fault) 0 r.status r.text.items 0) }
+        Says Status.SpecRefused (spec_fault_line fault) 0 r.status r.text.items 0) }
     ensures memory { OnOk result (fault ≢ SpecFault.OutOfMemory) }
 {
     let line = line_for_text(alloc, fault)?;
@@ -59,7 +60,7 @@ pub fn cause_refusal(
     system: &System,
     cause: UnfoundedCause,
 ) -> Result<Report, AllocError>
-    requires in_range { IsNamed system.now cause }
+    requires in_range { IsClassNamed system.now cause }
     ensures says { IfOk result (λ r.
         Says Status.SpecRefused (cause_line system.now cause) 0 r.status
         r.text.items 0) }
@@ -131,7 +132,7 @@ fn name_of_value(value: ValueName) -> &'static str
 
 /// Why a text is no specification; `Err` where that is want of memory.
 fn line_for_text(alloc: Global, fault: SpecFault) -> Result<String, AllocError>
-    ensures line { IfOk result (λ text. string_bytes text ≡ text_line fault) }
+    ensures line { IfOk result (λ text. string_bytes text ≡ spec_fault_line fault) }
     ensures memory { OnOk result (fault ≢ SpecFault.OutOfMemory) }
 {
     match fault {
@@ -177,7 +178,7 @@ fn line_for_cause(
     system: &System,
     cause: UnfoundedCause,
 ) -> Result<Vec<u8>, AllocError>
-    requires in_range { IsNamed system.now cause }
+    requires in_range { IsClassNamed system.now cause }
     ensures line { IfOk result (λ text. text.items ≡ cause_line system.now cause) }
     ensures memory { OnOk result (cause ≢ UnfoundedCause.OutOfMemory) }
 {

@@ -17,7 +17,7 @@ use Rattle.certificate.specs.declared.reason.Verdict.{Verdict}
 use Rattle.certificate.specs.declared.reason.Verdict.TheVariants.{Invalid}
 use Rattle.certificate.specs.Certificates.{header_lines, entry_lines, open_lines, closing_lines, certificate_lines}
 use Rattle.certificate.specs.Lines.{Line}
-use Rattle.certificate.specs.Checks.{check, checks, header_checks, base_checks, first_entry_line, levels_of, entry_checks, entries_checks, rest_checks, IsNext, MakesSome, HasSize, HasText, IsTextWith}
+use Rattle.certificate.specs.Checks.{check, checks, header_checks, base_checks, first_entry_line, levels_of, entry_checks, entries_checks, rest_checks, IsNumberedNext, MakesSome, HasSize, HasText, IsTextWith}
 use Rattle.certificate.specs.Verdicts.{Check, FirstFails}
 use Rattle.certificate.specs.Alike.{SaysTheSame, SayTheSame, AreAlike}
 
@@ -60,7 +60,7 @@ one-check P Q line why on back = record { on = on; back = back; line = refl; rea
 turned : (e f : CertEntry) → SaysTheSame e f → SaysTheSame f e
 turned e f h = record { number = sym h.number; place = sym h.place; size = sym h.size; text = sym h.text; cells = sym h.cells }
 
-next-on : (number place : ℕ) (e f : CertEntry) → SaysTheSame e f → IsNext number place e → IsNext number place f
+next-on : (number place : ℕ) (e f : CertEntry) → SaysTheSame e f → IsNumberedNext number place e → IsNumberedNext number place f
 next-on number place e f same h = record { number_is = sym same.number ∙ h.number_is; no_earlier = subst (λ n. place ≤ n) same.place h.no_earlier }
 
 module _ (s : Spec) (F : ℕ) (table : (level node : ℕ) → Bounds) (least greatest : ℕ) where
@@ -83,7 +83,7 @@ module _ (s : Spec) (F : ℕ) (table : (level node : ℕ) → Bounds) (least gre
   entry-same : (number place line : ℕ) (e f : CertEntry) → SaysTheSame e f → AreTheSame (entry_checks s F table least greatest number place line e) (entry_checks s F table least greatest number place line f)
   entry-same number place line e f same =
       let back = turned e f same in (
-        one-check (IsNext number place e) (IsNext number place f) line reason.Object (next-on number place e f same) (next-on number place f e back),
+        one-check (IsNumberedNext number place e) (IsNumberedNext number place f) line reason.Object (next-on number place e f same) (next-on number place f e back),
         (
           one-check (MakesSome s F table greatest e.cells.items) (MakesSome s F table greatest f.cells.items) (line + 2) reason.Cells (some-on e f same) (some-on f e back),
           (

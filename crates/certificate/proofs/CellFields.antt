@@ -6,9 +6,9 @@ use Rattle.std.proofs.Math.Nat.{pow-le-pow_right}
 use Rattle.std.specs.Prelude.{flat_map, nat_eq, Bool, true, false}
 use Rattle.std.proofs.lemmas.Bool.{eqb-true}
 use Rattle.bz_model.specs.declared.cell.Cell.{Cell}
-use Rattle.bz_model.specs.Cell.{IsCell}
+use Rattle.bz_model.specs.Cell.{IsCell, AreCells}
 use Rattle.certificate.specs.Patterns.{filled_from, HasNoDigit, AreSmall, BeginsFilled}
-use Rattle.certificate.specs.Fields.{AreCells, cell_field, cells_text}
+use Rattle.certificate.specs.Fields.{cell_field, cells_text}
 use Rattle.certificate.proofs.Filling.{one-filling}
 
 -- What is left of a line of cells: after the cells found, more cells follow exactly where the line is one of cells.

@@ -15,7 +15,7 @@ use Rattle.certificate.specs.declared.closing.ClosingWord.{ClosingWord}
 use Rattle.certificate.specs.declared.closing.ClosingWord.TheVariants.{Done, TapeEnded, Undecided, TurnLimit, ReadFault}
 use Rattle.certificate.specs.Lines.{Line}
 use Rattle.certificate.specs.Certificates.{IsCertificate, FitsVersion, FitsHeader, FitsEntry, FitsWord, FitsClosing, spec_lines, base_lines, header_lines, entry_lines, open_lines, closing_lines, certificate_lines}
-use Rattle.certificate.specs.Ranges.{IsSmall, IsInRange, HeaderInRange, EntryInRange, MaybeOpenInRange, ClosingInRange}
+use Rattle.certificate.specs.Ranges.{IsSmall, CertificateInRange, HeaderInRange, EntryInRange, MaybeOpenInRange, ClosingInRange}
 use Rattle.certificate.specs.Stages.{Stage, May, Way, after_mode}
 use Rattle.certificate.proofs.Distinct.{missing-before, distinct-more, none-distinct}
 
@@ -70,7 +70,7 @@ header-way h f n d are distinct r =
     (Way.go (May.x n d) (Way.go (May.fraction r.fraction) (Way.go (May.window r.min r.max) (bases-way [] h.names h.base f.one_each are distinct r.base))))))
 
 -- A certificate's lines are a way from the first line to the last.
-pub way-of : (c : Certificate) → IsCertificate c → IsInRange c → Way Stage.AtVersion (certificate_lines c) Stage.Over
+pub way-of : (c : Certificate) → IsCertificate c → CertificateInRange c → Way Stage.AtVersion (certificate_lines c) Stage.Over
 way-of c is r =
     way-append (header-way c.header is.header is.num is.den is.names is.distinct r.header)
     (from-base c.header.names (way-append (entries-way c.entries is.entries r.entries)
@@ -184,7 +184,7 @@ settings-shown v m digest num den fraction min max tail (Way.go (May.version h) 
     by_version (Some d) (inr e) w = second d (subst (λ k. Way (after_mode k) (Line.Spec d ∷ Line.X num den ∷ Line.Fraction fraction ∷ Line.Window min max ∷ tail) Stage.Over) e w) e
 
 -- Where its lines are a way from the first line to the last, and it has one value of the base for each name, it is a certificate in range.
-pub of-way : (c : Certificate) → length c.header.base ≡ length c.header.names → Way Stage.AtVersion (certificate_lines c) Stage.Over → IsCertificate c × IsInRange c
+pub of-way : (c : Certificate) → length c.header.base ≡ length c.header.names → Way Stage.AtVersion (certificate_lines c) Stage.Over → IsCertificate c × CertificateInRange c
 of-way c one w =
     let h = c.header in
     let tail = flat_map entry_lines c.entries ++ closing_lines c.closing in
@@ -283,7 +283,7 @@ lines-of (Way.go (May.version {v = v} h) (Way.go {lines = ls} (May.mode {m = m})
     by_version (inr e) w = second (subst (λ k. Way (after_mode k) ls Stage.Over) e w)
 
 -- The lines of each way from the first line to the last are those of a certificate.
-pub certificate-of : {ls : List Line} → Way Stage.AtVersion ls Stage.Over → (c : Certificate) × IsCertificate c × IsInRange c × (certificate_lines c ≡ ls)
+pub certificate-of : {ls : List Line} → Way Stage.AtVersion ls Stage.Over → (c : Certificate) × IsCertificate c × CertificateInRange c × (certificate_lines c ≡ ls)
 certificate-of w =
     let c = lines-of w in
     let is = of-way c.certificate c.one (subst (λ ls. Way Stage.AtVersion ls Stage.Over) (sym c.lines) w) in

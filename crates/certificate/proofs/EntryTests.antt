@@ -25,7 +25,7 @@ use Rattle.certificate.specs.declared.certificate.CertEntry.{CertEntry}
 use Rattle.certificate.specs.declared.reason.Reason.TheVariants as reason
 use Rattle.certificate.specs.declared.reason.Verdict.{Verdict}
 use Rattle.certificate.specs.declared.reason.Verdict.TheVariants.{Valid, Invalid}
-use Rattle.certificate.specs.Checks.{check, made_checks, entry_checks, entries_checks, IsNext, MakesSome, HasSize, HasText, IsSized, IsTextWith}
+use Rattle.certificate.specs.Checks.{check, made_checks, entry_checks, entries_checks, IsNumberedNext, MakesSome, HasSize, HasText, IsSizedEntry, IsTextWith}
 use Rattle.certificate.specs.Soundness.{IsSoundEntry, IsTextOfKept}
 use Rattle.certificate.specs.Verdicts.{Check, FirstFails}
 use Rattle.certificate.proofs.Chains.{passes-then, fails-first}
@@ -54,7 +54,7 @@ module _ (s : Spec) (x : Fraction) (greatest : ℕ) (tokens : List Token) (label
   pub made-sound : (least line : ℕ) → FirstFails (made_checks s least greatest line tokens labels e) Valid → IsSoundEntry s x least greatest e
   made-sound least line (inl p) = text-sound p.0 p.1
     where
-      text-sound : IsSized least greatest (size_of tokens) e → FirstFails (check (IsTextWith s tokens labels e.text) (line + 1) reason.Text ∷ []) Valid → IsSoundEntry s x least greatest e
+      text-sound : IsSizedEntry least greatest (size_of tokens) e → FirstFails (check (IsTextWith s tokens labels e.text) (line + 1) reason.Text ∷ []) Valid → IsSoundEntry s x least greatest e
       text-sound sized (inl q) =
           let c = first-made.makes in
           let of : IsOf s 0 tokens = record { body = c.0; is_body = c.1; object = m.kept.object; belongs = (fine s x c.2).0; spelled = m.entry.tokens } in
@@ -75,7 +75,7 @@ module _ (s : Spec) (sound : IsSound s) (F : ℕ) (table : (level node : ℕ) �
     tokens-one : (others : List Token) (told : List ℕ) → AreMadeOf s F table greatest e.cells.items others told → (tokens ≡ others) × (labels ≡ told)
     tokens-one others told h = made-of-one s sound F table greatest e.cells.items tokens others labels told made h
 
-    sized-all : IsSized least greatest (size_of tokens) e → HasSize s F table least greatest e
+    sized-all : IsSizedEntry least greatest (size_of tokens) e → HasSize s F table least greatest e
     sized-all z = record { size_is = λ others told h. ap size_of (sym (tokens-one others told h).0) ∙ z.size_is; from = z.from; to = z.to }
 
     text-all : IsTextWith s tokens labels e.text → HasText s F table greatest e
@@ -87,13 +87,13 @@ module _ (s : Spec) (sound : IsSound s) (F : ℕ) (table : (level node : ℕ) �
     made-verdict v (inr (never, is)) = inr ((λ h. never (record { size_is = h.size_is tokens labels made; from = h.from; to = h.to })), is)
 
     -- with the tests before them
-    pub entry-made : (number place : ℕ) (v : Verdict) → IsNext number place e → FirstFails (made_checks s least greatest line tokens labels e) v → FirstFails (entry_checks s F table least greatest number place line e) v
+    pub entry-made : (number place : ℕ) (v : Verdict) → IsNumberedNext number place e → FirstFails (made_checks s least greatest line tokens labels e) v → FirstFails (entry_checks s F table least greatest number place line e) v
     entry-made number place v next h = inl (next, inl (record { tokens = tokens; labels = labels; made = made }, made-verdict v h))
 
-  pub entry-not-next : (number place line : ℕ) → ¬ (IsNext number place e) → FirstFails (entry_checks s F table least greatest number place line e) (Invalid line reason.Object)
+  pub entry-not-next : (number place line : ℕ) → ¬ (IsNumberedNext number place e) → FirstFails (entry_checks s F table least greatest number place line e) (Invalid line reason.Object)
   entry-not-next number place line never = inr (never, refl)
 
-  pub entry-none : (number place line : ℕ) → IsNext number place e → ((tokens : List Token) (labels : List ℕ) → ¬ (AreMadeOf s F table greatest e.cells.items tokens labels)) → FirstFails (entry_checks s F table least greatest number place line e) (Invalid (line + 2) reason.Cells)
+  pub entry-none : (number place line : ℕ) → IsNumberedNext number place e → ((tokens : List Token) (labels : List ℕ) → ¬ (AreMadeOf s F table greatest e.cells.items tokens labels)) → FirstFails (entry_checks s F table least greatest number place line e) (Invalid (line + 2) reason.Cells)
   entry-none number place line next none = inl (next, inr ((λ m. none m.tokens m.labels m.made), refl))
 
 -- What is said of entries after some of them.

@@ -5,7 +5,7 @@ use Rattle.std.specs.List.{AllByRecursion}
 use Rattle.certificate.specs.declared.certificate.Certificate.{Certificate}
 use Rattle.certificate.specs.Lines.{Line, line_text, whole_line, text_of}
 use Rattle.certificate.specs.Certificates.{certificate_lines}
-use Rattle.certificate.specs.Reading.{IsTextOf, BeginsOne, HasNoFeed, ended, IsFirstBad}
+use Rattle.certificate.specs.Reading.{IsTextOf, BeginsOne, HasNoFeed, with_line_feeds, IsFirstBad}
 use Rattle.certificate.specs.Stages.{Stage, May, Way, Passes, IsStuck, Fails}
 use Rattle.certificate.proofs.Feeds.{one-cut}
 use Rattle.certificate.proofs.StageLines.{line-no-feed, one-next}
@@ -68,7 +68,7 @@ stuck-line left here after rest s (Way.go {next = next} {line = l} {lines = ls} 
     s.line l next after m (f ∙ ap (λ t. t ++ 10 ∷ after) (sym cut.0) ∙ sym (whole-then l after))
 
 -- The texts of lines, each ended by a line feed.
-ended-texts : (ls : List Line) → text_of ls ≡ ended (map line_text ls)
+ended-texts : (ls : List Line) → text_of ls ≡ with_line_feeds (map line_text ls)
 ended-texts [] = refl
 ended-texts (l ∷ ls) = ap (λ t. whole_line l ++ t) (ended-texts ls)
 
@@ -105,9 +105,9 @@ first-bad bytes left line f place = record {
         let o = left-over f.passes.way (way-of c t.is t.in_range) left (sym t.text ∙ f.passes.split) in
         stuck-left left f.stuck o.1 o.2
 
-    bad : (here after : List ℕ) → HasNoFeed here → left ≡ here ++ 10 ∷ after → ¬ (BeginsOne (ended (map line_text f.lines) ++ (here ++ 10 ∷ [])))
+    bad : (here after : List ℕ) → HasNoFeed here → left ≡ here ++ 10 ∷ after → ¬ (BeginsOne (with_line_feeds (map line_text f.lines) ++ (here ++ 10 ∷ [])))
     bad here after h e b =
-        let front = ended (map line_text f.lines) in
+        let front = with_line_feeds (map line_text f.lines) in
         let split : text_of (certificate_lines b.whole) ≡ text_of f.lines ++ (here ++ 10 ∷ b.rest) =
         sym b.is.text ∙ append_assoc front (here ++ 10 ∷ []) b.rest ∙ ap (λ t. front ++ t) (append_assoc here (10 ∷ []) b.rest) ∙ ap (λ t. t ++ (here ++ 10 ∷ b.rest)) (sym (ended-texts f.lines)) in
         let o = left-over f.passes.way (way-of b.whole b.is.is b.is.in_range) (here ++ 10 ∷ b.rest) split in

@@ -12,7 +12,8 @@ use Rattle.certificate.specs.declared.closing.ClosingWord.TheVariants.{Done, Tap
 use Rattle.certificate.specs.declared.closing.Closing.{Closing}
 use Rattle.certificate.specs.Patterns.{filled_from}
 use Rattle.certificate.specs.Certificates.{IsOpen, open_lines, closing_lines}
-use Rattle.certificate.specs.Fields.{IsPrinted, IsDigest, AreCells, spec_line, cells_text, base_line}
+use Rattle.bz_model.specs.Cell.{AreCells}
+use Rattle.certificate.specs.Fields.{IsPrinted, IsDigest, spec_line, cells_text, base_line}
 use Rattle.certificate.specs.Lines.{Line, line_text, whole_line, version_line, mode_line, x_line, fraction_line, window_line, object_line, text_line, open_line, end_line}
 use Rattle.certificate.specs.Ranges.{IsSmall, OpenInRange, ClosingInRange}
 use Rattle.certificate.specs.Reading.{HasNoFeed}

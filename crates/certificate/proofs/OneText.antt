@@ -15,11 +15,12 @@ use Rattle.certificate.specs.declared.certificate.Certificate.{Certificate}
 use Rattle.certificate.specs.declared.closing.ClosingWord.{ClosingWord}
 use Rattle.certificate.specs.declared.closing.ClosingWord.TheVariants.{Done, TapeEnded, Undecided, TurnLimit, ReadFault}
 use Rattle.certificate.specs.Patterns.{filled_from, places, is_apart}
-use Rattle.certificate.specs.Fields.{IsDigest, AreCells, cell_field, spec_line}
+use Rattle.bz_model.specs.Cell.{AreCells}
+use Rattle.certificate.specs.Fields.{IsDigest, cell_field, spec_line}
 use Rattle.certificate.specs.Lines.{Line, line_text, text_of, mode_line, object_line, open_line, end_line, end_pattern}
 use Rattle.certificate.specs.Certificates.{IsCertificate, IsOpen, certificate_lines}
-use Rattle.certificate.specs.Ranges.{IsSmall, IsInRange, OpenInRange}
-use Rattle.certificate.specs.Reading.{IsTextOf, BeginsOne, HasNoFeed, ended, IsFirstBad}
+use Rattle.certificate.specs.Ranges.{IsSmall, CertificateInRange, OpenInRange}
+use Rattle.certificate.specs.Reading.{IsTextOf, BeginsOne, HasNoFeed, with_line_feeds, IsFirstBad}
 use Rattle.certificate.specs.Stages.{Stage, May, Way}
 use Rattle.certificate.proofs.Filling.{one-line}
 use Rattle.certificate.proofs.CellFields.{one-cell, no-digit-after, field-begins}
@@ -194,21 +195,21 @@ one-way (Way.go {line = l} {lines = ls} m v) (Way.go {line = k} {lines = ms} n w
     ap (λ z. z ∷ ls) (one-of m n cut.0) ∙ ap (λ zs. k ∷ zs) later
 
 -- Certificates with one text have the same lines.
-pub same-lines : (a b : Certificate) → IsCertificate a → IsInRange a → IsCertificate b → IsInRange b → text_of (certificate_lines a) ≡ text_of (certificate_lines b) → certificate_lines a ≡ certificate_lines b
+pub same-lines : (a b : Certificate) → IsCertificate a → CertificateInRange a → IsCertificate b → CertificateInRange b → text_of (certificate_lines a) ≡ text_of (certificate_lines b) → certificate_lines a ≡ certificate_lines b
 same-lines a b is r are q e = one-way (way-of a is r) (way-of b are q) e
 
 -- ---- one first bad line
 
 -- Where fewer lines stand before the rest, the next of the other's lines is the first of the rest.
-later-line : (xs ys : List (List ℕ)) (p q : List ℕ) → AllByRecursion HasNoFeed xs → AllByRecursion HasNoFeed ys → ended xs ++ p ≡ ended ys ++ q → length xs < length ys → (here after more : List ℕ) × HasNoFeed here × (p ≡ here ++ 10 ∷ after) × (ended ys ≡ (ended xs ++ (here ++ 10 ∷ [])) ++ more)
+later-line : (xs ys : List (List ℕ)) (p q : List ℕ) → AllByRecursion HasNoFeed xs → AllByRecursion HasNoFeed ys → with_line_feeds xs ++ p ≡ with_line_feeds ys ++ q → length xs < length ys → (here after more : List ℕ) × HasNoFeed here × (p ≡ here ++ 10 ∷ after) × (with_line_feeds ys ≡ (with_line_feeds xs ++ (here ++ 10 ∷ [])) ++ more)
 later-line [] [] p q h k e lt = absurd (omega arith)
-later-line [] (y ∷ ys) p q h k e lt = (y, ended ys ++ q, ended ys, k.0, e ∙ append_assoc (y ++ 10 ∷ []) (ended ys) q ∙ append_assoc y (10 ∷ []) (ended ys ++ q), refl)
+later-line [] (y ∷ ys) p q h k e lt = (y, with_line_feeds ys ++ q, with_line_feeds ys, k.0, e ∙ append_assoc (y ++ 10 ∷ []) (with_line_feeds ys) q ∙ append_assoc y (10 ∷ []) (with_line_feeds ys ++ q), refl)
 later-line (x ∷ xs) [] p q h k e lt = absurd (omega arith)
 later-line (x ∷ xs) (y ∷ ys) p q h k e lt =
-    let cut = one-cut x y (ended xs ++ p) (ended ys ++ q) h.0 k.0 (sym (split x (ended xs) p) ∙ e ∙ split y (ended ys) q) in
+    let cut = one-cut x y (with_line_feeds xs ++ p) (with_line_feeds ys ++ q) h.0 k.0 (sym (split x (with_line_feeds xs) p) ∙ e ∙ split y (with_line_feeds ys) q) in
     let l = later-line xs ys p q h.1 k.1 cut.1 (omega arith) in
-    let front = ended xs ++ (l.0 ++ 10 ∷ []) in
-    (l.0, l.1, l.2, l.3, l.4, ap (λ z. (z ++ 10 ∷ []) ++ ended ys) (sym cut.0) ∙ ap (λ t. (x ++ 10 ∷ []) ++ t) l.5 ∙ sym (append_assoc (x ++ 10 ∷ []) front l.2) ∙ ap (λ t. t ++ l.2) (sym (append_assoc (x ++ 10 ∷ []) (ended xs) (l.0 ++ 10 ∷ []))))
+    let front = with_line_feeds xs ++ (l.0 ++ 10 ∷ []) in
+    (l.0, l.1, l.2, l.3, l.4, ap (λ z. (z ++ 10 ∷ []) ++ with_line_feeds ys) (sym cut.0) ∙ ap (λ t. (x ++ 10 ∷ []) ++ t) l.5 ∙ sym (append_assoc (x ++ 10 ∷ []) front l.2) ∙ ap (λ t. t ++ l.2) (sym (append_assoc (x ++ 10 ∷ []) (with_line_feeds xs) (l.0 ++ 10 ∷ []))))
   where
     split : (x e p : List ℕ) → ((x ++ 10 ∷ []) ++ e) ++ p ≡ x ++ 10 ∷ (e ++ p)
     split x e p = append_assoc (x ++ 10 ∷ []) e p ∙ append_assoc x (10 ∷ []) (e ++ p)
@@ -222,7 +223,7 @@ not-later bytes m n a b lt =
     let at = a.place in
     let too = b.place in
     let l = later-line a.before b.before a.rest b.rest a.lines b.lines (sym a.split ∙ b.split) (omega arith) in
-    a.bad l.0 l.1 l.3 l.4 (begins-less (ended a.before ++ (l.0 ++ 10 ∷ [])) l.2 (subst BeginsOne l.5 b.begins))
+    a.bad l.0 l.1 l.3 l.4 (begins-less (with_line_feeds a.before ++ (l.0 ++ 10 ∷ [])) l.2 (subst BeginsOne l.5 b.begins))
 
 -- A text has at most one first bad line.
 pub one-bad : (bytes : List ℕ) (m n : ℕ) → IsFirstBad bytes m → IsFirstBad bytes n → m ≡ n

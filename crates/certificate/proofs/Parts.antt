@@ -14,7 +14,7 @@ use Rattle.certificate.specs.Lines.{Line, line_text, whole_line, text_of}
 use Rattle.certificate.specs.Certificates.{base_lines, header_lines, entry_lines, closing_lines, certificate_lines}
 use Rattle.certificate.specs.Reading.{IsTextOf, HasNoFeed, IsFirstBad}
 use Rattle.certificate.specs.Stages.{Stage, May, Way, after_mode, Passes, IsStuck, Fails, HasNoBase}
-use Rattle.certificate.specs.Stops.{FailsAt, StopsAt}
+use Rattle.certificate.specs.Stops.{FailsAt, LinesStopAt}
 use Rattle.certificate.proofs.StageLines.{line-no-feed}
 use Rattle.certificate.proofs.CertificateWays.{from-base, of-way}
 use Rattle.certificate.proofs.FirstBad.{passes-more, fails-more, fails-here, first-bad}
@@ -29,14 +29,14 @@ stops-behind text between left ls p f = record { rest = f.rest; fails = fails-mo
 
 -- If a text begins with lines that may stand there, and reading stops somewhere in what follows
 -- them, then it stops there in the whole text.
-pub stops-more : {from mid : Stage} (text between : List ℕ) (ls : List Line) (stop : Stop) → Passes from text ls mid between → StopsAt mid between stop → StopsAt from text stop
+pub stops-more : {from mid : Stage} (text between : List ℕ) (ls : List Line) (stop : Stop) → Passes from text ls mid between → LinesStopAt mid between stop → LinesStopAt from text stop
 stops-more text between ls (At left) p f = stops-behind text between left ls p f
 stops-more text between ls OutOfMemory p f = tt
 
 -- A part's refusal that is handed on tells where the whole stops.
-pub handed-on : {T : Type 0} (r : Result T Stop) (stop : Stop) (from : Stage) (text : List ℕ) → IsErrAnd r (λ f. f ≡ stop) → StopsAt from text stop → IfErr r (StopsAt from text)
+pub handed-on : {T : Type 0} (r : Result T Stop) (stop : Stop) (from : Stage) (text : List ℕ) → IsErrAnd r (λ f. f ≡ stop) → LinesStopAt from text stop → IfErr r (LinesStopAt from text)
 handed-on (Ok x) stop from text is h = absurd is
-handed-on (Err f) stop from text is h = subst (λ z. StopsAt from text z) (sym is) h
+handed-on (Err f) stop from text is h = subst (λ z. LinesStopAt from text z) (sym is) h
 
 -- What a first line leaves is shorter.
 pub shorter : {from to : Stage} {l : Line} {ls : List Line} (text rest : List ℕ) → Passes from text (l ∷ ls) to rest → length rest < length text
@@ -125,7 +125,7 @@ fails-way names text left ls at none Way.stay e s = record { lines = []; stage =
 fails-way names text left ls at none (Way.go {line = l} {lines = ms} m w) e s = record { lines = l ∷ ms; stage = at; passes = record { way = Way.go (May.last_base m) w; split = e }; stuck = s }
 
 -- What stops behind the base stops from the base on, where no new line of it stands in front.
-pub stops-at-base : (names : List (List ℕ)) (text : List ℕ) (stop : Stop) → HasNoBase names text → StopsAt Stage.AtObject text stop → StopsAt (Stage.AtBase names) text stop
+pub stops-at-base : (names : List (List ℕ)) (text : List ℕ) (stop : Stop) → HasNoBase names text → LinesStopAt Stage.AtObject text stop → LinesStopAt (Stage.AtBase names) text stop
 stops-at-base names text (At left) none f = record { rest = f.rest; fails = fails-way names text f.rest f.fails.lines f.fails.stage none f.fails.passes.way f.fails.passes.split f.fails.stuck; count = f.count }
 stops-at-base names text OutOfMemory none f = tt
 
@@ -145,7 +145,7 @@ pub stuck-over : (text : List ℕ) → text ≢ [] → IsStuck Stage.Over text
 stuck-over text some = record { line = λ l next q m e. elim m [ ]; unfinished = λ o. some }
 
 -- What stops behind a header stops from the first line on, where no new line of the base stands in front.
-pub stops-behind-header : (h : Header) (text rest : List ℕ) (stop : Stop) → Passes Stage.AtVersion text (header_lines h) (Stage.AtBase h.names) rest → HasNoBase h.names rest → StopsAt Stage.AtObject rest stop → StopsAt Stage.AtVersion text stop
+pub stops-behind-header : (h : Header) (text rest : List ℕ) (stop : Stop) → Passes Stage.AtVersion text (header_lines h) (Stage.AtBase h.names) rest → HasNoBase h.names rest → LinesStopAt Stage.AtObject rest stop → LinesStopAt Stage.AtVersion text stop
 stops-behind-header h text rest stop p none s = stops-more text rest (header_lines h) stop p (stops-at-base h.names rest stop none s)
 
 -- Something left behind the closing is too much.

@@ -4,7 +4,7 @@ use Rattle.std.proofs.Common.{◌≡◌, ◌≢◌, ℕ, zero, suc, ◌^◌, ◌
 use Rattle.std.proofs.lemmas.List.{append_cancel_left}
 use Rattle.std.proofs.Math.Nat.{pow-le-pow_right}
 use Rattle.bz_model.specs.declared.cell.Cell.{Cell}
-use Rattle.bz_model.specs.Cell.{IsCell}
+use Rattle.bz_model.specs.Cell.{IsCell, AreCells}
 use Rattle.class_system.specs.declared.draft.Mode.{Mode}
 use Rattle.class_system.specs.declared.draft.Mode.TheVariants as mode
 use Rattle.class_system.specs.Words.{IsName}
@@ -13,7 +13,7 @@ use Rattle.size_window.specs.declared.ending.Straddle.TheVariants as straddle
 use Rattle.certificate.specs.declared.closing.ClosingWord.{ClosingWord}
 use Rattle.certificate.specs.declared.closing.ClosingWord.TheVariants.{Done, TapeEnded, Undecided, TurnLimit, ReadFault}
 use Rattle.certificate.specs.Patterns.{filled, filled_from, AreSmall}
-use Rattle.certificate.specs.Fields.{AreCells, cell_field, base_line}
+use Rattle.certificate.specs.Fields.{cell_field, base_line}
 use Rattle.certificate.specs.Lines.{Line, line_text, end_line, end_pattern, open_line, object_line}
 use Rattle.certificate.specs.Certificates.{IsOpen}
 use Rattle.certificate.specs.Ranges.{IsSmall, OpenInRange}

@@ -2,7 +2,7 @@
 use Rattle.std.specs.Prelude.{◌≡◌, ℕ, List, [], ◌∷◌, ◌++◌, length, flat_map, Option, Some, None}
 use Rattle.std.specs.List.{AllByRecursion}
 use Rattle.bz_model.specs.declared.cell.Cell.{Cell}
-use Rattle.bz_model.specs.Cell.{IsCell}
+use Rattle.bz_model.specs.Cell.{IsCell, AreCells}
 use Rattle.bz_model.specs.Number.{IsPart}
 use Rattle.class_system.specs.Distinct.{AreDistinct}
 use Rattle.class_system.specs.Words.{IsName}
@@ -14,7 +14,7 @@ use Rattle.certificate.specs.declared.certificate.Certificate.{Certificate}
 use Rattle.certificate.specs.declared.closing.Closing.{Closing}
 use Rattle.certificate.specs.declared.closing.ClosingWord.{ClosingWord}
 use Rattle.certificate.specs.declared.closing.ClosingWord.TheVariants.{Undecided}
-use Rattle.certificate.specs.Fields.{IsPrinted, IsDigest, AreCells}
+use Rattle.certificate.specs.Fields.{IsPrinted, IsDigest}
 use Rattle.certificate.specs.Lines.{Line}
 
 -- The line of the digest, where there is one.

@@ -91,7 +91,7 @@ abbrev pub levels_of : Spec → (F : ℕ) → Header → (level node : ℕ) → 
 levels_of s F h = level_bounds (setting_of s F h) h.base
 
 -- An entry has the next number, and its place is at least where the bits of the one before it end.
-pub record IsNext (number place : ℕ) (e : CertEntry) : Type 0 where
+pub record IsNumberedNext (number place : ℕ) (e : CertEntry) : Type 0 where
   pub number_is : e.number ≡ suc number
   pub no_earlier : place ≤ e.place
 
@@ -122,7 +122,7 @@ pub record HasText (s : Spec) (F : ℕ) (table : (level node : ℕ)
       → AreMadeOf s F table greatest e.cells.items tokens labels → IsTextWith s tokens labels e.text
 
 -- So many atoms are an entry's size, within the window.
-pub record IsSized (least greatest atoms : ℕ) (e : CertEntry) : Type 0 where
+pub record IsSizedEntry (least greatest atoms : ℕ) (e : CertEntry) : Type 0 where
   pub size_is : atoms ≡ e.size
   pub from : least ≤ e.size
   pub to : e.size ≤ greatest
@@ -131,7 +131,7 @@ pub record IsSized (least greatest atoms : ℕ) (e : CertEntry) : Type 0 where
 abbrev pub made_checks : Spec → (least greatest line : ℕ) → (tokens : List Token)
     → (labels : List ℕ) → CertEntry → List Check
 made_checks s least greatest line tokens labels e =
-    check (IsSized least greatest (size_of tokens) e) line reason.Object
+    check (IsSizedEntry least greatest (size_of tokens) e) line reason.Object
     ∷ check (IsTextWith s tokens labels e.text) (line + 1) reason.Text
     ∷ []
 
@@ -139,7 +139,7 @@ made_checks s least greatest line tokens labels e =
 abbrev pub entry_checks : Spec → (F : ℕ) → (table : (level node : ℕ) → Bounds)
     → (least greatest number place line : ℕ) → CertEntry → List Check
 entry_checks s F table least greatest number place line e =
-    check (IsNext number place e) line reason.Object
+    check (IsNumberedNext number place e) line reason.Object
     ∷ check (MakesSome s F table greatest e.cells.items) (line + 2) reason.Cells
     ∷ check (HasSize s F table least greatest e) line reason.Object
     ∷ check (HasText s F table greatest e) (line + 1) reason.Text

@@ -12,18 +12,18 @@ use Rattle.certificate.specs.declared.certificate.CertEntry.{CertEntry}
 use Rattle.certificate.specs.declared.certificate.Certificate.{Certificate}
 use Rattle.certificate.specs.declared.reason.Verdict.TheVariants.{Valid}
 use Rattle.certificate.specs.Checks.{digest_checks, levels_of, setting_of, HasFraction, HasWindow}
-use Rattle.certificate.specs.Checks.{IsNext, IsSized, IsTextWith}
+use Rattle.certificate.specs.Checks.{IsNumberedNext, IsSizedEntry, IsTextWith}
 use Rattle.certificate.specs.Verdicts.{FirstFails}
 
 -- An entry is of a kept object: it is the next one, and its cells make the object's tokens and
 -- labels, of which it has the size, within the window, and the text.
 pub record IsKept (s : Spec) (F : ℕ) (table : (level node : ℕ)
     → Bounds) (least greatest number place : ℕ) (e : CertEntry) : Type 0 where
-  pub next : IsNext number place e
+  pub next : IsNumberedNext number place e
   pub tokens : List Token
   pub labels : List ℕ
   pub made : AreMadeOf s F table greatest e.cells.items tokens labels
-  pub sized : IsSized least greatest (size_of tokens) e
+  pub sized : IsSizedEntry least greatest (size_of tokens) e
   pub text : IsTextWith s tokens labels e.text
 
 -- So is each entry, after so many and the place where the bits of the one before it end.

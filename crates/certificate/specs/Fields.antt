@@ -2,7 +2,6 @@
 use Rattle.std.specs.Prelude.{◌≡◌, ℕ, ◌≤◌, List, [], ◌∷◌, ◌++◌, length, codes, flat_map}
 use Rattle.std.specs.List.{AllByRecursion}
 use Rattle.bz_model.specs.declared.cell.Cell.{Cell}
-use Rattle.bz_model.specs.Cell.{IsCell}
 use Rattle.hex.specs.Hex.{encode_lower, IsBytes}
 use Rattle.certificate.specs.Patterns.{filled}
 
@@ -15,10 +14,6 @@ pub record IsPrinted (text : List ℕ) : Type 0 where
 pub record IsDigest (bytes : List ℕ) : Type 0 where
   pub count : length bytes ≡ 32
   pub each : IsBytes bytes
-
--- Each cell has 1 to 60 bits, and lies below 1.
-abbrev pub AreCells : List Cell → Type 0
-AreCells cells = AllByRecursion (λ c. IsCell c.k c.b) cells
 
 -- A cell, after a space.
 abbrev pub cell_field : Cell → List ℕ

@@ -44,7 +44,7 @@ pub record ClosingInRange (c : Closing) : Type 0 where
   pub turns : IsSmall c.turns
 
 -- All of a certificate's numbers are in range.
-pub record IsInRange (c : Certificate) : Type 0 where
+pub record CertificateInRange (c : Certificate) : Type 0 where
   pub header : HeaderInRange c.header
   pub entries : AllByRecursion EntryInRange c.entries
   pub closing : ClosingInRange c.closing

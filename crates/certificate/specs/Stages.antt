@@ -10,7 +10,8 @@ use Rattle.size_window.specs.declared.ending.Straddle.{Straddle}
 use Rattle.certificate.specs.declared.closing.ClosingWord.{ClosingWord}
 use Rattle.certificate.specs.declared.closing.ClosingWord.TheVariants.{Undecided}
 use Rattle.certificate.specs.Certificates.{IsOpen}
-use Rattle.certificate.specs.Fields.{IsPrinted, IsDigest, AreCells}
+use Rattle.bz_model.specs.Cell.{AreCells}
+use Rattle.certificate.specs.Fields.{IsPrinted, IsDigest}
 use Rattle.certificate.specs.Lines.{Line, whole_line, text_of}
 use Rattle.certificate.specs.Ranges.{IsSmall, OpenInRange}
 

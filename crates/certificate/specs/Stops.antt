@@ -11,6 +11,6 @@ pub record FailsAt (stage : Stage) (text : List ℕ) (left : ℕ) : Type 0 where
   pub count : left ≡ length rest
 
 -- Reading stops where no line that may stand next is in front; want of memory says nothing.
-abbrev pub StopsAt : Stage → List ℕ → Stop → Type 0
-StopsAt stage text (At left) = FailsAt stage text left
-StopsAt stage text OutOfMemory = Unit {0}
+abbrev pub LinesStopAt : Stage → List ℕ → Stop → Type 0
+LinesStopAt stage text (At left) = FailsAt stage text left
+LinesStopAt stage text OutOfMemory = Unit {0}

@@ -9,8 +9,9 @@ ghost use Rattle.labelling.specs.LabelsByBits.{bits_in};
 ghost use Rattle.object_store.specs.Tokens.{IsOf};
 ghost use Rattle.object_text.specs.Labels.{HasOneForEach};
 ghost use Rattle.shape_sampler.specs.State.{SessionBelongs};
-ghost use Rattle.certificate.specs.Checks.{entry_checks, entries_checks, made_checks, IsNext};
-ghost use Rattle.certificate.specs.Checks.{IsSized};
+ghost use Rattle.certificate.specs.Checks.{entry_checks, entries_checks, made_checks};
+ghost use Rattle.certificate.specs.Checks.{IsNumberedNext};
+ghost use Rattle.certificate.specs.Checks.{IsSizedEntry};
 ghost use Rattle.certificate.specs.Soundness.{IsSoundEntry};
 ghost use Rattle.certificate.specs.Verdicts.{FirstFails};
 ghost use Rattle.certificate.specs.declared.reason.Verdict.TheVariants as verdict;
@@ -202,7 +203,7 @@ fn test_made(
 
 /// Whether a size is an entry's, within the window.
 fn is_sized(window: Window, size: u64, entry: &CertEntry) -> bool
-    ensures { IsTrue result ↔ IsSized window.least window.greatest size entry.now }
+    ensures { IsTrue result ↔ IsSizedEntry window.least window.greatest size entry.now }
 {
     size == entry.size && window.least <= entry.size && entry.size <= window.greatest
 }
@@ -218,7 +219,7 @@ pub(crate) fn is_same(these: &[u8], those: &[u8]) -> bool
 /// Whether an entry has the next number, and a place that isn't before the end of the bits before.
 fn is_next(entry: &CertEntry, before: Before) -> bool
     requires number { before.number < 2 ^ 60 }
-    ensures { IsTrue result ↔ IsNext before.number before.place entry.now }
+    ensures { IsTrue result ↔ IsNumberedNext before.number before.place entry.now }
 {
     entry.number == before.number + 1 && before.place <= u128::from(entry.place)
 }

@@ -4,10 +4,10 @@ ghost use Rattle.std.specs.Prelude.{◌↔◌, length, codes, slice_index, IsTru
 ghost use Rattle.std.specs.Char.{is_ascii_alphabetic};
 ghost use Rattle.std.specs.List.{AllPass, AllByRecursion};
 ghost use Rattle.bz_model.specs.declared.cell.Cell.{Cell};
-ghost use Rattle.bz_model.specs.Cell.{IsCell};
+ghost use Rattle.bz_model.specs.Cell.{IsCell, AreCells};
 ghost use Rattle.class_system.specs.Words.{IsName, is_run_byte, kept_words};
 ghost use Rattle.certificate.specs.Patterns.{filled, HasNoDigit};
-ghost use Rattle.certificate.specs.Fields.{IsPrinted, IsDigest, AreCells, cell_field, cells_text};
+ghost use Rattle.certificate.specs.Fields.{IsPrinted, IsDigest, cell_field, cells_text};
 ghost use Rattle.certificate.specs.Fields.{base_line};
 
 use crate::pattern::{read_front, read_whole};

@@ -15,18 +15,19 @@ ghost use Rattle.certificate.specs.Verdicts.{FirstFails};
 ghost use Rattle.certificate.specs.Certificates.{IsCertificate, certificate_lines};
 ghost use Rattle.certificate.specs.Fields.{IsDigest};
 ghost use Rattle.certificate.specs.Lines.{text_of};
-ghost use Rattle.certificate.specs.Ranges.{IsInRange};
+ghost use Rattle.certificate.specs.Ranges.{CertificateInRange};
 ghost use Rattle.certificate.specs.Reading.{IsTextOf, IsFirstBad};
 
 /// What is written is read: the text of a certificate has no bad line.
 pub fn written_is_read()
-    ensures { (c : Certificate) (line : ℕ) → IsCertificate c → IsInRange c
+    ensures { (c : Certificate) (line : ℕ) → IsCertificate c → CertificateInRange c
         → ¬ (IsFirstBad (text_of (certificate_lines c)) line) }
 {}
 
 /// One text has one certificate: certificates with one text have the same lines.
 pub fn one_text_one_certificate()
-    ensures { (a b : Certificate) → IsCertificate a → IsInRange a → IsCertificate b → IsInRange b
+    ensures { (a b : Certificate) → IsCertificate a → CertificateInRange a → IsCertificate b
+        → CertificateInRange b
         → text_of (certificate_lines a) ≡ text_of (certificate_lines b)
         → certificate_lines a ≡ certificate_lines b }
 {}

@@ -6,7 +6,7 @@ ghost use Rattle.certificate.specs.Certificates.{header_lines, entry_lines, clos
 ghost use Rattle.certificate.specs.Certificates.{certificate_lines};
 ghost use Rattle.certificate.specs.Reading.{IsTextOf, IsRefusal};
 ghost use Rattle.certificate.specs.Stages.{Stage, after_mode, Passes, HasNoBase, HasNoObject};
-ghost use Rattle.certificate.specs.Stops.{StopsAt};
+ghost use Rattle.certificate.specs.Stops.{LinesStopAt};
 
 use crate::certificate::{CertEntries, CertEntry, Certificate, Header};
 use crate::closing::Closing;
@@ -81,7 +81,7 @@ fn line_at(bytes: &[u8], left: usize) -> u64
 /// The certificate that a text is.
 fn read_certificate(alloc: Global, bytes: &[u8]) -> Result<Certificate, Stop>
     ensures ok { IfOk result (IsTextOf bytes.now) }
-    ensures err { IfErr result (StopsAt Stage.AtVersion bytes.now) }
+    ensures err { IfErr result (LinesStopAt Stage.AtVersion bytes.now) }
 {
     let (header, rest) = read_header(alloc, bytes)?;
     let (entries, rest) = read_entries(alloc, rest)?;
@@ -102,7 +102,7 @@ fn read_header(alloc: Global, text: &[u8]) -> Result<(Header, &[u8]), Stop>
         (Stage.AtBase p.0.names) p.1.now) }
     ensures one_each { IfOk result (λ p. length p.0.base ≡ length p.0.names) }
     ensures last { IfOk result (λ p. HasNoBase p.0.names p.1.now) }
-    ensures err { IfErr result (StopsAt Stage.AtVersion text.now) }
+    ensures err { IfErr result (LinesStopAt Stage.AtVersion text.now) }
 {
     let Some((version, rest)) = version_at(text) else {
         return Err(Stop::At(text.len()));
@@ -139,7 +139,7 @@ fn read_header(alloc: Global, text: &[u8]) -> Result<(Header, &[u8]), Stop>
 fn read_digest(version: u8, text: &[u8]) -> Result<(Option<SpecDigest>, &[u8]), Stop>
     ensures ok { IfOk result (λ p.
         Passes (after_mode version) text.now (spec_lines p.0) Stage.AtX p.1.now) }
-    ensures err { IfErr result (StopsAt (after_mode version) text.now) }
+    ensures err { IfErr result (LinesStopAt (after_mode version) text.now) }
 {
     if version == 1 {
         return Ok((None, text));
@@ -174,7 +174,7 @@ fn read_entries(alloc: Global, text: &[u8]) -> Result<(CertEntries, &[u8]), Stop
         Passes Stage.AtObject text.now (flat_map entry_lines p.0) Stage.AtObject
         p.1.now) }
     ensures last { IfOk result (λ p. HasNoObject p.1.now) }
-    ensures err { IfErr result (StopsAt Stage.AtObject text.now) }
+    ensures err { IfErr result (LinesStopAt Stage.AtObject text.now) }
 {
     let mut entries = CertEntries::new(alloc);
     let mut rest = text;
@@ -191,7 +191,7 @@ fn read_entry(alloc: Global, text: &[u8]) -> Result<Option<(CertEntry, &[u8])>, 
         (λ o. IfSome o (λ p. Passes Stage.AtObject text.now (entry_lines p.0) Stage.AtObject
         p.1.now)) }
     ensures none { IfOk result (λ o. IfNone o (HasNoObject text.now)) }
-    ensures err { IfErr result (StopsAt Stage.AtObject text.now) }
+    ensures err { IfErr result (LinesStopAt Stage.AtObject text.now) }
 {
     let Some(((number, place, size), rest)) = object_at(text) else {
         return Ok(None);
@@ -218,7 +218,7 @@ fn read_closing(text: &[u8]) -> Result<(Closing, &[u8]), Stop>
     requires { HasNoObject text.now }
     ensures ok { IfOk result (λ p.
         Passes Stage.AtObject text.now (closing_lines p.0) Stage.Over p.1.now) }
-    ensures err { IfErr result (StopsAt Stage.AtObject text.now) }
+    ensures err { IfErr result (LinesStopAt Stage.AtObject text.now) }
 {
     let Some((straddle, rest)) = open_at(text) else {
         return match end_at(text) {

@@ -44,7 +44,7 @@ use Rattle.certificate.specs.Completeness.{AreKept, IsOfDrawing}
 use Rattle.certificate.specs.Fields.{IsPrinted}
 use Rattle.certificate.specs.Headers.{code_mode, header_of}
 use Rattle.certificate.specs.Lines.{Line, whole_line, version_line, text_of}
-use Rattle.certificate.specs.Ranges.{EntryInRange, IsInRange}
+use Rattle.certificate.specs.Ranges.{EntryInRange, CertificateInRange}
 use Rattle.certificate.specs.Reading.{IsTextOf}
 use Rattle.certificate.specs.Verdicts.{FirstFails}
 use Rattle.certificate.proofs.Writing.{text-append}
@@ -282,7 +282,7 @@ module _ (s : Spec) (sound : IsSound s) (once : AreDistinct s.names) (x : Fracti
       closing = tt;
     }
 
-    in-range : IsInRange cert
+    in-range : CertificateInRange cert
     in-range = record {
       header = record { fraction = few_bits; min = let w = are.window in let m = max-small in omega (arith, w, m); max = max-small; base = is_base.small };
       entries = entries-small s sound F table limits c.state.kept c.state.attempt.used kept-small (used-small limits c are whole.few) max-small c.entries texts
@@ -302,7 +302,7 @@ module _ (s : Spec) (sound : IsSound s) (once : AreDistinct s.names) (x : Fracti
       closing = sym all-counted;
     }
 
-    text-is : (lines : List ℕ) → lines ≡ text_of (flat_map entry_lines (cert_entries c.entries texts)) → drawn_header (version_line 2) (setting s x.num x.den F) base limits ++ (lines ++ drawn.closing_lines table c Ending.Done) ≡ text_of (certificate_lines cert)
+    text-is : (lines : List ℕ) → lines ≡ text_of (flat_map entry_lines (cert_entries c.entries texts)) → drawn_header (version_line 2) (setting s x.num x.den F) base limits ++ (lines ++ drawn.closing_text table c Ending.Done) ≡ text_of (certificate_lines cert)
     text-is lines is =
         let entries = flat_map entry_lines (cert_entries c.entries texts) in
         let last = closing_lines cert.closing in
@@ -312,7 +312,7 @@ module _ (s : Spec) (sound : IsSound s) (once : AreDistinct s.names) (x : Fracti
         ∙ sym (text-append (header_lines cert.header) (entries ++ last))
 
     -- what such a drawing wrote is its certificate's text, and all tests pass
-    pub certified : (lines text : List ℕ) → lines ≡ text_of (flat_map entry_lines (cert_entries c.entries texts)) → text ≡ drawn_header (version_line 2) (setting s x.num x.den F) base limits ++ (lines ++ drawn.closing_lines table c Ending.Done) → IsCertificateOf s F limits.count text
+    pub certified : (lines text : List ℕ) → lines ≡ text_of (flat_map entry_lines (cert_entries c.entries texts)) → text ≡ drawn_header (version_line 2) (setting s x.num x.den F) base limits ++ (lines ++ drawn.closing_text table c Ending.Done) → IsCertificateOf s F limits.count text
     certified lines text is all = record {
       certificate = cert;
       is_text = record { is = is-certificate; in_range = in-range; text = all ∙ text-is lines is };

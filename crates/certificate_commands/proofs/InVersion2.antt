@@ -14,7 +14,7 @@ use Rattle.certificate.specs.declared.reason.Verdict.TheVariants.{Valid, Invalid
 use Rattle.certificate.specs.Certificates.{FitsVersion, FitsHeader, IsCertificate}
 use Rattle.certificate.specs.Checks.{check, checks, digest_checks, digest_count, header_checks, name_checks, value_checks, base_checks, entries_checks, rest_checks, first_base_line, first_entry_line, last_line, levels_of, HasFraction, HasWindow}
 use Rattle.certificate.specs.Fields.{IsDigest}
-use Rattle.certificate.specs.Ranges.{HeaderInRange, IsInRange}
+use Rattle.certificate.specs.Ranges.{HeaderInRange, CertificateInRange}
 use Rattle.certificate.specs.Reading.{IsTextOf}
 use Rattle.certificate.specs.Verdicts.{Check, FirstFails}
 use Rattle.certificate_commands.specs.Tested.{tested_bits}
@@ -168,7 +168,7 @@ module _ (s : Spec) (F : ℕ) (c : Certificate) where
 is-in-2 : AreDigests → (s : Spec) (c : Certificate) → IsCertificate c → IsCertificate (certificate_in_2 s c)
 is-in-2 digests s c is = record { header = header-fits digests s c.header is.header; num = is.num; den = is.den; names = is.names; distinct = is.distinct; entries = is.entries; closing = is.closing }
 
-in-range-in-2 : (s : Spec) (c : Certificate) → IsInRange c → IsInRange (certificate_in_2 s c)
+in-range-in-2 : (s : Spec) (c : Certificate) → CertificateInRange c → CertificateInRange (certificate_in_2 s c)
 in-range-in-2 s c is = record { header = header-in-range s c.header is.header; entries = is.entries; closing = is.closing }
 
 -- What is valid is valid in version 2.

@@ -11,7 +11,7 @@ use Rattle.call_stages.specs.declared.report.Refusal.{Refusal}
 use Rattle.call_stages.specs.declared.report.Refusal.TheVariants as refusal
 use Rattle.call_stages.specs.declared.status.Status.{Status}
 use Rattle.call_stages.proofs.Staging.{says-nothing}
-use Rattle.certificate_commands.specs.CertificateStage.{too_long_line, bad_line, CertificateJudged, CertificateRead, IsCertificateIn}
+use Rattle.certificate_commands.specs.CertificateStage.{long_certificate_line, bad_line, CertificateJudged, CertificateRead, IsCertificateIn}
 use Rattle.certificate_commands.specs.CertificateStage as stage
 
 -- nothing comes after a certificate
@@ -19,7 +19,7 @@ abbrev pub nothing : Certificate → Outcome
 nothing c = Never
 
 -- the file is too long
-pub too_long : (bytes : List ℕ) (status : Status) (text : List ℕ) → 268435456 < length bytes → Says Status.CertRefused too_long_line 0 status text 0 → CertificateJudged nothing bytes status text 0
+pub too_long : (bytes : List ℕ) (status : Status) (text : List ℕ) → 268435456 < length bytes → Says Status.CertRefused long_certificate_line 0 status text 0 → CertificateJudged nothing bytes status text 0
 too_long bytes status text long says = stage.too_long long says
 
 -- the text is refused

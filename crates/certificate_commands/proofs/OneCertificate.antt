@@ -17,7 +17,7 @@ use Rattle.call_stages.specs.Outcomes.{Outcome, Says, MaySay, IsOne}
 use Rattle.call_stages.specs.Stages.{Files, AreCalm, HasSpecification}
 use Rattle.call_stages.specs.declared.status.Status.{Status}
 use Rattle.call_stages.proofs.OneReading.{may-say-only, read-only, one-read, one-specified}
-use Rattle.certificate_commands.specs.CertificateStage.{bad_line, too_long_line, CertificateJudged, CertificateRead}
+use Rattle.certificate_commands.specs.CertificateStage.{bad_line, long_certificate_line, CertificateJudged, CertificateRead}
 use Rattle.certificate_commands.specs.CertificateStage as stage
 use Rattle.certificate_commands.specs.Tested.{tested_bits, test_ticks, invalid_line, Tested, ReadAndTested, Verified}
 use Rattle.certificate_commands.specs.Tested as tests
@@ -109,7 +109,7 @@ module _ (laws : OneText) (s : Spec) (line : Certificate → List ℕ) (one_line
     judged-twice : (bytes : List ℕ) → ((at lower : ℕ) → IsFirstBad bytes at → IsFirstBad bytes lower → at ≡ lower) → CertificateJudged tested bytes status text ticks → CertificateJudged tested bytes other others more → (status ≡ other) × (text ≡ others)
     judged-twice bytes one_bad (stage.no_memory says) q = absurd (m says.status_is)
     judged-twice bytes one_bad (stage.read c few is p) q = let r = certificate-only tested bytes c few is other others more n q in tested-twice c r.0 (laws.alike bytes c r.0 is r.1) p r.2
-    judged-twice bytes one_bad (stage.too_long long says) (stage.too_long longer says_too) = same-said Status.CertRefused status other too_long_line text others 0 ticks says (says_too.status_is, says_too.text_is)
+    judged-twice bytes one_bad (stage.too_long long says) (stage.too_long longer says_too) = same-said Status.CertRefused status other long_certificate_line text others 0 ticks says (says_too.status_is, says_too.text_is)
     judged-twice bytes one_bad (stage.too_long long says) (stage.refused at few bad says_too) = absurd (omega (arith, few, long))
     judged-twice bytes one_bad (stage.too_long long says) (stage.no_memory says_too) = absurd (n says_too.status_is)
     judged-twice bytes one_bad (stage.too_long long says) (stage.read c few is q) = absurd (omega (arith, few, long))

@@ -93,13 +93,13 @@ module _ (laws : CourseLaws) (valid : (s : Spec) (F : ℕ) (c : Certificate) →
     header = drawn_header (version_line 2) (setting s x.num x.den F) base (limits_of limits)
 
     -- a drawing that came to its end with Done
-    at-end : (c : Course) (most : ℕ) (ending : Ending) (lines : List ℕ) → ending ≡ Ending.Done → IsDrawn s (ratio x.num x.den) F (level_bounds_from (setting s x.num x.den F) (zeros (setting s x.num x.den F)) base) (limits_of limits) in_call c most ending → Lists s c.entries lines → text ≡ header ++ (lines ++ drawn.closing_lines (level_bounds_from (setting s x.num x.den F) (zeros (setting s x.num x.den F)) base) c ending) → IsCertificateOf s F limits.count text
+    at-end : (c : Course) (most : ℕ) (ending : Ending) (lines : List ℕ) → ending ≡ Ending.Done → IsDrawn s (ratio x.num x.den) F (level_bounds_from (setting s x.num x.den F) (zeros (setting s x.num x.den F)) base) (limits_of limits) in_call c most ending → Lists s c.entries lines → text ≡ header ++ (lines ++ drawn.closing_text (level_bounds_from (setting s x.num x.den F) (zeros (setting s x.num x.den F)) base) c ending) → IsCertificateOf s F limits.count text
     at-end c most ending lines is h l text_is =
         let table = level_bounds_from (setting s x.num x.den F) (zeros (setting s x.num x.den F)) base in
         let sound = is-sound bytes s accepted.stands in
         let entries = of-entries s c.entries lines l in
         let whole = is-whole laws s sound F table (limits_of limits) (ratio x.num x.den) in_call c most h.course (h.ended ∙ ap Some is) in
-        certified s sound (names-once bytes s accepted.stands) x F (few-bits bits) (limits_of limits) are base (is-base (setting s x.num x.den F) base has) (λ cert. valid s F cert sound) digests c whole (h.kept is) entries.texts entries.are lines text entries.lines_are (text_is ∙ ap (λ e. header ++ (lines ++ drawn.closing_lines table c e)) is)
+        certified s sound (names-once bytes s accepted.stands) x F (few-bits bits) (limits_of limits) are base (is-base (setting s x.num x.den F) base has) (λ cert. valid s F cert sound) digests c whole (h.kept is) entries.texts entries.are lines text entries.lines_are (text_is ∙ ap (λ e. header ++ (lines ++ drawn.closing_text table c e)) is)
 
     drawn-done : (ticks : ℕ) → DrawnFrom false (setting s x.num x.den F) (limits_of limits) in_call base (zeros (setting s x.num x.den F)) status text ticks → IsCertificateOf s F limits.count text
     drawn-done ticks (drawn.ended c most ending lines h l says) = at-end c most ending lines (done-ending ending (sym says.status_is ∙ done)) h l says.text_is

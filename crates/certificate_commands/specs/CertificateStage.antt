@@ -8,8 +8,8 @@ use Rattle.call_stages.specs.Stages.{Files, AreRead, FileRead}
 use Rattle.call_stages.specs.declared.status.Status.{Status}
 
 -- A certificate's file is too long.
-abbrev pub too_long_line : List ℕ
-too_long_line = codes "refused certificate too long" ++ feed
+abbrev pub long_certificate_line : List ℕ
+long_certificate_line = codes "refused certificate too long" ++ feed
 
 -- The first bad line of a text that is no certificate's.
 abbrev pub bad_line : (line : ℕ) → List ℕ
@@ -19,7 +19,8 @@ bad_line line = codes "refused certificate line " ++ (decimal line ++ feed)
 -- certificate. The specification isn't looked at.
 pub data CertificateJudged (next : Certificate
     → Outcome) (bytes : List ℕ) (status : Status) (text : List ℕ) (ticks : ℕ) : Type 0 where
-  too_long : 268435456 < length bytes → Says Status.CertRefused too_long_line 0 status text ticks
+  too_long : 268435456 < length bytes
+      → Says Status.CertRefused long_certificate_line 0 status text ticks
       → CertificateJudged next bytes status text ticks
   refused : (line : ℕ) → length bytes ≤ 268435456 → IsFirstBad bytes line
       → Says Status.CertRefused (bad_line line) 0 status text ticks

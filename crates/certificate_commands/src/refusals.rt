@@ -2,7 +2,7 @@
 ghost use Rattle.std.specs.Prelude.{◌≡◌, IfOk, string_bytes};
 ghost use Rattle.call_stages.specs.Outcomes.{Says};
 ghost use Rattle.call_stages.specs.declared.status.Status.{Status};
-ghost use Rattle.certificate_commands.specs.CertificateStage.{too_long_line, bad_line};
+ghost use Rattle.certificate_commands.specs.CertificateStage.{long_certificate_line, bad_line};
 ghost use Rattle.certificate_commands.specs.Tested.{reason_word, invalid_line};
 
 use call_stages::report::Report;
@@ -12,7 +12,8 @@ use std::alloc::{AllocError, Global};
 
 /// A certificate's file has too many bytes.
 pub(crate) fn too_long_refusal(alloc: Global) -> Result<Report, AllocError>
-    ensures { IfOk result (λ r. Says Status.CertRefused too_long_line 0 r.status r.text.items 0) }
+    ensures { IfOk result (λ r.
+        Says Status.CertRefused long_certificate_line 0 r.status r.text.items 0) }
 {
     let text = Vec::from_slice(alloc, b"refused certificate too long\n")?;
     Ok(Report {

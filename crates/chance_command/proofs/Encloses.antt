@@ -14,7 +14,7 @@ use Rattle.object_store.proofs.OneToOne.{one-of-class}
 use Rattle.object_text.specs.Reading.{IsRead, TellsFault}
 use Rattle.object_text.specs.declared.fault.TextFault.{TextFault}
 use Rattle.object_text.proofs.Agreeing.{no-fault-read, one-fault-told}
-use Rattle.object_stage.specs.ObjectStage.{without_feed, too_long_line, object_line, ObjectJudged, ObjectRead, IsObjectIn}
+use Rattle.object_stage.specs.ObjectStage.{without_feed, too_long_line, object_fault_line, ObjectJudged, ObjectRead, IsObjectIn}
 use Rattle.object_stage.specs.ObjectStage as stage
 use Rattle.object_stage.proofs.OneObject.{object-only}
 use Rattle.rounded_map.specs.RoundedMap.{Setting, setting}
@@ -66,15 +66,15 @@ baseless f file x object F s tokens labels status text ticks has found none memo
     baseless-only t (Weighed t tokens) none status text ticks memory (searched-only f file x object F s tokens labels status text ticks has found memory h)
 
 -- a text with a fault is refused
-fault-only : (s : Spec) (next : List Token → Option (List ℕ) → Outcome) (bytes : List ℕ) (fault : TextFault) → IsSound s → IsWithinLimits s → length bytes ≤ 16777216 → fault ≢ TextFault.OutOfMemory → TellsFault s 0 (without_feed bytes) fault → (status : Status) (text : List ℕ) (ticks : ℕ) → status ≢ Status.OutOfMemory → ObjectJudged s next bytes status text ticks → (status ≡ Status.ObjectRefused) × (text ≡ object_line fault)
+fault-only : (s : Spec) (next : List Token → Option (List ℕ) → Outcome) (bytes : List ℕ) (fault : TextFault) → IsSound s → IsWithinLimits s → length bytes ≤ 16777216 → fault ≢ TextFault.OutOfMemory → TellsFault s 0 (without_feed bytes) fault → (status : Status) (text : List ℕ) (ticks : ℕ) → status ≢ Status.OutOfMemory → ObjectJudged s next bytes status text ticks → (status ≡ Status.ObjectRefused) × (text ≡ object_fault_line fault)
 fault-only s next bytes fault sound within few n tells status text ticks memory (stage.too_long long says) = absurd (omega (arith, few, long))
 fault-only s next bytes fault sound within few n tells status text ticks memory (stage.no_memory says) = absurd (memory says.status_is)
 fault-only s next bytes fault sound within few n tells status text ticks memory (stage.read tokens labels f is p) = absurd (n (no-fault-read s sound within 0 (without_feed bytes) tokens labels fault is tells))
-fault-only s next bytes fault sound within few n tells status text ticks memory (stage.refused other f m tells_too says) = (says.status_is, says.text_is ∙ ap object_line (one-fault-told s sound within 0 (without_feed bytes) other fault tells_too tells m n))
+fault-only s next bytes fault sound within few n tells status text ticks memory (stage.refused other f m tells_too says) = (says.status_is, says.text_is ∙ ap object_fault_line (one-fault-told s sound within 0 (without_feed bytes) other fault tells_too tells m n))
 
 -- Where the object's file holds no canonical text of an object, for some cause, the chance command
 -- refuses it with that cause, unless memory runs out.
-pub refused : (f : Files) (file : List ℕ) (x : Fraction) (object : List ℕ) (F : ℕ) (s : Spec) (fault : TextFault) (status : Status) (text : List ℕ) (ticks : ℕ) → HasSpecification f file s → LacksObjectText f object s fault → fault ≢ TextFault.OutOfMemory → status ≢ Status.OutOfMemory → CarriesChance f file x object F status text ticks → (status ≡ Status.ObjectRefused) × (text ≡ object_line fault)
+pub refused : (f : Files) (file : List ℕ) (x : Fraction) (object : List ℕ) (F : ℕ) (s : Spec) (fault : TextFault) (status : Status) (text : List ℕ) (ticks : ℕ) → HasSpecification f file s → LacksObjectText f object s fault → fault ≢ TextFault.OutOfMemory → status ≢ Status.OutOfMemory → CarriesChance f file x object F status text ticks → (status ≡ Status.ObjectRefused) × (text ≡ object_fault_line fault)
 refused f file x object F s fault status text ticks has lacks n memory h =
     let next = λ (others : List Token) (told : Option (List ℕ)). WeighedAt (setting s x.num x.den F) others in
     fault-only s next lacks.calm.bytes fault (accepted-sound has.calm.bytes s has.accepted) has.accepted.within lacks.few n lacks.tells status text ticks memory

@@ -14,7 +14,7 @@ ghost use Rattle.call_stages.specs.Outcomes.{IsOne};
 ghost use Rattle.call_stages.specs.Refusals.{no_upper_text};
 ghost use Rattle.call_stages.specs.Stages.{Files, IsCalm, AreCalm, HasSpecification};
 ghost use Rattle.call_stages.specs.declared.status.Status.{Status};
-ghost use Rattle.object_stage.specs.ObjectStage.{too_long_line, object_line};
+ghost use Rattle.object_stage.specs.ObjectStage.{too_long_line, object_fault_line};
 ghost use Rattle.chance_command.specs.ChanceCommand.{chance_text, AreBoundsOver, CarriesChance};
 ghost use Rattle.chance_command.specs.Completeness.{HasObjectText, LacksObjectText, EnclosesChance};
 
@@ -70,7 +70,7 @@ pub fn what_is_no_object_is_refused()
         → HasSpecification f file s → LacksObjectText f object s fault
         → fault ≢ TextFault.OutOfMemory → status ≢ Status.OutOfMemory
         → CarriesChance f file x object F status text ticks
-        → (status ≡ Status.ObjectRefused) × (text ≡ object_line fault) }
+        → (status ≡ Status.ObjectRefused) × (text ≡ object_fault_line fault) }
 {}
 
 /// What is printed of the worked chances: 1/2 for `1.Z` of `C = Z + Z` at 1/2, and 1 for the cycle

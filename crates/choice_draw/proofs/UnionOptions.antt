@@ -15,11 +15,11 @@ use Rattle.bz_laws.proofs.Fractions.{AtMost-trans}
 use Rattle.bz_laws.proofs.Samples.{AboveBy-weaker}
 use Rattle.bz_laws.proofs.Bounds.{above-min, below-lower, above-higher, units_sum, units_sum'}
 use Rattle.bz_laws.proofs.Unions.{above-upto, below-upto, last-greatest, part_there}
-use Rattle.choice_draw.specs.Decision.{added_down, union_options}
+use Rattle.choice_draw.specs.Decision.{capped_lower_sum, union_options}
 use Rattle.choice_draw.proofs.SoundOptions.{AreSound}
 
 -- a saturating sum is at most the sum
-pub added_down-le : (v : ℕ) (ws : List ℕ) → added_down v ws ≤ v + sum ws
+pub added_down-le : (v : ℕ) (ws : List ℕ) → capped_lower_sum v ws ≤ v + sum ws
 added_down-le v [] = omega arith
 added_down-le v (w ∷ ws) = let rest = added_down-le (min (v + w) (2 ^ 64 - 1)) ws in let first : sum (w ∷ ws) ≡ w + sum ws = sum_by-cons (λ n. n) w ws in omega arith
 
@@ -40,7 +40,7 @@ module _ (s : Spec) (x : Fraction) (F e : ℕ) (parts : List ℕ) (node : node_a
   enclosed : (i p : ℕ) → slice_get parts i ≡ Some p → Encloses s x F p (table level p)
   enclosed i p at = sound.enclosed level p from_one to_six (parts_in_range i p at)
 
-  lower : (i : ℕ) → Below x (units F (added_down 0 (map (λ p. (table level p).lo) (take (suc i) parts)))) (Upto s e i)
+  lower : (i : ℕ) → Below x (units F (capped_lower_sum 0 (map (λ p. (table level p).lo) (take (suc i) parts)))) (Upto s e i)
   lower i =
       below-lower x (total_by (λ p. units F (table level p).lo) (take (suc i) parts)) _ (Upto s e i)
       (AtMost-trans (units-mono F _ (sum_by (λ p. (table level p).lo) (take (suc i) parts)) (omega (arith, added_down-le 0 (map (λ p. (table level p).lo) (take (suc i) parts)), sum-map (λ p. (table level p).lo) (take (suc i) parts)))) (units_sum F (λ p. (table level p).lo) (take (suc i) parts)))

@@ -8,7 +8,7 @@ use Rattle.std.proofs.lemmas.List.{map-append}
 use Rattle.std.proofs.lemmas.List.Sums.{sum_by-append, sum_by-cons}
 use Rattle.bz_model.specs.declared.cell.Cell.{Cell}
 use Rattle.bz_model.specs.declared.cell.Bounds.{Bounds}
-use Rattle.choice_draw.specs.Decision.{Choice, added_down, union_options, is_last, ends_before, begins_after, is_reached, choice_of, taken}
+use Rattle.choice_draw.specs.Decision.{Choice, capped_lower_sum, union_options, is_last, ends_before, begins_after, is_reached, choice_of, taken}
 use Rattle.choice_draw.proofs.LeastPassing.{IsLeastPassing}
 use Rattle.choice_draw.proofs.Choices.{choice-is_taken, choice-unreached}
 
@@ -28,11 +28,11 @@ passes_at node e parts cell i = is_last (Some (length parts - 1)) i || ends_befo
 
 -- the first i parts are passed: the sums of their bounds, and that none of them passes the first test
 pub record IsScanned (node : ℕ → Bounds) (e : ℕ) (parts : List ℕ) (cell : Cell) (i lo before : ℕ) : Type 0 where
-  pub lower : lo ≡ added_down 0 (map (λ p. (node p).lo) (take i parts))
+  pub lower : lo ≡ capped_lower_sum 0 (map (λ p. (node p).lo) (take i parts))
   pub upper : before ≡ min (sum (map (λ p. (node p).hi) (take i parts))) (2 ^ 64 - 1)
   pub none_passes : (j : ℕ) → j < i → passes_at node e parts cell j ≡ false
 
-added_down-append : (v w : ℕ) (ws : List ℕ) → added_down v (ws ++ w ∷ []) ≡ min (added_down v ws + w) (2 ^ 64 - 1)
+added_down-append : (v w : ℕ) (ws : List ℕ) → capped_lower_sum v (ws ++ w ∷ []) ≡ min (capped_lower_sum v ws + w) (2 ^ 64 - 1)
 added_down-append v w [] = refl
 added_down-append v w (u ∷ ws) = added_down-append (min (v + u) (2 ^ 64 - 1)) w ws
 
@@ -51,9 +51,9 @@ map_take-suc : (f : ℕ → ℕ) (parts : List ℕ) (i p : ℕ) → i < length p
 map_take-suc f parts i p inside at = ap (map f) (take-suc parts i 0 inside) ∙ map-append f (take i parts) (get_or parts i 0 ∷ []) ∙ ap (λ q. map f (take i parts) ++ f q ∷ []) at
 
 module _ (node : ℕ → Bounds) (e : ℕ) (parts : List ℕ) (cell : Cell) (i lo before p next : ℕ) (scan : IsScanned node e parts cell i lo before) (inside : i < length parts) (at : get_or parts i 0 ≡ p) (next_is : next ≡ min (lo + (node p).lo) (2 ^ 64 - 1)) where
-  lower_sum : added_down 0 (map (λ q. (node q).lo) (take (suc i) parts)) ≡ next
+  lower_sum : capped_lower_sum 0 (map (λ q. (node q).lo) (take (suc i) parts)) ≡ next
   lower_sum =
-      ap (added_down 0) (map_take-suc (λ q. (node q).lo) parts i p inside at)
+      ap (capped_lower_sum 0) (map_take-suc (λ q. (node q).lo) parts i p inside at)
       ∙ added_down-append 0 (node p).lo (map (λ q. (node q).lo) (take i parts))
       ∙ ap (λ n. min (n + (node p).lo) (2 ^ 64 - 1)) (sym scan.lower)
       ∙ sym next_is
@@ -67,7 +67,7 @@ module _ (node : ℕ → Bounds) (e : ℕ) (parts : List ℕ) (cell : Cell) (i l
   -- a part that fails the first test is passed
   pub scan-step : (next_before : ℕ) → next_before ≡ min (before + (node p).hi) (2 ^ 64 - 1) → (i + 1 ≡ length parts → ⊥) → nat_le (suc cell.k * (node e).hi) (2 ^ cell.b * next) ≡ false → IsScanned node e parts cell (i + 1) next next_before
   scan-step next_before before_is not_last fails = record {
-    lower = subst (λ n. next ≡ added_down 0 (map (λ q. (node q).lo) (take n parts))) one_more (sym lower_sum);
+    lower = subst (λ n. next ≡ capped_lower_sum 0 (map (λ q. (node q).lo) (take n parts))) one_more (sym lower_sum);
     upper = subst (λ n. next_before ≡ min (sum (map (λ q. (node q).hi) (take n parts))) (2 ^ 64 - 1)) one_more (omega (arith, scan.upper, upper_sum));
     none_passes = λ j less. ⊎_elim
         (λ earlier. scan.none_passes j earlier)

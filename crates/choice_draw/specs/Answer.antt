@@ -14,9 +14,9 @@ fault_of (Draw.Failed place) = Some place
 fault_of _ = None
 
 -- Where the tape's end ended the draw, these bits end at its place.
-abbrev pub EndsThere : {A : Type 0} → Draw A → (bits : ℕ → Option Bool) → Type 0
-EndsThere (Draw.Ended place) bits = bits place ≡ None
-EndsThere _ bits = Unit {0}
+abbrev pub DrawEndsThere : {A : Type 0} → Draw A → (bits : ℕ → Option Bool) → Type 0
+DrawEndsThere (Draw.Ended place) bits = bits place ≡ None
+DrawEndsThere _ bits = Unit {0}
 
 -- The cell of a draw is a cell, and one that straddles has 60 bits.
 abbrev pub HasCell : {A : Type 0} → Draw A → Type 0
@@ -40,8 +40,8 @@ pub record IsDraw {A : Type 0} (decide : Cell
     → Option A) (told : Option (ℕ → Option Bool)) (start used : ℕ) (answer : Draw A) : Type 0 where
   pub given : List Bool
   pub gave : Gave told start used given
-  pub ended : IfSome told (EndsThere answer)
-  pub exact : (bits : ℕ → Option Bool) → HasBits bits start given → EndsThere answer bits
+  pub ended : IfSome told (DrawEndsThere answer)
+  pub exact : (bits : ℕ → Option Bool) → HasBits bits start given → DrawEndsThere answer bits
       → answer ≡ draw decide (bit_of bits (fault_of answer)) start
   pub cell : HasCell answer
   pub uses : UsesBits answer start used
@@ -55,9 +55,9 @@ told_draw choice Ended used = Draw.Ended used
 told_draw choice ReadFault used = Draw.Failed used
 
 -- The answer is that the shelf failed.
-abbrev pub is_fault : Drawn → Bool
-is_fault ReadFault = true
-is_fault _ = false
+abbrev pub is_draw_fault : Drawn → Bool
+is_draw_fault ReadFault = true
+is_draw_fault _ = false
 
 -- What is said of a value and its cell holds, where the answer is a value.
 abbrev pub OnValue : Drawn → (ℕ → Cell → Type 0) → Type 0

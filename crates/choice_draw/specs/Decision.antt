@@ -79,9 +79,9 @@ abbrev pub choice_of : Options → Cell → Option Choice
 choice_of o cell = choice_from o cell (least_option o cell)
 
 -- The sum of lower bounds, added from left to right, which stops at the greatest number of 64 bits.
-abbrev pub added_down : (v : ℕ) → List ℕ → ℕ
-added_down v [] = v
-added_down v (w ∷ ws) = added_down (min (v + w) (2 ^ 64 - 1)) ws
+abbrev pub capped_lower_sum : (v : ℕ) → List ℕ → ℕ
+capped_lower_sum v [] = v
+capped_lower_sum v (w ∷ ws) = capped_lower_sum (min (v + w) (2 ^ 64 - 1)) ws
 
 -- The options of a union are all its parts, of which the last needs no comparison; the upper bound
 -- of the objects up to an option is at most the node's.
@@ -91,7 +91,7 @@ union_options node e parts = record {
   first = 0;
   count = length parts;
   last = Some (length parts - 1);
-  upto_down = λ i. added_down 0 (map (λ p. (node p).lo) (take (suc i) parts));
+  upto_down = λ i. capped_lower_sum 0 (map (λ p. (node p).lo) (take (suc i) parts));
   upto_up = λ i. min (node e).hi (sum (map (λ p. (node p).hi) (take (suc i) parts)));
   room = None;
 }

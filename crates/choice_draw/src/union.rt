@@ -7,11 +7,11 @@ ghost use Rattle.bz_model.specs.Cell.{IsCell};
 ghost use Rattle.bz_model.specs.Oracle.{LeavesOracle};
 ghost use Rattle.class_system.specs.Views.{number};
 ghost use Rattle.class_system.specs.Each.{Each};
-ghost use Rattle.bit_tape.specs.Tape.{Belongs, LeavesTape, bits_of};
+ghost use Rattle.bit_tape.specs.Tape.{BelongsToShelf, LeavesTape, bits_of_source};
 ghost use Rattle.choice_draw.specs.Decision.{Choice, level_for, level_of, IsUnion, union_parts};
 ghost use Rattle.choice_draw.specs.Decision.{union_choice, union_decision, taken};
 ghost use Rattle.choice_draw.specs.IdealOfCell.{IsIdealOfCell};
-ghost use Rattle.choice_draw.specs.Answer.{IsDraw, OnValue, told_draw, is_fault};
+ghost use Rattle.choice_draw.specs.Answer.{IsDraw, OnValue, told_draw, is_draw_fault};
 
 use crate::cells::{half_of, level_at, power_of_two};
 use crate::drawn::Drawn;
@@ -43,10 +43,10 @@ pub fn draw_union<const F: u32, O: Oracle<F>, S: Shelf, L: Ledger>(
     requires fraction_bits { IsFractionBits F }
     requires union { IsUnion system.now node.0 }
     requires spec { O.spec oracle.old ≡ system.now }
-    requires belongs { Belongs (S.content shelf.old) tape.old }
+    requires belongs { BelongsToShelf (S.content shelf.old) tape.old }
 
     ensures drawn { IsDraw (union_decision system.now (O.table oracle.old) node.0)
-        (bits_of tape.old.source (S.content shelf.old))
+        (bits_of_source tape.old.source (S.content shelf.old))
         tape.old.used tape.new.used (told_draw Choice.Take result tape.new.used) }
     ensures ideal { OnValue result (λ i cell.
         IsIdealOfCell system.now (O.x oracle.old) node.0 cell i) }
@@ -56,7 +56,7 @@ pub fn draw_union<const F: u32, O: Oracle<F>, S: Shelf, L: Ledger>(
         ≡ max (O.raised oracle.old) (level_for (tape.new.used - tape.old.used)) }
     ensures oracle { LeavesOracle O.spec O.x O.table O.cost O.raised
         oracle.old oracle.new steps.old steps.new }
-    ensures tape { LeavesTape S.content S.faults (is_fault result) shelf.old shelf.new tape.old
+    ensures tape { LeavesTape S.content S.faults (is_draw_fault result) shelf.old shelf.new tape.old
         tape.new }
 {
     oracle.known();

@@ -1,10 +1,10 @@
 //! Whole numbers below a number, drawn from bits.
 ghost use Rattle.std.specs.Prelude.{◌≡◌, ℕ, ◌<◌, ◌≤◌, IfSome, IfNone};
 ghost use Rattle.bz_model.specs.Cell.{IsCell};
-ghost use Rattle.bit_tape.specs.Tape.{Belongs, LeavesTape, bits_of};
+ghost use Rattle.bit_tape.specs.Tape.{BelongsToShelf, LeavesTape, bits_of_source};
 ghost use Rattle.choice_draw.specs.Decision.{whole_decision};
 ghost use Rattle.choice_draw.specs.Whole.{Decides};
-ghost use Rattle.choice_draw.specs.Answer.{IsDraw, OnValue, told_draw, is_fault};
+ghost use Rattle.choice_draw.specs.Answer.{IsDraw, OnValue, told_draw, is_draw_fault};
 
 use crate::cells::{half_of, power_of_two};
 use crate::drawn::Drawn;
@@ -21,13 +21,13 @@ use bz_outside::shelf::Shelf;
 pub fn draw_whole<S: Shelf>(m: u64, tape: &mut Tape, shelf: &mut S) -> Drawn
     requires at_least_two { 2 ≤ m }
     requires within_limit { m ≤ 1000000 }
-    requires belongs { Belongs (S.content shelf.old) tape.old }
+    requires belongs { BelongsToShelf (S.content shelf.old) tape.old }
 
-    ensures drawn { IsDraw (whole_decision m) (bits_of tape.old.source (S.content shelf.old))
+    ensures drawn { IsDraw (whole_decision m) (bits_of_source tape.old.source (S.content shelf.old))
         tape.old.used tape.new.used (told_draw (λ i. i) result tape.new.used) }
     ensures decided { OnValue result (λ i cell. Decides cell.k cell.b m i) }
     ensures below { OnValue result (λ i cell. i < m) }
-    ensures tape { LeavesTape S.content S.faults (is_fault result) shelf.old shelf.new tape.old
+    ensures tape { LeavesTape S.content S.faults (is_draw_fault result) shelf.old shelf.new tape.old
         tape.new }
 {
     let mut cell = Cell { k: 0, b: 0 };

@@ -44,9 +44,9 @@ abbrev pub shown_at : List Shown → ℕ → Shown
 shown_at shown i = unwrap_or (slice_get shown i) (single [])
 
 -- A leaf: its letter, and its word where it has one.
-abbrev pub leaf_text : (letter word : List ℕ) → List ℕ
-leaf_text letter [] = letter
-leaf_text letter (b ∷ bs) = letter ++ codes ":" ++ (b ∷ bs)
+abbrev pub written_leaf : (letter word : List ℕ) → List ℕ
+written_leaf letter [] = letter
+written_leaf letter (b ∷ bs) = letter ++ codes ":" ++ (b ∷ bs)
 
 -- The bound of a counted node, whose plain low is given: nothing for a plain range, else `=k` where
 -- low and high are equal, else `>=low` where there is no high, else `<=high`.
@@ -61,9 +61,9 @@ counted_text operator plain range part = operator ++ bound_text plain range.low 
     ++ bracketed part.text
 
 -- A union or a product: the texts of its parts with a separator between each two of them.
-abbrev pub joined : (kind : Form) → (separator : List ℕ) → (before : List Shown) → (parts : List ℕ)
-    → Shown
-joined kind separator before parts =
+abbrev pub joined_text : (kind : Form) → (separator : List ℕ) → (before : List Shown)
+    → (parts : List ℕ) → Shown
+joined_text kind separator before parts =
     record {
       form = kind;
       text =
@@ -72,11 +72,13 @@ joined kind separator before parts =
 
 -- What is shown of a node, from what is shown of the nodes before it.
 abbrev pub node_shown : (names : List (List ℕ)) → (before : List Shown) → Node → Range → Shown
-node_shown names before (Node.Empty word) range = single (leaf_text (codes "E") word)
-node_shown names before (Node.Atom word) range = single (leaf_text (codes "Z") word)
+node_shown names before (Node.Empty word) range = single (written_leaf (codes "E") word)
+node_shown names before (Node.Atom word) range = single (written_leaf (codes "Z") word)
 node_shown names before (Node.Class c) range = single (unwrap_or (slice_get names c) [])
-node_shown names before (Node.Union parts) range = joined form.Summed (codes " + ") before parts
-node_shown names before (Node.Product parts) range = joined form.Multiplied (codes "*") before parts
+node_shown names before (Node.Union parts) range = joined_text form.Summed
+    (codes " + ") before parts
+node_shown names before (Node.Product parts) range = joined_text form.Multiplied
+    (codes "*") before parts
 node_shown names before (Node.Seq part) range =
     single (counted_text (codes "Seq") 0 range (shown_at before part))
 node_shown names before (Node.Set part) range =
@@ -94,12 +96,12 @@ mode_word Mode.Unlabelled = codes "unlabelled"
 mode_word Mode.Labelled = codes "labelled"
 
 -- A class's line: its name, `=`, the text of its body, and a line feed.
-abbrev pub class_text : (name : List ℕ) → (body : Shown) → List ℕ
-class_text name body = name ++ codes " = " ++ body.text ++ 10 ∷ []
+abbrev pub canonical_class_line : (name : List ℕ) → (body : Shown) → List ℕ
+canonical_class_line name body = name ++ codes " = " ++ body.text ++ 10 ∷ []
 
 -- The line of a class, from its name and the number of its body.
 abbrev pub class_line : (shown : List Shown) → List ℕ × ℕ → List ℕ
-class_line shown p = class_text p.0 (shown_at shown p.1)
+class_line shown p = canonical_class_line p.0 (shown_at shown p.1)
 
 -- The canonical text: the mode's line, and a line for each class.
 abbrev pub canonical_text : Spec → List ℕ

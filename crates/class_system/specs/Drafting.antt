@@ -22,11 +22,11 @@ abbrev pub with_body : Spec → ℕ → Spec
 with_body s e = record s { bodies = s.bodies ++ e ∷ [] }
 
 -- A node is a sequence, a set or a cycle.
-abbrev pub IsCountedNode : Node → Type 0
-IsCountedNode (Node.Seq part) = Unit {0}
-IsCountedNode (Node.Set part) = Unit {0}
-IsCountedNode (Node.Cyc part) = Unit {0}
-IsCountedNode _ = ⊥
+abbrev pub HasCountedParts : Node → Type 0
+HasCountedParts (Node.Seq part) = Unit {0}
+HasCountedParts (Node.Set part) = Unit {0}
+HasCountedParts (Node.Cyc part) = Unit {0}
+HasCountedParts _ = ⊥
 
 -- A name is refused as the name of a class that has it, or for want of memory where no class has
 -- it.

@@ -12,14 +12,14 @@ use Rattle.class_system.specs.declared.limits.BuildFault.TheVariants.{TooDeep, T
 use Rattle.class_system.specs.declared.limits.BuildFault.TheVariants.{OutOfMemory}
 
 -- The greatest of some numbers, and 0 of none.
-abbrev pub greatest : List ℕ → ℕ
-greatest [] = 0
-greatest (n ∷ ns) = max n (greatest ns)
+abbrev pub greatest_of : List ℕ → ℕ
+greatest_of [] = 0
+greatest_of (n ∷ ns) = max n (greatest_of ns)
 
 -- The depth of a node is one more than the greatest depth of its parts, so that a leaf and a
 -- reference have depth 1.
 abbrev pub node_depth : (before : List ℕ) → Node → Range → ℕ
-node_depth before n range = suc (greatest (map (slice_index before) (parts_of n)))
+node_depth before n range = suc (greatest_of (map (slice_index before) (parts_of n)))
 
 -- The depths of all nodes.
 abbrev pub depths : Spec → List ℕ
@@ -27,7 +27,7 @@ depths s = node_results node_depth [] (ranged_nodes s)
 
 -- The depth of a specification is the greatest depth of a node.
 abbrev pub depth_of : Spec → ℕ
-depth_of s = greatest (depths s)
+depth_of s = greatest_of (depths s)
 
 -- A node has at most 64 parts.
 pub record HasFewParts (n : Node) : Type 0 where

@@ -4,9 +4,11 @@ ghost use Rattle.class_system.specs.Each.{Each};
 ghost use Rattle.class_system.specs.Views.{spec_node, spec_range, spec_mode, number};
 ghost use Rattle.class_system.specs.NodeOrder.{parts_of};
 ghost use Rattle.class_system.specs.Sound.{IsSound, RefersBelow};
-ghost use Rattle.class_system.specs.CanonicalText.{single, is_bracketed, part_text, joined};
-ghost use Rattle.class_system.specs.CanonicalText.{leaf_text, bound_text, counted_text, bracketed};
-ghost use Rattle.class_system.specs.CanonicalText.{node_shown, all_shown, mode_word, class_text};
+ghost use Rattle.class_system.specs.CanonicalText.{single, is_bracketed, part_text, joined_text};
+ghost use Rattle.class_system.specs.CanonicalText.{written_leaf, bound_text, counted_text};
+ghost use Rattle.class_system.specs.CanonicalText.{bracketed};
+ghost use Rattle.class_system.specs.CanonicalText.{node_shown, all_shown, mode_word};
+ghost use Rattle.class_system.specs.CanonicalText.{canonical_class_line};
 ghost use Rattle.class_system.specs.CanonicalText.{canonical_text};
 
 use crate::draft::{Draft, Mode};
@@ -68,7 +70,8 @@ fn mode_line(alloc: Global, mode: Mode) -> Result<Vec<u8>, AllocError>
 
 /// Appends the line of a class.
 fn push_class(text: &mut Vec<u8>, name: &[u8], body: &NodeText) -> Result<(), AllocError>
-    ensures line { OnOk result (text.new.items ≡ text.old.items ++ class_text name.now body.now) }
+    ensures line { OnOk result
+        (text.new.items ≡ text.old.items ++ canonical_class_line name.now body.now) }
 {
     text.extend_from_slice(name)?;
     text.extend_from_slice(b" = ")?;
@@ -118,7 +121,7 @@ fn show_node(
 
 /// A leaf: its letter, and its word where it has one.
 fn leaf(alloc: Global, letter: &[u8], word: &[u8]) -> Result<NodeText, AllocError>
-    ensures text { IfOk result (λ text. text ≡ single (leaf_text letter.now word.now)) }
+    ensures text { IfOk result (λ text. text ≡ single (written_leaf letter.now word.now)) }
 {
     let mut bytes = Vec::from_slice(alloc, letter)?;
     if !word.is_empty() {
@@ -151,7 +154,7 @@ fn joined(
 ) -> Result<NodeText, AllocError>
     requires parts { Each (λ part. part < length before.now) (map number parts.now) }
     ensures text { IfOk result (λ text.
-        text ≡ joined form separator.now before.now (map number parts.now)) }
+        text ≡ joined_text form separator.now before.now (map number parts.now)) }
 {
     let mut bytes: Vec<u8> = Vec::new(alloc);
     for (i, part) in parts.iter().enumerate() {

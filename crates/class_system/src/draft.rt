@@ -5,7 +5,7 @@ ghost use Rattle.bz_model.specs.Spec.{Spec, node_at, range_at, body_of, plain_ra
 ghost use Rattle.class_system.specs.Views.{spec_node, number, spec_range, spec_mode};
 ghost use Rattle.class_system.specs.Distinct.{IsMissing, AreDistinct};
 ghost use Rattle.class_system.specs.Drafting.{empty_draft, with_name, with_node, with_body};
-ghost use Rattle.class_system.specs.Drafting.{IsCountedNode, IsNameFault};
+ghost use Rattle.class_system.specs.Drafting.{HasCountedParts, IsNameFault};
 
 use crate::expr::{Expr, Nodes};
 use crate::ids::{ClassId, ExprId, Parts};
@@ -111,7 +111,7 @@ impl Draft {
     ///
     /// A refusal, which comes for want of memory alone, leaves the draft unchanged.
     pub fn add_counted(&mut self, item: Expr, bounds: Range) -> Result<ExprId, AllocError>
-        requires counted { IsCountedNode (spec_node item) }
+        requires counted { HasCountedParts (spec_node item) }
         requires few { length self.old.nodes < 2 ^ 32 }
         ensures number { IfOk result (λ e. e.0 ≡ length self.old.nodes) }
         ensures ok { OnOk result

@@ -5,7 +5,7 @@ ghost use Rattle.class_system.specs.Each.{Each};
 ghost use Rattle.class_system.specs.Views.{spec_node, number};
 ghost use Rattle.class_system.specs.Sound.{IsSound};
 ghost use Rattle.class_system.specs.Limits.{IsWithinLimits, TellsLimit, IsFirstExcess, HasFewParts};
-ghost use Rattle.class_system.specs.Limits.{depth_of, greatest};
+ghost use Rattle.class_system.specs.Limits.{depth_of, greatest_of};
 
 use crate::draft::Draft;
 use crate::expr::Expr;
@@ -101,8 +101,9 @@ fn greatest_depth(alloc: Global, draft: &Draft) -> Result<u64, AllocError>
 /// One more than the greatest depth of some parts, from the depths of all nodes before.
 fn depth_above(depths: &[u64], parts: &[ExprId]) -> u64
     requires in_range { Each (λ part. part < length depths.now) (map number parts.now) }
-    requires small { greatest depths.now < 2 ^ 64 - 1 }
-    ensures exact { result ≡ suc (greatest (map (slice_index depths.now) (map number parts.now))) }
+    requires small { greatest_of depths.now < 2 ^ 64 - 1 }
+    ensures exact { result
+        ≡ suc (greatest_of (map (slice_index depths.now) (map number parts.now))) }
 {
     let mut most: u64 = 0;
     for part in parts {

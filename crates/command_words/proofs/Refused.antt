@@ -9,7 +9,7 @@ use Rattle.command_words.specs.declared.fault.WordsFault.{WordsFault}
 use Rattle.command_words.specs.declared.fault.WordsFault.TheVariants.{BadValue}
 use Rattle.command_words.specs.declared.names.CommandName.{CommandName}
 use Rattle.command_words.specs.Words.{Given}
-use Rattle.command_words.specs.Values.{StandsFor, IsAccepted, IsRefused, IsSet, IsBad, IsFirstRefused, order, texts_of}
+use Rattle.command_words.specs.Values.{StandsFor, IsAcceptedValue, IsRefused, IsSet, IsBad, IsFirstRefused, order, texts_of}
 use Rattle.command_words.specs.Values as bad
 use Rattle.command_words.specs.Reading.{IsX, IsBadOne}
 
@@ -33,7 +33,7 @@ pub order-injective : (v w : ValueName) → order v ≡ order w → v ≡ w
 order-injective v w e = sym (value_at-order v) ∙ ap value_at e ∙ value_at-order w
 
 -- a text that stands for a number as a value is accepted
-pub accepted : (name : CommandName) (v : ValueName) (text : List ℕ) (n : ℕ) → StandsFor name v text n → IsAccepted name v text
+pub accepted : (name : CommandName) (v : ValueName) (text : List ℕ) (n : ℕ) → StandsFor name v text n → IsAcceptedValue name v text
 accepted name X text n h = absurd h.within
 accepted name Seed text n h = (n, h)
 accepted name Min text n h = (n, h)
@@ -45,7 +45,7 @@ accepted name N text n h = (n, h)
 accepted name Rank text n h = (n, h)
 
 -- one that stands for no number is not, but for the x
-pub not_accepted : (name : CommandName) (v : ValueName) (text : List ℕ) → v ≢ X → ((n : ℕ) → ¬ (StandsFor name v text n)) → ¬ (IsAccepted name v text)
+pub not_accepted : (name : CommandName) (v : ValueName) (text : List ℕ) → v ≢ X → ((n : ℕ) → ¬ (StandsFor name v text n)) → ¬ (IsAcceptedValue name v text)
 not_accepted name X text other h a = other refl
 not_accepted name Seed text other h a = h a.0 a.1
 not_accepted name Min text other h a = h a.0 a.1

@@ -96,7 +96,7 @@ pub record IsBadValue (words : List (List ℕ)) (refused : ValueName) : Type 0 w
   pub bad : IsBad name (given_by arguments) refused
 
 -- What a refusal says of words. Want of memory says nothing.
-abbrev pub Refuses : List (List ℕ) → WordsFault → Type 0
-Refuses words NotACommand = IsNoCommand words
-Refuses words (BadValue refused) = IsBadValue words refused
-Refuses words OutOfMemory = ⊤
+abbrev pub RefusesWords : List (List ℕ) → WordsFault → Type 0
+RefusesWords words NotACommand = IsNoCommand words
+RefusesWords words (BadValue refused) = IsBadValue words refused
+RefusesWords words OutOfMemory = ⊤

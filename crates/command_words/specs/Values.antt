@@ -52,34 +52,34 @@ MayBeN Bulk n = (1 ≤ n) × (n ≤ 1000)
 MayBeN name n = n ≤ 500
 
 -- The limits of a value that is a number.
-abbrev pub IsWithinLimits : CommandName → ValueName → ℕ → Type 0
-IsWithinLimits name value.X n = ⊥
-IsWithinLimits name value.Seed n = n < 2 ^ 64
-IsWithinLimits name value.Min n = n ≤ 1000000
-IsWithinLimits name value.Max n = n ≤ 1000000
-IsWithinLimits name value.Count n = (1 ≤ n) × (n ≤ 100000)
-IsWithinLimits name value.Turns n = (1 ≤ n) × (n ≤ 50000000)
-IsWithinLimits name value.Fraction n = (n ≡ 40) ⊎ (n ≡ 48) ⊎ (n ≡ 52)
-IsWithinLimits name value.N n = MayBeN name n
-IsWithinLimits name value.Rank n = n < 2 ^ 128
+abbrev pub IsWithinValueLimits : CommandName → ValueName → ℕ → Type 0
+IsWithinValueLimits name value.X n = ⊥
+IsWithinValueLimits name value.Seed n = n < 2 ^ 64
+IsWithinValueLimits name value.Min n = n ≤ 1000000
+IsWithinValueLimits name value.Max n = n ≤ 1000000
+IsWithinValueLimits name value.Count n = (1 ≤ n) × (n ≤ 100000)
+IsWithinValueLimits name value.Turns n = (1 ≤ n) × (n ≤ 50000000)
+IsWithinValueLimits name value.Fraction n = (n ≡ 40) ⊎ (n ≡ 48) ⊎ (n ≡ 52)
+IsWithinValueLimits name value.N n = MayBeN name n
+IsWithinValueLimits name value.Rank n = n < 2 ^ 128
 
 -- A text stands for a number as this value of a command: it is the decimal number n without leading
 -- zeros, and n is within the value's limits.
 pub record StandsFor (name : CommandName) (asked : ValueName) (text : List ℕ) (n : ℕ) : Type 0 where
   pub is_number : IsNumber text
   pub is_value : number_value text ≡ n
-  pub within : IsWithinLimits name asked n
+  pub within : IsWithinValueLimits name asked n
 
 -- A text is accepted as a value: as the x where it reads as a fraction, and as another where it
 -- stands for a number.
-abbrev pub IsAccepted : CommandName → ValueName → List ℕ → Type 0
-IsAccepted name value.X text = (x : Fraction) × ReadsAs text (Ok x)
-IsAccepted name asked text = (n : ℕ) × StandsFor name asked text n
+abbrev pub IsAcceptedValue : CommandName → ValueName → List ℕ → Type 0
+IsAcceptedValue name value.X text = (x : Fraction) × ReadsAs text (Ok x)
+IsAcceptedValue name asked text = (n : ℕ) × StandsFor name asked text n
 
 -- A value is refused where it is given and its text isn't accepted.
 abbrev pub IsRefused : CommandName → ValueName → List (List ℕ) → Type 0
 IsRefused name asked [] = ⊥
-IsRefused name asked (text ∷ _) = ¬ (IsAccepted name asked text)
+IsRefused name asked (text ∷ _) = ¬ (IsAcceptedValue name asked text)
 
 -- A number is set where the text that is given stands for it, or where none is given and it is the
 -- default.

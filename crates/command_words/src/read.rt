@@ -8,7 +8,7 @@ ghost use Rattle.command_words.specs.declared.names.CommandName.TheVariants.{Unr
 ghost use Rattle.command_words.specs.declared.names.OptionName.TheVariants as option;
 ghost use Rattle.command_words.specs.Words.{Takes};
 ghost use Rattle.command_words.specs.Values.{IsSet};
-ghost use Rattle.command_words.specs.Commands.{IsCommand, IsTape, Makes, Refuses};
+ghost use Rattle.command_words.specs.Commands.{IsCommand, IsTape, Makes, RefusesWords};
 ghost use Rattle.command_words.specs.Reading.{AreValues};
 ghost use Rattle.command_words.specs.Views.{given_of};
 
@@ -28,7 +28,7 @@ use std::alloc::{AllocError, Global};
 /// the words that name files.
 pub fn read_words(alloc: Global, words: &[Word]) -> Result<Command, WordsFault>
     ensures command { IfOk result (IsCommand words.now) }
-    ensures refused { IfErr result (Refuses words.now) }
+    ensures refused { IfErr result (RefusesWords words.now) }
 {
     let form = read_form(alloc, words)?;
     let values = form.values()?;

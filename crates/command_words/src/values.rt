@@ -3,7 +3,7 @@ ghost use Rattle.std.specs.Prelude.{◌≡◌, ◌≢◌, ◌↔◌, ℕ, IsTrue
 ghost use Rattle.std.specs.Option.{option_copied, option_to_list};
 ghost use Rattle.command_words.specs.declared.fault.ValueName.TheVariants as value;
 ghost use Rattle.command_words.specs.declared.fault.WordsFault.TheVariants.{BadValue};
-ghost use Rattle.command_words.specs.Values.{IsWithinLimits, StandsFor, IsRefused, IsSet};
+ghost use Rattle.command_words.specs.Values.{IsWithinValueLimits, StandsFor, IsRefused, IsSet};
 ghost use Rattle.command_words.specs.Reading.{IsX, AreValues, IsBadOne};
 ghost use Rattle.command_words.specs.Views.{given_of, texts_in};
 
@@ -195,7 +195,7 @@ fn number_of(command: CommandName, name: ValueName, text: &[u8]) -> Option<u64>
 
 /// Whether a number is within the limits of a command's value.
 fn is_within_limits(command: CommandName, name: ValueName, number: u64) -> bool
-    ensures { IsTrue result ↔ IsWithinLimits command name number }
+    ensures { IsTrue result ↔ IsWithinValueLimits command name number }
 {
     match name {
         ValueName::X => false,

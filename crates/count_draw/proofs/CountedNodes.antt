@@ -11,7 +11,7 @@ use Rattle.series_bounds.specs.Series.{Kind}
 use Rattle.choice_draw.specs.Decision.{Choice, level_of}
 use Rattle.choice_draw.proofs.UnionParts.{within}
 use Rattle.count_draw.specs.Kinds.{counted_node, SuitsRange}
-use Rattle.count_draw.specs.Decision.{count_choice, choice_ranged, choice_at, count_decision}
+use Rattle.count_draw.specs.Decision.{count_choice, choice_ranged, choice_if_ranged, count_decision}
 
 -- the node is this construction of this part, with this range
 pub record IsCountedAs (s : Spec) (e part : ℕ) (kind : Kind) (r : Range) : Type 0 where
@@ -56,7 +56,7 @@ ranged-is Kind.Cyc f r node e part room cell = refl
 -- the decision at the node is the choice of its construction
 pub decision-is : (s : Spec) (f e part room : ℕ) (kind : Kind) (r : Range) (table : (level node : ℕ) → Bounds) (cell : Cell) → IsCountedAs s e part kind r → count_decision s f table e room cell ≡ count_choice kind f r (table (level_of cell) part) (table (level_of cell) e) room cell
 decision-is s f e part room kind r table cell at =
-    ap (λ range. choice_at f (table (level_of cell)) e room (node_at s e) range cell) at.range
+    ap (λ range. choice_if_ranged f (table (level_of cell)) e room (node_at s e) range cell) at.range
     ∙ ap (λ node. choice_ranged f r (table (level_of cell)) e room node cell) at.node
     ∙ ranged-is kind f r (table (level_of cell)) e part room cell
 

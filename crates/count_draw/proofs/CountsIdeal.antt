@@ -65,7 +65,7 @@ module _ (s : Spec) (x : Fraction) (F e part : ℕ) (kind : Kind) (r : Range) (t
   choice-ranged (Some (Take i)) decided = take-ranged i (by_options (Some (Take i)) decided)
   choice-ranged (Some Over) decided = tt
 
-  pub choice-over_none : (c : Option CountChoice) → count_decision s F table e room cell ≡ chosen_if c → decision.OnOver c (IsOverOfCell s x e cell room)
+  pub choice-over_none : (c : Option CountChoice) → count_decision s F table e room cell ≡ chosen_if c → decision.IfPassedOver c (IsOverOfCell s x e cell room)
   choice-over_none None decided = tt
   choice-over_none (Some (Take i)) decided = tt
   choice-over_none (Some Over) decided = over-none_ideal (by_options (Some Over) decided)
@@ -77,6 +77,6 @@ answer-take P Over cell h = tt
 
 -- Where a fact of the cell holds if the choice passes over every number up to the room, it holds if
 -- the choice's answer does.
-pub answer-over : (P : Cell → Type 0) (c : CountChoice) (cell : Cell) → decision.OnOver (Some c) (P cell) → answers.OnOver (answer_of c cell) P
+pub answer-over : (P : Cell → Type 0) (c : CountChoice) (cell : Cell) → decision.IfPassedOver (Some c) (P cell) → answers.OnOver (answer_of c cell) P
 answer-over P (Take i) cell h = tt
 answer-over P Over cell h = h

@@ -5,9 +5,10 @@ use Rattle.choice_draw.specs.Decision.{Choice}
 use Rattle.choice_draw.specs.Draw.{Draw}
 use Rattle.count_draw.specs.declared.kind.CountChoice.{CountChoice}
 use Rattle.count_draw.specs.declared.kind.CountChoice.TheVariants as choice
-use Rattle.count_draw.specs.declared.drawn.CountDrawn.{CountDrawn}
-use Rattle.count_draw.specs.declared.drawn.CountDrawn.TheVariants.{Count, Over, Straddles, Ended}
-use Rattle.count_draw.specs.declared.drawn.CountDrawn.TheVariants.{ReadFault}
+use Rattle.count_draw.specs.declared.drawn_count.CountDrawn.{CountDrawn}
+use Rattle.count_draw.specs.declared.drawn_count.CountDrawn.TheVariants.{Count, Over, Straddles}
+use Rattle.count_draw.specs.declared.drawn_count.CountDrawn.TheVariants.{Ended}
+use Rattle.count_draw.specs.declared.drawn_count.CountDrawn.TheVariants.{ReadFault}
 
 -- The answer that a choice gives with its cell.
 abbrev pub answer_of : CountChoice → Cell → CountDrawn
@@ -23,9 +24,9 @@ told_count Ended used = Draw.Ended used
 told_count ReadFault used = Draw.Failed used
 
 -- The answer is that the shelf failed.
-abbrev pub is_fault : CountDrawn → Bool
-is_fault ReadFault = true
-is_fault _ = false
+abbrev pub is_count_fault : CountDrawn → Bool
+is_count_fault ReadFault = true
+is_count_fault _ = false
 
 -- What is said of a number and its cell holds, where the answer is a number.
 abbrev pub OnCount : CountDrawn → (ℕ → Cell → Type 0) → Type 0

@@ -50,27 +50,28 @@ choice_ranged f range node e room (Some (Node.Cyc part)) cell =
 choice_ranged f range node e room _ cell = None
 
 -- What a cell decides at a node whose range may be missing.
-abbrev pub choice_at : (f : ℕ) → (node : ℕ → Bounds) → (e room : ℕ) → Option Node → Option Range
+abbrev pub choice_if_ranged : (f : ℕ) → (node : ℕ → Bounds) → (e room : ℕ) → Option Node
+    → Option Range
     → Cell → Option Choice
-choice_at f node e room n None cell = None
-choice_at f node e room n (Some range) cell = choice_ranged f range node e room n cell
+choice_if_ranged f node e room n None cell = None
+choice_if_ranged f node e room n (Some range) cell = choice_ranged f range node e room n cell
 
 -- What a cell decides at a counted node of a specification with this room, from a table of bounds
 -- by level and node; None where it straddles.
 abbrev pub count_decision : Spec → (f : ℕ) → (table : (level node : ℕ) → Bounds) → (e room : ℕ)
     → Cell → Option Choice
 count_decision s f table e room cell =
-    choice_at f (table (level_of cell)) e room (node_at s e) (range_at s e) cell
+    choice_if_ranged f (table (level_of cell)) e room (node_at s e) (range_at s e) cell
 
 -- What the code's choice says.
-abbrev pub chosen : CountChoice → Choice
-chosen (Take value) = Choice.Take value
-chosen Over = Choice.Over
+abbrev pub choice_meant : CountChoice → Choice
+choice_meant (Take value) = Choice.Take value
+choice_meant Over = Choice.Over
 
 -- What the code's choice says, where there is one.
 abbrev pub chosen_if : Option CountChoice → Option Choice
 chosen_if None = None
-chosen_if (Some choice) = Some (chosen choice)
+chosen_if (Some choice) = Some (choice_meant choice)
 
 -- What is said of a number holds, where a number is chosen.
 abbrev pub OnTake : Option CountChoice → (ℕ → Type 0) → Type 0
@@ -78,6 +79,6 @@ OnTake (Some (Take value)) P = P value
 OnTake _ P = Unit {0}
 
 -- A fact holds, where every number up to the room is passed over.
-abbrev pub OnOver : Option CountChoice → Type 0 → Type 0
-OnOver (Some Over) P = P
-OnOver _ P = Unit {0}
+abbrev pub IfPassedOver : Option CountChoice → Type 0 → Type 0
+IfPassedOver (Some Over) P = P
+IfPassedOver _ P = Unit {0}

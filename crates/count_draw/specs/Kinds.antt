@@ -8,10 +8,10 @@ use Rattle.count_draw.specs.declared.kind.CountKind.{CountKind}
 use Rattle.count_draw.specs.declared.kind.CountKind.TheVariants.{Seq, Set, Cyc}
 
 -- The series of a construction.
-abbrev pub kind_of : CountKind → Kind
-kind_of Seq = Kind.Seq
-kind_of Set = Kind.Set
-kind_of Cyc = Kind.Cyc
+abbrev pub series_of_kind : CountKind → Kind
+series_of_kind Seq = Kind.Seq
+series_of_kind Set = Kind.Set
+series_of_kind Cyc = Kind.Cyc
 
 -- The node of a construction with its part.
 abbrev pub counted_node : Kind → (part : ℕ) → Node

@@ -5,23 +5,24 @@ use Rattle.fixed_enclosure.specs.Rounded.Side.{Down, Up}
 use Rattle.count_draw.specs.declared.partial_sums.Run.{Run}
 use Rattle.count_draw.specs.declared.prefix_sums.LowerRow.{LowerRow}
 use Rattle.count_draw.specs.declared.prefix_sums.UpperRow.{UpperRow}
-use Rattle.count_draw.specs.Table.{Filling, value_at, reaches_at, IsRun}
+use Rattle.count_draw.specs.Table.{Filling, side_value_at, reaches_at, IsRun}
 
 -- The first values of a side are kept, up to the place of a run of its terms.
-pub record AreKept (side : Side) (f : ℕ) (t : Filling) (values : List ℕ) (run : Run) : Type 0 where
+pub record AreValuesKept (side : Side) (f : ℕ) (t : Filling) (values : List ℕ)
+    (run : Run) : Type 0 where
   pub many : length values ≡ 256
   pub inside : run.place < 256
   pub stands : IsRun side f t run.place run.power run.sum
-  pub at : (i : ℕ) → i ≤ run.place → slice_index values i ≡ value_at side f t i
+  pub at : (i : ℕ) → i ≤ run.place → slice_index values i ≡ side_value_at side f t i
 
 -- A row keeps lower values, and a run of the lower terms that stands further on.
 pub record IsLowerRow (f : ℕ) (t : Filling) (row : LowerRow) : Type 0 where
-  pub kept : AreKept Down f t row.values row.run
+  pub kept : AreValuesKept Down f t row.values row.run
   pub far : IsRun Down f t row.far.place row.far.power row.far.sum
 
 -- A row keeps upper values.
 pub record IsUpperRow (f : ℕ) (t : Filling) (row : UpperRow) : Type 0 where
-  pub kept : AreKept Up f t row.values row.run
+  pub kept : AreValuesKept Up f t row.values row.run
 
 -- What rows are kept for: the fraction bits and the filling, whose room has no meaning.
 pub record RowsKey : Type 0 where

@@ -90,9 +90,9 @@ bound_of Down t = t.part.lo
 bound_of Up t = t.part.hi
 
 -- The value of a side from the low to i parts.
-abbrev pub value_at : Side → (f : ℕ) → Filling → (i : ℕ) → ℕ
-value_at Down f t i = lower_at f t i
-value_at Up f t i = upper_at f t i
+abbrev pub side_value_at : Side → (f : ℕ) → Filling → (i : ℕ) → ℕ
+side_value_at Down f t i = lower_at f t i
+side_value_at Up f t i = upper_at f t i
 
 -- A run of the terms of a side stands at a place: the power is the number carried to it, at most
 -- 2^63, each term up to it has 64 bits, and the sum is the value up to it.
@@ -100,4 +100,4 @@ pub record IsRun (side : Side) (f : ℕ) (t : Filling) (place power sum : ℕ) :
   pub carried_to : power ≡ carried side t.kind f (bound_of side t) place
   pub small : power ≤ 2 ^ 63
   pub fitting : list_all fits (terms side t.kind f (bound_of side t) (suc place)) ≡ true
-  pub summed : sum ≡ value_at side f t place
+  pub summed : sum ≡ side_value_at side f t place

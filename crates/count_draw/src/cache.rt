@@ -36,7 +36,7 @@ pub(crate) struct KeptRows {
 
 impl Model for KeptRows {
     ghost use Rattle.std.specs.Prelude.{◌<◌};
-    ghost use Rattle.count_draw.specs.Kinds.{kind_of};
+    ghost use Rattle.count_draw.specs.Kinds.{series_of_kind};
     ghost use Rattle.count_draw.specs.Row.{RowsKey, IsLowerRow, IsUpperRow};
 
     ghost Value = { RowsKey };
@@ -44,7 +44,7 @@ impl Model for KeptRows {
     ghost view = { λ r. record {
       bits = r.bits;
       filling = record {
-        kind = kind_of r.kind;
+        kind = series_of_kind r.kind;
         low = r.low;
         part =
             r.part;
@@ -55,7 +55,7 @@ impl Model for KeptRows {
 
     ghost invariant = { λ r. 0 < r.bits
         → IsLowerRow r.bits (record {
-          kind = kind_of r.kind;
+          kind = series_of_kind r.kind;
           low = r.low;
           part = r.part;
           whole =
@@ -63,7 +63,7 @@ impl Model for KeptRows {
           room = 0;
         }) r.lower
         × IsUpperRow r.bits (record {
-          kind = kind_of r.kind;
+          kind = series_of_kind r.kind;
           low = r.low;
           part = r.part;
           whole =

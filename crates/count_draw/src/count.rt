@@ -5,18 +5,18 @@ ghost use Rattle.bz_model.specs.Spec.{node_at, range_at, IsInRange};
 ghost use Rattle.bz_model.specs.Cell.{IsCell};
 ghost use Rattle.bz_model.specs.Oracle.{LeavesOracle};
 ghost use Rattle.class_system.specs.Views.{spec_range};
-ghost use Rattle.bit_tape.specs.Tape.{Belongs, LeavesTape, bits_of};
+ghost use Rattle.bit_tape.specs.Tape.{BelongsToShelf, LeavesTape, bits_of_source};
 ghost use Rattle.choice_draw.specs.Decision.{level_for, level_of};
 ghost use Rattle.choice_draw.specs.Answer.{IsDraw};
 ghost use Rattle.choice_draw.specs.IdealOfCell.{IsIdealOfCell, IsOverOfCell};
-ghost use Rattle.count_draw.specs.Kinds.{kind_of, counted_node, IsCountedNode, SuitsRange};
+ghost use Rattle.count_draw.specs.Kinds.{series_of_kind, counted_node, IsCountedNode, SuitsRange};
 ghost use Rattle.count_draw.specs.Decision.{count_choice, count_decision, chosen_if, OnTake};
 ghost use Rattle.count_draw.specs.Decision as decision;
-ghost use Rattle.count_draw.specs.Answer.{OnCount, OnOver, told_count, is_fault};
+ghost use Rattle.count_draw.specs.Answer.{OnCount, OnOver, told_count, is_count_fault};
 
 use crate::cache::{KeptRows, KeptTables};
 use crate::choice::top_of;
-use crate::drawn::CountDrawn;
+use crate::drawn_count::CountDrawn;
 use crate::kind::{CountChoice, CountKind};
 use crate::partial_sums::CountSums;
 use bit_tape::tape::{BitAnswer, Tape};
@@ -51,10 +51,10 @@ pub fn draw_count<const F: u32, O: Oracle<F>, S: Shelf, L: Ledger>(
     requires counted { IsCountedNode system.now node.0 }
     requires room { room ≤ 1000000 }
     requires spec { O.spec oracle.old ≡ system.now }
-    requires belongs { Belongs (S.content shelf.old) tape.old }
+    requires belongs { BelongsToShelf (S.content shelf.old) tape.old }
 
     ensures drawn { IsDraw (count_decision system.now F (O.table oracle.old) node.0 room)
-        (bits_of tape.old.source (S.content shelf.old))
+        (bits_of_source tape.old.source (S.content shelf.old))
         tape.old.used tape.new.used (told_count result tape.new.used) }
     ensures ideal { OnCount result (λ i cell.
         IsIdealOfCell system.now (O.x oracle.old) node.0 cell i) }
@@ -66,7 +66,8 @@ pub fn draw_count<const F: u32, O: Oracle<F>, S: Shelf, L: Ledger>(
         ≡ max (O.raised oracle.old) (level_for (tape.new.used - tape.old.used)) }
     ensures oracle { LeavesOracle O.spec O.x O.table O.cost O.raised
         oracle.old oracle.new steps.old steps.new }
-    ensures tape { LeavesTape S.content S.faults (is_fault result) shelf.old shelf.new tape.old
+    ensures tape { LeavesTape S.content S.faults
+        (is_count_fault result) shelf.old shelf.new tape.old
         tape.new }
 {
     draw_by_rows(
@@ -97,10 +98,10 @@ pub fn draw_count_kept<const F: u32, O: Oracle<F>, S: Shelf, L: Ledger>(
     requires counted { IsCountedNode system.now node.0 }
     requires room { room ≤ 1000000 }
     requires spec { O.spec oracle.old ≡ system.now }
-    requires belongs { Belongs (S.content shelf.old) tape.old }
+    requires belongs { BelongsToShelf (S.content shelf.old) tape.old }
 
     ensures drawn { IsDraw (count_decision system.now F (O.table oracle.old) node.0 room)
-        (bits_of tape.old.source (S.content shelf.old))
+        (bits_of_source tape.old.source (S.content shelf.old))
         tape.old.used tape.new.used (told_count result tape.new.used) }
     ensures ideal { OnCount result (λ i cell.
         IsIdealOfCell system.now (O.x oracle.old) node.0 cell i) }
@@ -112,7 +113,8 @@ pub fn draw_count_kept<const F: u32, O: Oracle<F>, S: Shelf, L: Ledger>(
         ≡ max (O.raised oracle.old) (level_for (tape.new.used - tape.old.used)) }
     ensures oracle { LeavesOracle O.spec O.x O.table O.cost O.raised
         oracle.old oracle.new steps.old steps.new }
-    ensures tape { LeavesTape S.content S.faults (is_fault result) shelf.old shelf.new tape.old
+    ensures tape { LeavesTape S.content S.faults
+        (is_count_fault result) shelf.old shelf.new tape.old
         tape.new }
 {
     match kept.place_of(node) {
@@ -146,10 +148,10 @@ fn draw_by_rows<const F: u32, O: Oracle<F>, S: Shelf, L: Ledger>(
     requires counted { IsCountedNode system.now node.0 }
     requires room { room ≤ 1000000 }
     requires spec { O.spec oracle.old ≡ system.now }
-    requires belongs { Belongs (S.content shelf.old) tape.old }
+    requires belongs { BelongsToShelf (S.content shelf.old) tape.old }
 
     ensures drawn { IsDraw (count_decision system.now F (O.table oracle.old) node.0 room)
-        (bits_of tape.old.source (S.content shelf.old))
+        (bits_of_source tape.old.source (S.content shelf.old))
         tape.old.used tape.new.used (told_count result tape.new.used) }
     ensures ideal { OnCount result (λ i cell.
         IsIdealOfCell system.now (O.x oracle.old) node.0 cell i) }
@@ -161,7 +163,8 @@ fn draw_by_rows<const F: u32, O: Oracle<F>, S: Shelf, L: Ledger>(
         ≡ max (O.raised oracle.old) (level_for (tape.new.used - tape.old.used)) }
     ensures oracle { LeavesOracle O.spec O.x O.table O.cost O.raised
         oracle.old oracle.new steps.old steps.new }
-    ensures tape { LeavesTape S.content S.faults (is_fault result) shelf.old shelf.new tape.old
+    ensures tape { LeavesTape S.content S.faults
+        (is_count_fault result) shelf.old shelf.new tape.old
         tape.new }
 {
     oracle.known();
@@ -202,7 +205,7 @@ pub fn decide_count<const F: u32, O: Oracle<F>>(
     ensures exact { chosen_if result ≡ count_decision system.now F (O.table oracle.now) node.0 room
         cell }
     ensures ideal { OnTake result (IsIdealOfCell system.now (O.x oracle.now) node.0 cell) }
-    ensures over { decision.OnOver result
+    ensures over { decision.IfPassedOver result
         (IsOverOfCell system.now (O.x oracle.now) node.0 cell room) }
     ensures in_range { OnTake result (λ i. IsInRange i (range_at system.now node.0) × (i ≤ room)) }
 {
@@ -223,9 +226,9 @@ struct Counted {
 fn counted_at(system: &System, node: ExprId) -> Counted
     requires counted { IsCountedNode system.now node.0 }
     ensures node { node_at system.now node.0
-        ≡ Some (counted_node (kind_of result.kind) result.part.0) }
+        ≡ Some (counted_node (series_of_kind result.kind) result.part.0) }
     ensures range { range_at system.now node.0 ≡ Some (spec_range result.range) }
-    ensures suits { SuitsRange (kind_of result.kind) (spec_range result.range) }
+    ensures suits { SuitsRange (series_of_kind result.kind) (spec_range result.range) }
     ensures part { result.part.0 < length system.now.nodes }
     ensures in_range { node.0 < length system.now.nodes }
 {
@@ -252,13 +255,13 @@ fn decide_by_rows<const F: u32, O: Oracle<F>>(
 ) -> Option<CountChoice>
     requires fraction_bits { IsFractionBits F }
     requires rows { 0 < length rows.old }
-    requires suits { SuitsRange (kind_of counted.kind) (spec_range counted.range) }
+    requires suits { SuitsRange (series_of_kind counted.kind) (spec_range counted.range) }
     requires room { room ≤ 1000000 }
     requires cell { IsCell cell.k cell.b }
     requires node { node.0 < length (O.spec oracle.now).nodes }
     requires part { counted.part.0 < length (O.spec oracle.now).nodes }
     requires raised { level_of cell ≤ O.raised oracle.now }
-    ensures exact { chosen_if result ≡ count_choice (kind_of counted.kind) F
+    ensures exact { chosen_if result ≡ count_choice (series_of_kind counted.kind) F
         (spec_range counted.range)
         (O.table oracle.now (level_of cell) counted.part.0)
         (O.table oracle.now (level_of cell) node.0) room cell }

@@ -15,7 +15,7 @@
 pub mod cache;
 mod choice;
 pub mod count;
-pub mod drawn;
+pub mod drawn_count;
 pub mod kind;
 mod partial_sums;
 mod prefix_sums;

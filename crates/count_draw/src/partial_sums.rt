@@ -4,7 +4,7 @@ ghost use Rattle.bz_model.specs.Fraction.{IsFractionBits};
 ghost use Rattle.fixed_enclosure.specs.Rounded.{Side};
 ghost use Rattle.series_bounds.specs.Series.{part_down, part_up};
 ghost use Rattle.series_bounds.specs.ExactSums.{first_term};
-ghost use Rattle.count_draw.specs.Kinds.{kind_of};
+ghost use Rattle.count_draw.specs.Kinds.{series_of_kind};
 ghost use Rattle.count_draw.specs.Table.{lower_at, upper_at, reaches_at, least_reaching, IsBracket};
 ghost use Rattle.count_draw.specs.Table.{IsRun, NoneReaches};
 
@@ -28,13 +28,13 @@ pub(crate) struct CountSums<const F: u32> {
 }
 
 impl<const F: u32> Model for CountSums<F> {
-    ghost use Rattle.count_draw.specs.Kinds.{kind_of};
+    ghost use Rattle.count_draw.specs.Kinds.{series_of_kind};
     ghost use Rattle.count_draw.specs.Table.{Filling, IsFilling};
 
     ghost Value = { Filling };
 
     ghost view = { λ t. record {
-      kind = kind_of t.kind;
+      kind = series_of_kind t.kind;
       low = t.low;
       part = t.part;
       whole = t.whole;
@@ -43,7 +43,7 @@ impl<const F: u32> Model for CountSums<F> {
     } };
 
     ghost invariant = { λ t. IsFilling (record {
-      kind = kind_of t.kind;
+      kind = series_of_kind t.kind;
       low = t.low;
       part = t.part;
       whole =
@@ -63,11 +63,11 @@ impl<const F: u32> CountSums<F> {
         room: u64,
     ) -> CountSums<F>
         requires fraction_bits { IsFractionBits F }
-        requires first { first_term (kind_of kind) ≤ low }
+        requires first { first_term (series_of_kind kind) ≤ low }
         requires few { low ≤ 64 }
         requires room { room ≤ 1000000 }
         ensures filled { result ≡ record {
-          kind = kind_of kind;
+          kind = series_of_kind kind;
           low = low;
           part = part;
           whole =
@@ -86,7 +86,7 @@ impl<const F: u32> CountSums<F> {
 
     /// The construction.
     pub(crate) fn kind(&self) -> CountKind
-        ensures { kind_of result ≡ self.now.kind }
+        ensures { series_of_kind result ≡ self.now.kind }
     {
         self.kind
     }
@@ -348,10 +348,10 @@ pub(crate) struct Bracket {
 /// The lower sum of the terms from `low` to `i`.
 fn lower_value<const F: u32>(kind: CountKind, a: u64, low: u64, i: u64) -> u64
     requires fraction_bits { IsFractionBits F }
-    requires first { first_term (kind_of kind) ≤ low }
+    requires first { first_term (series_of_kind kind) ≤ low }
     requires few { low ≤ 64 }
     requires option { i ≤ 1000000 }
-    ensures exact { result ≡ part_down (kind_of kind) F a low i }
+    ensures exact { result ≡ part_down (series_of_kind kind) F a low i }
 {
     let sum = match kind {
         CountKind::Seq => seq_part_lo(Lo::<F>(a), low, i),
@@ -364,10 +364,10 @@ fn lower_value<const F: u32>(kind: CountKind, a: u64, low: u64, i: u64) -> u64
 /// The upper sum of the terms from `low` to `i`, at most the cap.
 fn upper_value<const F: u32>(kind: CountKind, a: u64, low: u64, i: u64, cap: u64) -> u64
     requires fraction_bits { IsFractionBits F }
-    requires first { first_term (kind_of kind) ≤ low }
+    requires first { first_term (series_of_kind kind) ≤ low }
     requires few { low ≤ 64 }
     requires option { i ≤ 1000000 }
-    ensures exact { result ≡ part_up (kind_of kind) F a low i cap }
+    ensures exact { result ≡ part_up (series_of_kind kind) F a low i cap }
 {
     let sum = match kind {
         CountKind::Seq => seq_part_hi(Hi::<F>(a), low, i, Hi(cap)),

@@ -3,7 +3,7 @@ ghost use Rattle.std.specs.Prelude.{◌≡◌, ◌≤◌, IfSome};
 ghost use Rattle.bz_model.specs.Fraction.{IsFractionBits};
 ghost use Rattle.bz_model.specs.Cell.{IsCell};
 ghost use Rattle.series_bounds.specs.ExactSums.{first_term};
-ghost use Rattle.count_draw.specs.Kinds.{kind_of};
+ghost use Rattle.count_draw.specs.Kinds.{series_of_kind};
 ghost use Rattle.count_draw.specs.Table.{lower_at, upper_at, least_at};
 
 use crate::kind::CountKind;
@@ -41,11 +41,11 @@ impl<const F: u32> CountTable<F> {
     /// node. Takes no memory.
     pub fn fill(kind: CountKind, low: u64, part: Bounds, whole: Bounds, room: u64) -> CountTable<F>
         requires fraction_bits { IsFractionBits F }
-        requires first { first_term (kind_of kind) ≤ low }
+        requires first { first_term (series_of_kind kind) ≤ low }
         requires few { low ≤ 64 }
         requires room { room ≤ 1000000 }
         ensures filled { result ≡ record {
-          kind = kind_of kind;
+          kind = series_of_kind kind;
           low = low;
           part = part;
           whole =

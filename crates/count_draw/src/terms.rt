@@ -10,7 +10,7 @@ ghost use Rattle.bz_model.specs.Fraction.{IsFractionBits};
 ghost use Rattle.fixed_enclosure.specs.Rounded.{Side};
 ghost use Rattle.series_bounds.specs.Series.{carried_on, term};
 ghost use Rattle.series_bounds.specs.Running.{kept};
-ghost use Rattle.count_draw.specs.Kinds.{kind_of};
+ghost use Rattle.count_draw.specs.Kinds.{series_of_kind};
 
 use crate::kind::CountKind;
 use fixed_enclosure::narrow::power_of_two;
@@ -24,7 +24,8 @@ const MOST: u128 = 1 << 63;
 pub(crate) fn carry_down<const F: u32>(kind: CountKind, a: u64, place: u64, c: u64) -> Option<u64>
     requires fraction_bits { IsFractionBits F }
     requires places { place ≤ 1000000 }
-    ensures exact { IfSome result (λ d. d ≡ carried_on Side.Down (kind_of kind) F a place c) }
+    ensures exact { IfSome result (λ d.
+        d ≡ carried_on Side.Down (series_of_kind kind) F a place c) }
     ensures small { IfSome result (λ d. d ≤ 2 ^ 63) }
 {
     let scaled = small((u128::from(c) * u128::from(a)) >> F)?;
@@ -41,7 +42,7 @@ pub(crate) fn carry_down<const F: u32>(kind: CountKind, a: u64, place: u64, c: u
 pub(crate) fn carry_up<const F: u32>(kind: CountKind, a: u64, place: u64, c: u64) -> Option<u64>
     requires fraction_bits { IsFractionBits F }
     requires places { place ≤ 1000000 }
-    ensures exact { IfSome result (λ d. d ≡ carried_on Side.Up (kind_of kind) F a place c) }
+    ensures exact { IfSome result (λ d. d ≡ carried_on Side.Up (series_of_kind kind) F a place c) }
     ensures small { IfSome result (λ d. d ≤ 2 ^ 63) }
 {
     let scaled = small((u128::from(c) * u128::from(a) + (power_of_two(F) - 1)) >> F)?;
@@ -63,7 +64,7 @@ fn small(n: u128) -> Option<u64>
 /// The term of which c is the number carried to it, rounded down.
 #[inline]
 pub(crate) fn term_down(kind: CountKind, place: u64, c: u64) -> u64
-    ensures exact { result ≡ term Side.Down (kind_of kind) place c }
+    ensures exact { result ≡ term Side.Down (series_of_kind kind) place c }
 {
     match kind {
         CountKind::Seq | CountKind::Set => c,
@@ -76,7 +77,7 @@ pub(crate) fn term_down(kind: CountKind, place: u64, c: u64) -> u64
 pub(crate) fn term_up(kind: CountKind, place: u64, c: u64) -> u64
     requires places { place ≤ 1000000 }
     requires small { c ≤ 2 ^ 63 }
-    ensures exact { result ≡ term Side.Up (kind_of kind) place c }
+    ensures exact { result ≡ term Side.Up (series_of_kind kind) place c }
 {
     match kind {
         CountKind::Seq | CountKind::Set => c,

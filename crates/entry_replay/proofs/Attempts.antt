@@ -6,11 +6,11 @@ use Rattle.bz_model.specs.Fraction.{Fraction}
 use Rattle.bz_model.specs.Spec.{Spec, body_of}
 use Rattle.bz_outside.specs.Outside.{ReadFailed}
 use Rattle.bit_tape.specs.Given.{HasBits}
-use Rattle.bit_tape.specs.Tape.{TapeSource, CountsFault, bits_of}
+use Rattle.bit_tape.specs.Tape.{TapeSource, CountsFault, bits_of_source}
 use Rattle.choice_draw.specs.Draw.{bit_of}
 use Rattle.shape_sampler.specs.declared.stepped.Stepped.{Stepped}
 use Rattle.shape_sampler.specs.declared.stepped.Stepped.TheVariants.{Moved, Made, Overshot, Straddles, Ended, ReadFault, OutOfMemory}
-use Rattle.shape_sampler.specs.Answer.{told_visit, fault_place, is_fault, EndsThere, ChoosesBy, IsVisitByBits}
+use Rattle.shape_sampler.specs.Answer.{told_visit, visit_fault_place, is_visit_fault, EndsThere, ChoosesBy, IsVisitByBits}
 use Rattle.shape_sampler.specs.State.{SessionState, SessionBelongs, attempt_of, begun_state}
 use Rattle.shape_sampler.specs.Visit.{Chooser, Attempt, Visited, visit, begun}
 use Rattle.size_window.specs.Redrawn.{visits, visited_next}
@@ -27,16 +27,16 @@ no-fault (TapeSource.Named name) h = let e = h.here in let no : ⊥ = omega arit
 no-fault (TapeSource.Seeded seed) h = h
 
 -- so no read fails in a visit that nothing stopped before
-pub no-fault-answer : (answer : Stepped) (stopped : Option Stepped) (source : TapeSource) → stopped ≡ None → CountsFault (is_fault answer stopped) source (λ name. 0) (λ name. 0) → answer ≢ ReadFault
-no-fault-answer answer stopped source none h is = no-fault source (subst (λ a. CountsFault (is_fault a None) source (λ name. 0) (λ name. 0)) is (subst (λ o. CountsFault (is_fault answer o) source (λ name. 0) (λ name. 0)) none h))
+pub no-fault-answer : (answer : Stepped) (stopped : Option Stepped) (source : TapeSource) → stopped ≡ None → CountsFault (is_visit_fault answer stopped) source (λ name. 0) (λ name. 0) → answer ≢ ReadFault
+no-fault-answer answer stopped source none h is = no-fault source (subst (λ a. CountsFault (is_visit_fault a None) source (λ name. 0) (λ name. 0)) is (subst (λ o. CountsFault (is_visit_fault answer o) source (λ name. 0) (λ name. 0)) none h))
 
 -- shelves with the same contents are the same
 pub same-shelf : (a b : List ℕ) (before now : List ℕ → Option (List ℕ)) → before ≡ (λ name. Some a) → now ≡ (λ name. Some b) → now ≡ before → b ≡ a
 same-shelf a b before now is there same = let e : Some b ≡ Some a = ap (λ (f : List ℕ → Option (List ℕ)). f []) (sym there ∙ same ∙ is) in cc
 
 -- the bits of a tape that is still of its source, over the same shelf
-pub still-told : (source first : TapeSource) (a b : List ℕ) (bits : Option (ℕ → Option Bool)) → source ≡ first → b ≡ a → bits_of first (λ name. Some a) ≡ bits → bits_of source (λ name. Some b) ≡ bits
-still-told source first a b bits same shelf told = ap (λ t. bits_of t (λ name. Some b)) same ∙ ap (λ sh. bits_of first (λ name. Some sh)) shelf ∙ told
+pub still-told : (source first : TapeSource) (a b : List ℕ) (bits : Option (ℕ → Option Bool)) → source ≡ first → b ≡ a → bits_of_source first (λ name. Some a) ≡ bits → bits_of_source source (λ name. Some b) ≡ bits
+still-told source first a b bits same shelf told = ap (λ t. bits_of_source t (λ name. Some b)) same ∙ ap (λ sh. bits_of_source first (λ name. Some sh)) shelf ∙ told
 
 first-at : (xs : List ℕ) (x : ℕ) → slice_get xs 0 ≡ Some x → slice_index xs 0 ≡ x
 first-at [] x is = let no : ⊥ = cc in absurd no
@@ -52,7 +52,7 @@ module _ (s : Spec) (F : ℕ) (table : (level node : ℕ) → Bounds) (bits : �
   }
 
   module _ (greatest number : ℕ) (before now : SessionState) (middle used : ℕ) (answer : Stepped) (told : Option (ℕ → Option Bool)) (is_told : told ≡ Some bits) (way : IsUnderWay s F table greatest bits start number before middle) (exact : IsVisitByBits s F table told before middle answer now used) (some : answer ≢ OutOfMemory) (steady : answer ≢ ReadFault) where
-    no-place : (a : Stepped) → a ≢ ReadFault → fault_place a used ≡ None
+    no-place : (a : Stepped) → a ≢ ReadFault → visit_fault_place a used ≡ None
     no-place Moved h = refl
     no-place Made h = refl
     no-place Overshot h = refl

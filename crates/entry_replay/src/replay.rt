@@ -6,7 +6,7 @@ ghost use Rattle.bz_model.specs.Cell.{AreCells};
 ghost use Rattle.bz_model.specs.Oracle.{LeavesOracle};
 ghost use Rattle.bz_model.specs.declared.cell.Cell.{Cell};
 ghost use Rattle.bit_tape.specs.Bits.{file_bit};
-ghost use Rattle.bit_tape.specs.Tape.{Belongs, bits_of};
+ghost use Rattle.bit_tape.specs.Tape.{BelongsToShelf, bits_of_source};
 ghost use Rattle.class_system.specs.Views.{spec_mode};
 ghost use Rattle.object_store.specs.Tokens.{size_of};
 ghost use Rattle.object_store.specs.declared.token.Token.{Token};
@@ -113,8 +113,9 @@ fn label_again(
     shelf: &mut SteadyShelf,
 ) -> Result<Option<Redrawn>, AllocError>
     requires within_limit { size_of shape.items ≤ 1000000 }
-    requires belongs { Belongs (λ name. Some shelf.old) tape.old }
-    requires told { bits_of tape.old.source (λ name. Some shelf.old) ≡ Some (file_bit shelf.old) }
+    requires belongs { BelongsToShelf (λ name. Some shelf.old) tape.old }
+    requires told { bits_of_source tape.old.source (λ name. Some shelf.old)
+        ≡ Some (file_bit shelf.old) }
 
     ensures some { IfOk result (λ answer. IfSome answer (λ made.
         (made.shape.items ≡ shape.items) × IsLabelledBy (spec_mode mode) (file_bit shelf.old)
@@ -153,8 +154,9 @@ fn attempt<const F: u32, O: Oracle<F>, L: Ledger>(
     requires fraction_bits { IsFractionBits F }
     requires spec { O.spec oracle.old ≡ founded.now }
     requires session { SessionBelongs founded.now (O.x oracle.old) session.old }
-    requires belongs { Belongs (λ name. Some shelf.old) tape.old }
-    requires told { bits_of tape.old.source (λ name. Some shelf.old) ≡ Some (file_bit shelf.old) }
+    requires belongs { BelongsToShelf (λ name. Some shelf.old) tape.old }
+    requires told { bits_of_source tape.old.source (λ name. Some shelf.old)
+        ≡ Some (file_bit shelf.old) }
 
     ensures made { IfOk result (λ done. done ≡ true → IsMadeByTable founded.now F
         (O.table oracle.old) session.old.whole (file_bit shelf.old) tape.old.used
@@ -169,7 +171,7 @@ fn attempt<const F: u32, O: Oracle<F>, L: Ledger>(
     ensures whole { session.new.whole ≡ session.old.whole }
     ensures oracle { LeavesOracle O.spec O.x O.table O.cost O.raised
         oracle.old oracle.new steps.old steps.new }
-    ensures belongs { Belongs (λ name. Some shelf.new) tape.new }
+    ensures belongs { BelongsToShelf (λ name. Some shelf.new) tape.new }
     ensures source { tape.new.source ≡ tape.old.source }
     ensures shelf { shelf.new ≡ shelf.old }
 {
@@ -199,8 +201,9 @@ fn labels_of(
     shelf: &mut SteadyShelf,
 ) -> Result<Option<Given>, AllocError>
     requires within_limit { n ≤ 1000000 }
-    requires belongs { Belongs (λ name. Some shelf.old) tape.old }
-    requires told { bits_of tape.old.source (λ name. Some shelf.old) ≡ Some (file_bit shelf.old) }
+    requires belongs { BelongsToShelf (λ name. Some shelf.old) tape.old }
+    requires told { bits_of_source tape.old.source (λ name. Some shelf.old)
+        ≡ Some (file_bit shelf.old) }
 
     ensures some { IfOk result (λ answer. IfSome answer (λ given.
         GetLabels (spec_mode mode) (file_bit shelf.old) n tape.old.used given.labels

@@ -7,7 +7,7 @@ use Rattle.newton_upper.specs.Candidates.{dual_vector}
 use Rattle.newton_upper.proofs.ResultsBelow.{first-more}
 use Rattle.fast_lower.specs.Contraction.{one_unit_off}
 use Rattle.fast_lower.specs.FastVector.{lowered, candidate_down, if_passes, passing_candidate, first_passing, weight_vector, passing_below, upper_vector, fast_vector}
-use Rattle.fast_lower.specs.FastChecks.{PassesAll, TellsFault}
+use Rattle.fast_lower.specs.FastChecks.{PassesAll, TellsFastFault}
 use Rattle.fast_lower.specs.declared.fast.FastFault.{FastFault}
 use Rattle.fast_lower.specs.declared.fast.FastFault.TheVariants.{ZeroWeight, NotBelowBase, NotPreFixed, NotContracting, OutOfMemory}
 use Rattle.fast_lower.proofs.Passing.{passes-all, fails-zero, fails-pre_fixed, fails-contracting, never-above, mapped-none, mapped-none', mapped-first}
@@ -30,10 +30,10 @@ module _ (t : Setting) (upper weights : List ℕ) (k : ℕ) (low ws us : List �
       ap (λ (l : List ℕ). Some l) is ∙ sym (ap (option_map one_unit_off) (at-candidate (Some low) (passes-all t upper low weights (subst (λ vs. PassesAll t upper low vs) ws_are h))))
 
   -- And not where one fails.
-  pub candidate-fails : (fault : FastFault) → length low ≡ length t.spec.bodies → length weights ≡ length t.spec.bodies → TellsFault t upper low ws fault → fault ≢ OutOfMemory → passing_candidate t upper weights k ≡ None
-  candidate-fails fault lengths weight_lengths h other = at-candidate None (by-fault fault (subst (λ vs. TellsFault t upper low vs fault) ws_are h) other)
+  pub candidate-fails : (fault : FastFault) → length low ≡ length t.spec.bodies → length weights ≡ length t.spec.bodies → TellsFastFault t upper low ws fault → fault ≢ OutOfMemory → passing_candidate t upper weights k ≡ None
+  candidate-fails fault lengths weight_lengths h other = at-candidate None (by-fault fault (subst (λ vs. TellsFastFault t upper low vs fault) ws_are h) other)
     where
-      by-fault : (f : FastFault) → TellsFault t upper low weights f → f ≢ OutOfMemory → if_passes t upper weights low ≡ None
+      by-fault : (f : FastFault) → TellsFastFault t upper low weights f → f ≢ OutOfMemory → if_passes t upper weights low ≡ None
       by-fault (ZeroWeight c) told other = fails-zero t upper low weights lengths weight_lengths c.0 told
       by-fault (NotBelowBase c) told other = absurd (never-above upper weights low p c.0 is-lowered told)
       by-fault (NotPreFixed c) told other = fails-pre_fixed t upper low weights lengths weight_lengths c.0 told

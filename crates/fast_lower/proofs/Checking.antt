@@ -7,7 +7,7 @@ use Rattle.class_system.specs.NodeResults.{ranged_nodes}
 use Rattle.class_system.specs.Sound.{IsSound}
 use Rattle.class_system.proofs.Results.{length-node_results, length-zip}
 use Rattle.fixed_enclosure.specs.UpperValues.{AreAtMost}
-use Rattle.rounded_map.specs.RoundedMap.{Setting, setting, value_down, values_down, values_up, bodies_down, IsPostFixed}
+use Rattle.rounded_map.specs.RoundedMap.{Setting, setting, node_value_down, values_down, values_up, bodies_down, IsPostFixed}
 use Rattle.rounded_map.specs.Bounding.{AreBelow}
 use Rattle.rounded_map.specs.Contracting.{body_slopes, AreContracting, IsFirstNotLess}
 use Rattle.rounded_map.proofs.FixedTests.{length-fixed}
@@ -17,7 +17,7 @@ use Rattle.fast_lower.proofs.Theorem.{contracted-below-at}
 
 -- For a sound specification, there are as many lower values as nodes.
 pub length-values_down : (t : Setting) → IsSound t.spec → (classes : List ℕ) → length (values_down t classes) ≡ length t.spec.nodes
-length-values_down t sound classes = length-node_results (value_down t classes) [] (ranged_nodes t.spec) ∙ omega (arith, length-zip t.spec.nodes t.spec.ranges sound.ranges.lengths)
+length-values_down t sound classes = length-node_results (node_value_down t classes) [] (ranged_nodes t.spec) ∙ omega (arith, length-zip t.spec.nodes t.spec.ranges sound.ranges.lengths)
 
 -- A post-fixed vector has an entry for each class of the code's system.
 pub length-upper : (s founded : Spec) (num den F : ℕ) (upper other : List ℕ) → s ≡ founded → IsPostFixed (setting founded num den F) upper → other ≡ upper → length other ≡ length s.bodies

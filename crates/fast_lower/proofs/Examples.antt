@@ -1,6 +1,6 @@
 -- Examples: the greater solution of binary trees does not contract, and the fast vector of an atom.
 use Rattle.std.proofs.Common.{◌≡◌, ℕ, List, [], ◌∷◌, true, false, Some, refl}
-use Rattle.fast_lower.specs.Examples.{binary, atom}
+use Rattle.fast_lower.specs.Examples.{binary_trees, atom}
 use Rattle.rounded_map.specs.RoundedMap.{Setting, setting, values_up}
 use Rattle.rounded_map.specs.Contracting.{body_slopes}
 use Rattle.fast_lower.specs.Contraction.{is_pre_fixed, is_contracting}
@@ -8,7 +8,7 @@ use Rattle.fast_lower.specs.FastVector.{swept_up, upper_vector, weight_vector, l
 use Rattle.newton_upper.specs.Candidates.{dual_vector, swept_dual, upper_values}
 
 abbrev binary_at : Setting
-binary_at = setting binary 3 16 48
+binary_at = setting binary_trees 3 16 48
 
 abbrev greater : List ℕ
 greater = 1125899906842624 ∷ []

@@ -3,19 +3,20 @@ use Rattle.std.specs.Prelude.{[], ◌∷◌, None}
 use Rattle.bz_model.specs.Spec.{Spec, Node, Range, Mode}
 
 -- The plain range.
-abbrev pub plain : Range
-plain = record { low = 0; high = None }
+abbrev pub unbounded_range : Range
+unbounded_range = record { low = 0; high = None }
 
 -- B = E + Z*B*B
-abbrev pub binary : Spec
-binary = record {
+abbrev pub binary_trees : Spec
+binary_trees = record {
   mode = Mode.Unlabelled;
   names = (66 ∷ []) ∷ [];
   bodies = 5 ∷ [];
   nodes =
       Node.Empty [] ∷ Node.Atom [] ∷ Node.Class 0 ∷ Node.Class 0 ∷ Node.Product (1 ∷ 2 ∷ 3 ∷ [])
       ∷ Node.Union (0 ∷ 4 ∷ []) ∷ [];
-  ranges = plain ∷ plain ∷ plain ∷ plain ∷ plain ∷ plain ∷ [];
+  ranges = unbounded_range ∷ unbounded_range ∷ unbounded_range ∷ unbounded_range ∷ unbounded_range
+      ∷ unbounded_range ∷ [];
 }
 
 -- C = Z
@@ -25,5 +26,5 @@ atom = record {
   names = (67 ∷ []) ∷ [];
   bodies = 0 ∷ [];
   nodes = Node.Atom [] ∷ [];
-  ranges = plain ∷ [];
+  ranges = unbounded_range ∷ [];
 }

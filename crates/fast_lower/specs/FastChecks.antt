@@ -60,12 +60,12 @@ pub record IsNotContracting (t : Setting) (upper low weights : List ℕ) (c : �
 
 -- A fault tells the first of the four tests that fails, with the least class that fails it; that
 -- memory ran out tells nothing.
-abbrev pub TellsFault : Setting → (upper low weights : List ℕ) → FastFault → Type 0
-TellsFault t upper low weights (ZeroWeight c) = HasZeroWeight weights c.0
-TellsFault t upper low weights (NotBelowBase c) = IsNotBelow upper low weights c.0
-TellsFault t upper low weights (NotPreFixed c) = IsNotPreFixed t upper low weights c.0
-TellsFault t upper low weights (NotContracting c) = IsNotContracting t upper low weights c.0
-TellsFault t upper low weights OutOfMemory = Unit {0}
+abbrev pub TellsFastFault : Setting → (upper low weights : List ℕ) → FastFault → Type 0
+TellsFastFault t upper low weights (ZeroWeight c) = HasZeroWeight weights c.0
+TellsFastFault t upper low weights (NotBelowBase c) = IsNotBelow upper low weights c.0
+TellsFastFault t upper low weights (NotPreFixed c) = IsNotPreFixed t upper low weights c.0
+TellsFastFault t upper low weights (NotContracting c) = IsNotContracting t upper low weights c.0
+TellsFastFault t upper low weights OutOfMemory = Unit {0}
 
 -- All four tests are passed.
 pub record PassesAll (t : Setting) (upper low weights : List ℕ) : Type 0 where

@@ -9,7 +9,7 @@ ghost use Rattle.rounded_map.specs.RoundedMap.{setting, IsPostFixed};
 ghost use Rattle.rounded_map.specs.Bounding.{AreBelow};
 ghost use Rattle.fast_lower.specs.Contraction.{one_unit_off};
 ghost use Rattle.fast_lower.specs.FastChecks.{IsFirst, IsZeroAt, IsAboveAt, ArePositive};
-ghost use Rattle.fast_lower.specs.FastChecks.{TellsFault, PassesAll};
+ghost use Rattle.fast_lower.specs.FastChecks.{TellsFastFault, PassesAll};
 
 use bz_model::fraction::Fraction;
 use bz_model::steps::Steps;
@@ -91,7 +91,7 @@ impl<const F: u32> Fast<F> {
             low.items weights.items) }
         ensures length { IfOk result (λ fast. length fast ≡ length founded.now.bodies) }
         ensures below { IfOk result (AreBelow founded.now (ratio x.num x.den) F) }
-        ensures fault { IfErr result (TellsFault (setting founded.now x.num x.den F) upper.now
+        ensures fault { IfErr result (TellsFastFault (setting founded.now x.num x.den F) upper.now
             low.items weights.items) }
         ensures ticks { steps.new ≤ steps.old + 3 }
     {

@@ -12,7 +12,7 @@ ghost use Rattle.rounded_map.specs.Contracting.{body_slopes};
 ghost use Rattle.fast_lower.specs.Contraction.{IsPreFixed, IsContracting, is_pre_fixed};
 ghost use Rattle.fast_lower.specs.Contraction.{is_contracting, one_unit_off};
 ghost use Rattle.fast_lower.specs.FastVector.{fast_vector};
-ghost use Rattle.fast_lower.specs.Examples.{binary, atom};
+ghost use Rattle.fast_lower.specs.Examples.{binary_trees, atom};
 
 /// Where a pre-fixed vector is nowhere above a post-fixed one, and the rounded map contracts along
 /// some weights at the latter, each entry of the former with one unit taken off is Below for its
@@ -29,11 +29,12 @@ pub fn contracted_vectors_are_below()
 /// contract there along 256 units. From the base 2^47 + 256 the fast vector of an atom at x = 1/2
 /// is 2^47 - 257.
 pub fn worked_contractions()
-    ensures greater_pre_fixed { is_pre_fixed (setting binary 3 16 48) (1125899906842624 ∷ [])
+    ensures greater_pre_fixed { is_pre_fixed (setting binary_trees 3 16 48) (1125899906842624 ∷ [])
         ≡ true }
-    ensures greater_slope { body_slopes (setting binary 3 16 48)
-        (values_up (setting binary 3 16 48) (1125899906842624 ∷ [])) (256 ∷ []) ≡ Some 384 ∷ [] }
-    ensures greater_refused { is_contracting (setting binary 3 16 48) (1125899906842624 ∷ [])
+    ensures greater_slope { body_slopes (setting binary_trees 3 16 48)
+        (values_up (setting binary_trees 3 16 48) (1125899906842624 ∷ [])) (256 ∷ []) ≡ Some 384
+        ∷ [] }
+    ensures greater_refused { is_contracting (setting binary_trees 3 16 48) (1125899906842624 ∷ [])
         (256 ∷ []) ≡ false }
     ensures atom { fast_vector (setting atom 1 2 48) (140737488355584 ∷ [])
         ≡ Some (140737488355071 ∷ []) }

@@ -23,31 +23,32 @@ told_labelling ReadFault finished used = Labelling.Failed finished used
 told_labelling OutOfMemory finished used = Labelling.Ended finished used
 
 -- The place at which the shelf failed, where the answer is that it did.
-abbrev pub fault_place : Labelled → (used : ℕ) → Option ℕ
-fault_place ReadFault used = Some used
-fault_place _ used = None
+abbrev pub label_fault_place : Labelled → (used : ℕ) → Option ℕ
+label_fault_place ReadFault used = Some used
+label_fault_place _ used = None
 
 -- The answer is that the shelf failed.
-abbrev pub is_fault : Labelled → Bool
-is_fault ReadFault = true
-is_fault _ = false
+abbrev pub is_label_fault : Labelled → Bool
+is_label_fault ReadFault = true
+is_label_fault _ = false
 
 -- Where the tape's end cut the labelling short, these bits end at the place used.
-abbrev pub EndsThere : Labelled → (used : ℕ) → (bits : ℕ → Option Bool) → Type 0
-EndsThere Ended used bits = bits used ≡ None
-EndsThere _ used bits = Unit {0}
+abbrev pub LabellingEndsThere : Labelled → (used : ℕ) → (bits : ℕ → Option Bool) → Type 0
+LabellingEndsThere Ended used bits = bits used ≡ None
+LabellingEndsThere _ used bits = Unit {0}
 
 -- The bits used from one number to another are those of the cells, and those of the cell that
 -- straddles, or fewer than 60 more where the tape ended or its shelf failed. Want of memory uses
 -- none.
-abbrev pub UsesBits : Labelled → (finished : List Cell) → (before after : ℕ) → Type 0
-UsesBits (Labels labels cells) finished before after = after ≡ before + bits_in cells.items
-UsesBits (Straddles m cell) finished before after = after ≡ before + bits_in finished + cell.b
-UsesBits Ended finished before after =
+abbrev pub LabellingUsesBits : Labelled → (finished : List Cell) → (before after : ℕ) → Type 0
+LabellingUsesBits (Labels labels cells) finished before after = after ≡ before + bits_in cells.items
+LabellingUsesBits (Straddles m cell) finished before after = after
+    ≡ before + bits_in finished + cell.b
+LabellingUsesBits Ended finished before after =
     (before + bits_in finished ≤ after) × (after < before + bits_in finished + 60)
-UsesBits ReadFault finished before after =
+LabellingUsesBits ReadFault finished before after =
     (before + bits_in finished ≤ after) × (after < before + bits_in finished + 60)
-UsesBits OutOfMemory finished before after = after ≡ before
+LabellingUsesBits OutOfMemory finished before after = after ≡ before
 
 -- An answer of a labelling of n atoms from the start on is the one over the bits that it was given:
 -- it was given as many bits as were used, the tape's own where they are told; there are cells of
@@ -58,12 +59,14 @@ pub record IsLabelling (told : Option (ℕ → Option Bool)) (n start : ℕ) (an
     (used : ℕ) : Type 0 where
   pub given : List Bool
   pub gave : Gave told start used given
-  pub ended : IfSome told (EndsThere answer used)
+  pub ended : IfSome told (LabellingEndsThere answer used)
   pub finished : List Cell
-  pub uses : UsesBits answer finished start used
-  pub exact : (bits : ℕ → Option Bool) → HasBits bits start given → EndsThere answer used bits
+  pub uses : LabellingUsesBits answer finished start used
+  pub exact : (bits : ℕ → Option Bool) → HasBits bits start given
+      → LabellingEndsThere answer used bits
       → answer ≢ OutOfMemory
-      → told_labelling answer finished used ≡ labelling (bit_of bits (fault_place answer used)) n
+      → told_labelling answer finished used
+      ≡ labelling (bit_of bits (label_fault_place answer used)) n
       start
 
 -- What is said of the labels and their cells holds, where the answer has them.

@@ -1,9 +1,9 @@
 //! Labellings.
 ghost use Rattle.std.specs.Prelude.{◌≡◌, ◌≢◌, ◌+◌, ◌*◌, ◌≤◌, []};
 ghost use Rattle.bz_model.specs.Labels.{numbers_from};
-ghost use Rattle.bit_tape.specs.Tape.{Belongs, LeavesTape, bits_of};
+ghost use Rattle.bit_tape.specs.Tape.{BelongsToShelf, LeavesTape, bits_of_source};
 ghost use Rattle.labelling.specs.Answer.{IsLabelling, OnLabels, AreIdealLabels, AreCellsOf};
-ghost use Rattle.labelling.specs.Answer.{StraddlesAt, is_fault};
+ghost use Rattle.labelling.specs.Answer.{StraddlesAt, is_label_fault};
 
 use crate::labelled::Labelled;
 use crate::progress::Progress;
@@ -24,18 +24,18 @@ use std::alloc::Global;
 /// were.
 pub fn label<S: Shelf>(alloc: Global, n: u64, tape: &mut Tape, shelf: &mut S) -> Labelled
     requires within_limit { n ≤ 1000000 }
-    requires belongs { Belongs (S.content shelf.old) tape.old }
+    requires belongs { BelongsToShelf (S.content shelf.old) tape.old }
 
     ensures no_memory { result ≡ Labelled.OutOfMemory
         → (tape.new ≡ tape.old) × (shelf.new ≡ shelf.old) }
-    ensures labelled { IsLabelling (bits_of tape.old.source (S.content shelf.old)) n
+    ensures labelled { IsLabelling (bits_of_source tape.old.source (S.content shelf.old)) n
         tape.old.used result tape.new.used }
     ensures ideal { OnLabels result (λ labels cells. AreIdealLabels n labels cells) }
     ensures cells { OnLabels result (λ labels cells. AreCellsOf n cells) }
     ensures straddles { StraddlesAt n result }
 
     ensures used { (tape.old.used ≤ tape.new.used) × (tape.new.used ≤ tape.old.used + 60 * n) }
-    ensures tape { LeavesTape S.content S.faults (is_fault result)
+    ensures tape { LeavesTape S.content S.faults (is_label_fault result)
         shelf.old shelf.new tape.old tape.new }
 {
     match Progress::begin(alloc, n) {
@@ -48,9 +48,9 @@ pub fn label<S: Shelf>(alloc: Global, n: u64, tape: &mut Tape, shelf: &mut S) ->
 fn give_all<S: Shelf>(mut progress: Progress, n: u64, tape: &mut Tape, shelf: &mut S) -> Labelled
     requires within_limit { n ≤ 1000000 }
     requires begun { progress ≡ record { remaining = numbers_from 1 n; given = []; cells = [] } }
-    requires belongs { Belongs (S.content shelf.old) tape.old }
+    requires belongs { BelongsToShelf (S.content shelf.old) tape.old }
 
-    ensures labelled { IsLabelling (bits_of tape.old.source (S.content shelf.old)) n
+    ensures labelled { IsLabelling (bits_of_source tape.old.source (S.content shelf.old)) n
         tape.old.used result tape.new.used }
     ensures some_memory { result ≢ Labelled.OutOfMemory }
     ensures ideal { OnLabels result (λ labels cells. AreIdealLabels n labels cells) }
@@ -58,7 +58,7 @@ fn give_all<S: Shelf>(mut progress: Progress, n: u64, tape: &mut Tape, shelf: &m
     ensures straddles { StraddlesAt n result }
 
     ensures used { (tape.old.used ≤ tape.new.used) × (tape.new.used ≤ tape.old.used + 60 * n) }
-    ensures tape { LeavesTape S.content S.faults (is_fault result)
+    ensures tape { LeavesTape S.content S.faults (is_label_fault result)
         shelf.old shelf.new tape.old tape.new }
 {
     let mut m = n;

@@ -4,7 +4,7 @@ use Rattle.std.specs.Prelude.{option_map, option_and_then}
 use Rattle.std.proofs.lemmas.Bool.{cases_lt}
 use Rattle.fixed_enclosure.specs.Rounded.{of_both, add_up}
 use Rattle.rounded_map.specs.RoundedMap.{repeated}
-use Rattle.newton_upper.specs.Below.{or_else, and_then_one, all_below, those_below, first_below, sum_below}
+use Rattle.newton_upper.specs.Below.{or_else, and_then_one, all_below, those_below, first_below, upper_sum_below}
 
 -- Where each step of a list's values ends without one, so does the list.
 without : {V : Type 0} (o : Option (List V)) (r : Option V) → r ≡ None → option_and_then (λ (us : List V). option_map (λ u. us ++ u ∷ []) r) o ≡ None
@@ -72,8 +72,8 @@ module _ {V : Type 0} (g : ℕ → Option V) where
       ]
 
 -- One term more of a sum.
-pub sum-more : (g : ℕ → Option ℕ) (n m : ℕ) (s next : Option ℕ) → m ≡ n + 1 → s ≡ sum_below g n → next ≡ of_both add_up s (g n) → next ≡ sum_below g m
-sum-more g n m s next one so_far is = is ∙ ap (λ (r : Option ℕ). of_both add_up r (g n)) so_far ∙ ap (sum_below g) (sym (next_is n m one))
+pub sum-more : (g : ℕ → Option ℕ) (n m : ℕ) (s next : Option ℕ) → m ≡ n + 1 → s ≡ upper_sum_below g n → next ≡ of_both add_up s (g n) → next ≡ upper_sum_below g m
+sum-more g n m s next one so_far is = is ∙ ap (λ (r : Option ℕ). of_both add_up r (g n)) so_far ∙ ap (upper_sum_below g) (sym (next_is n m one))
 
 module _ {V : Type 0} (f : V → Option V) (start : Option V) where
   -- One step more, and a step that has no result.

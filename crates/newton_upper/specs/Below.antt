@@ -29,6 +29,6 @@ first_below g zero = None
 first_below g (suc n) = or_else (first_below g n) (g n)
 
 -- The upper sum of the values of g at the numbers below n, where each is there.
-abbrev pub sum_below : (g : ℕ → Option ℕ) → (n : ℕ) → Option ℕ
-sum_below g zero = Some 0
-sum_below g (suc n) = of_both add_up (sum_below g n) (g n)
+abbrev pub upper_sum_below : (g : ℕ → Option ℕ) → (n : ℕ) → Option ℕ
+upper_sum_below g zero = Some 0
+upper_sum_below g (suc n) = of_both add_up (upper_sum_below g n) (g n)

@@ -5,7 +5,7 @@ use Rattle.std.specs.Prelude.{option_and_then}
 use Rattle.fixed_enclosure.specs.Rounded.{add_up, mul_up}
 use Rattle.rounded_map.specs.RoundedMap.{Setting, at_each, repeated, sweep_down}
 use Rattle.rounded_map.specs.Derivative.{sweep_dual}
-use Rattle.newton_upper.specs.Below.{all_below, sum_below}
+use Rattle.newton_upper.specs.Below.{all_below, upper_sum_below}
 use Rattle.newton_upper.specs.Candidates.{swept_down, upper_values}
 use Rattle.newton_upper.specs.declared.neumann_series.Sums.{Sums}
 use Rattle.newton_upper.specs.declared.newton.Newton.{Newton}
@@ -15,12 +15,12 @@ abbrev pub column : (columns : List (List ℕ)) → (c : ℕ) → List ℕ
 column columns c = slice_index_or columns c []
 
 -- The upper product of an entry of the matrix, in column c and row i, and entry c of the vector.
-abbrev pub term : (f : ℕ) → (columns : List (List ℕ)) → (v : List ℕ) → (i c : ℕ) → Option ℕ
-term f columns v i c = mul_up f (slice_index (column columns c) i) (slice_index v c)
+abbrev pub entry_product : (f : ℕ) → (columns : List (List ℕ)) → (v : List ℕ) → (i c : ℕ) → Option ℕ
+entry_product f columns v i c = mul_up f (slice_index (column columns c) i) (slice_index v c)
 
 -- Row i of the matrix times the vector.
 abbrev pub row_times : (f : ℕ) → (columns : List (List ℕ)) → (v : List ℕ) → (i : ℕ) → Option ℕ
-row_times f columns v i = sum_below (term f columns v i) (length v)
+row_times f columns v i = upper_sum_below (entry_product f columns v i) (length v)
 
 -- The matrix times the vector.
 unfoldable pub matrix_times : (f : ℕ) → (columns : List (List ℕ)) → (v : List ℕ) → Option (List ℕ)

@@ -13,7 +13,7 @@ use Rattle.call_stages.specs.declared.report.Refusal.{Refusal}
 use Rattle.call_stages.specs.declared.report.Refusal.TheVariants as refusal
 use Rattle.call_stages.specs.declared.status.Status.{Status}
 use Rattle.call_stages.proofs.Staging.{says-nothing}
-use Rattle.object_stage.specs.ObjectStage.{without_feed, too_long_line, object_line, ObjectJudged, ObjectRead, IsObjectIn}
+use Rattle.object_stage.specs.ObjectStage.{without_feed, too_long_line, object_fault_line, ObjectJudged, ObjectRead, IsObjectIn}
 use Rattle.object_stage.specs.ObjectStage as stage
 
 -- nothing comes after an object
@@ -25,7 +25,7 @@ pub too_long : (s : Spec) (bytes : List ℕ) (status : Status) (text : List ℕ)
 too_long s bytes status text long says = stage.too_long long says
 
 -- the text is refused
-pub object_refused : (s : Spec) (bytes stripped : List ℕ) (fault : TextFault) (status : Status) (text : List ℕ) → stripped ≡ without_feed bytes → length bytes ≤ 16777216 → fault ≢ TextFault.OutOfMemory → TellsFault s 0 stripped fault → Says Status.ObjectRefused (object_line fault) 0 status text 0 → ObjectJudged s nothing bytes status text 0
+pub object_refused : (s : Spec) (bytes stripped : List ℕ) (fault : TextFault) (status : Status) (text : List ℕ) → stripped ≡ without_feed bytes → length bytes ≤ 16777216 → fault ≢ TextFault.OutOfMemory → TellsFault s 0 stripped fault → Says Status.ObjectRefused (object_fault_line fault) 0 status text 0 → ObjectJudged s nothing bytes status text 0
 object_refused s bytes stripped fault status text same few memory tells says = stage.refused fault few memory (subst (λ t. TellsFault s 0 t fault) same tells) says
 
 -- memory ran out

@@ -14,7 +14,7 @@ use Rattle.call_stages.specs.Stages as stages
 use Rattle.call_stages.specs.declared.status.Status.{Status}
 use Rattle.call_stages.proofs.Completing.{says-other}
 use Rattle.call_stages.proofs.OneReading.{one-read}
-use Rattle.object_stage.specs.ObjectStage.{without_feed, object_line, ObjectJudged, ObjectRead}
+use Rattle.object_stage.specs.ObjectStage.{without_feed, object_fault_line, ObjectJudged, ObjectRead}
 use Rattle.object_stage.specs.ObjectStage as stage
 
 -- what is said of one status in one line is the same
@@ -44,7 +44,7 @@ module _ (s : Spec) (sound : IsSound s) (within : IsWithinLimits s) (next : List
     object-twice (stage.too_long long says) (stage.no_memory says_too) = absurd (n says_too.status_is)
     object-twice (stage.too_long long says) (stage.read tokens labels few is p) = absurd (omega (arith, few, long))
     object-twice (stage.refused fault few memory tells says) (stage.too_long long says_too) = absurd (omega (arith, few, long))
-    object-twice (stage.refused fault few memory tells says) (stage.refused fault_too f memory_too tells_too says_too) = same-line Status.ObjectRefused status other (object_line fault) (object_line fault_too) text others ticks more (ap object_line (one-fault-told s sound within 0 (without_feed bytes) fault fault_too tells tells_too memory memory_too)) says says_too
+    object-twice (stage.refused fault few memory tells says) (stage.refused fault_too f memory_too tells_too says_too) = same-line Status.ObjectRefused status other (object_fault_line fault) (object_fault_line fault_too) text others ticks more (ap object_fault_line (one-fault-told s sound within 0 (without_feed bytes) fault fault_too tells tells_too memory memory_too)) says says_too
     object-twice (stage.refused fault few memory tells says) (stage.no_memory says_too) = absurd (n says_too.status_is)
     object-twice (stage.refused fault few memory tells says) (stage.read tokens labels f is p) = read-unfailing tokens labels fault memory is tells
 

@@ -21,10 +21,11 @@ abbrev pub too_long_line : List ℕ
 too_long_line = codes "refused object too long" ++ feed
 
 -- Why a text is no object; nothing is told of want of memory.
-abbrev pub object_line : TextFault → List ℕ
-object_line (TextFault.NotObject place) = codes "refused object at " ++ (decimal place ++ feed)
-object_line TextFault.NotCanonical = codes "refused object not canonical" ++ feed
-object_line TextFault.OutOfMemory = []
+abbrev pub object_fault_line : TextFault → List ℕ
+object_fault_line (TextFault.NotObject place) = codes "refused object at "
+    ++ (decimal place ++ feed)
+object_fault_line TextFault.NotCanonical = codes "refused object not canonical" ++ feed
+object_fault_line TextFault.OutOfMemory = []
 
 -- The bytes are judged: they are too many, their text is no object of the first class or not as it
 -- is printed, or it is that of an object with these tokens and labels.
@@ -34,7 +35,7 @@ pub data ObjectJudged (s : Spec) (next : (tokens : List Token) (labels : Option 
       → ObjectJudged s next bytes status text ticks
   refused : (fault : TextFault) → length bytes ≤ 16777216 → fault ≢ TextFault.OutOfMemory
       → TellsFault s 0 (without_feed bytes) fault
-      → Says Status.ObjectRefused (object_line fault) 0 status text ticks
+      → Says Status.ObjectRefused (object_fault_line fault) 0 status text ticks
       → ObjectJudged s next bytes status text ticks
   no_memory : Says Status.OutOfMemory [] 0 status text ticks
       → ObjectJudged s next bytes status text ticks

@@ -2,7 +2,7 @@
 ghost use Rattle.std.specs.Prelude.{◌≡◌, ◌≢◌, IfOk, OnOk, string_bytes};
 ghost use Rattle.call_stages.specs.Outcomes.{Says};
 ghost use Rattle.call_stages.specs.declared.status.Status.{Status};
-ghost use Rattle.object_stage.specs.ObjectStage.{too_long_line, object_line};
+ghost use Rattle.object_stage.specs.ObjectStage.{too_long_line, object_fault_line};
 ghost use Rattle.object_text.specs.declared.fault.TextFault.{TextFault};
 
 use call_stages::report::{Report, reported};
@@ -21,7 +21,7 @@ pub fn too_long_refusal(alloc: Global) -> Result<Report, AllocError>
 /// A text is no object, or not as it is printed; `Err` where that is want of memory.
 pub fn object_refusal(alloc: Global, fault: TextFault) -> Result<Report, AllocError>
     ensures says { IfOk result (λ r.
-        Says Status.ObjectRefused (object_line fault) 0 r.status r.text.items 0) }
+        Says Status.ObjectRefused (object_fault_line fault) 0 r.status r.text.items 0) }
     ensures memory { OnOk result (fault ≢ TextFault.OutOfMemory) }
 {
     let line = line_for_object(alloc, fault)?;
@@ -30,7 +30,7 @@ pub fn object_refusal(alloc: Global, fault: TextFault) -> Result<Report, AllocEr
 
 /// Why a text is no object; `Err` where that is want of memory.
 fn line_for_object(alloc: Global, fault: TextFault) -> Result<String, AllocError>
-    ensures line { IfOk result (λ text. string_bytes text ≡ object_line fault) }
+    ensures line { IfOk result (λ text. string_bytes text ≡ object_fault_line fault) }
     ensures memory { OnOk result (fault ≢ TextFault.OutOfMemory) }
 {
     match fault {

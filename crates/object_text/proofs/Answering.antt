@@ -19,7 +19,7 @@ use Rattle.object_text.specs.declared.scan.Stop.TheVariants as stop
 use Rattle.object_text.specs.declared.fault.TextFault.{TextFault}
 use Rattle.object_text.specs.declared.fault.TextFault.TheVariants as fault
 use Rattle.object_text.specs.Reading.{IsForm, BeginsSomeText, IsWrongAt, IsNotCanonical, told, IsRead, TellsFault}
-use Rattle.object_text.specs.States.{IsReadWhole, IsOrderly, IsRefused, stop_fault}
+use Rattle.object_text.specs.States.{IsReadWhole, IsOrderly, IsRefusedReading, stop_fault}
 use Rattle.object_text.proofs.InOrderTests.{test-stands, stands-test}
 use Rattle.object_text.proofs.FirstBytes.{is-plain}
 
@@ -136,7 +136,7 @@ fault-of s c e at text (stop.At left) f = record { body = e.0; is_body = at; tel
 fault-of s c e at text stop.OutOfMemory f = record { body = e.0; is_body = at; tells = tt }
 
 -- Where what was read isn't canonical, or memory ran out.
-pub refusal-of : (s : Spec) (sound : IsSound s) (limits : IsWithinLimits s) (c body : ℕ) → body_of s c ≡ Some body → (text : List ℕ) (whole : Taken) → WasRead s body text whole → (fault : TextFault) → IsRefused whole fault → TellsFault s c text fault
+pub refusal-of : (s : Spec) (sound : IsSound s) (limits : IsWithinLimits s) (c body : ℕ) → body_of s c ≡ Some body → (text : List ℕ) (whole : Taken) → WasRead s body text whole → (fault : TextFault) → IsRefusedReading whole fault → TellsFault s c text fault
 refusal-of s sound limits c body at text whole r (fault.NotObject place) h = elim h [ ]
 refusal-of s sound limits c body at text whole r fault.NotCanonical h = record { body = body; is_body = at; tells = not-canonical-of s sound limits body text whole r h }
 refusal-of s sound limits c body at text whole r fault.OutOfMemory h = record { body = body; is_body = at; tells = tt }

@@ -10,7 +10,7 @@ use Rattle.bz_laws.specs.InOrder.{leasts, IsRisingFrom, IsRising, BeginsWithLeas
 use Rattle.bz_laws.proofs.Items.{lesser-assoc, lesser-zero}
 use Rattle.object_text.specs.declared.parsed.Kind.{Kind}
 use Rattle.object_text.specs.declared.parsed.Kind.TheVariants.{Sequence, Set, Cycle}
-use Rattle.object_text.specs.Taken.{fits, next_mark, in_order, parts_in_order}
+use Rattle.object_text.specs.Taken.{follows_mark, next_mark, in_order, parts_in_order}
 
 -- What the mark says of the least labels of the parts that follow.
 abbrev Follows : Kind → Option ℕ → List ℕ → Type 0
@@ -69,14 +69,14 @@ follows-first a m ls e =
     (first, ap (λ z. lesser_label z (least_label ls)) (sym first) ∙ whole)
 
 -- one part more
-fits-follows : (kind : Kind) (mark : Option ℕ) (m : ℕ) (ls : List ℕ) → fits kind mark m ≡ true → Follows kind (next_mark kind mark m) ls → Follows kind mark (m ∷ ls)
+fits-follows : (kind : Kind) (mark : Option ℕ) (m : ℕ) (ls : List ℕ) → follows_mark kind mark m ≡ true → Follows kind (next_mark kind mark m) ls → Follows kind mark (m ∷ ls)
 fits-follows Sequence mark m ls f k = tt
 fits-follows Set None m ls f k = k
 fits-follows Set (Some a) m ls f k = (le-holds a m (nat_le a m) (leb_tells a m) f, k)
 fits-follows Cycle None m ls f k = sym k
 fits-follows Cycle (Some a) m ls f k = sym (lesser-assoc a m (least_label ls)) ∙ ap (λ z. lesser_label z (least_label ls)) (eq-holds (lesser_label a m) a (nat_eq (lesser_label a m) a) (eqb_tells (lesser_label a m) a) f) ∙ k
 
-follows-fits : (kind : Kind) (mark : Option ℕ) (m : ℕ) (ls : List ℕ) → Follows kind mark (m ∷ ls) → (fits kind mark m ≡ true) × Follows kind (next_mark kind mark m) ls
+follows-fits : (kind : Kind) (mark : Option ℕ) (m : ℕ) (ls : List ℕ) → Follows kind mark (m ∷ ls) → (follows_mark kind mark m ≡ true) × Follows kind (next_mark kind mark m) ls
 follows-fits Sequence mark m ls k = (refl, tt)
 follows-fits Set None m ls k = (refl, k)
 follows-fits Set (Some a) m ls k = (holds-le a m (nat_le a m) (leb_tells a m) k.0, k.1)
@@ -106,7 +106,7 @@ mutual
   test-parts kind mark none l h = (mark-alone kind mark, tt)
   test-parts kind mark (more o os) l h =
       let a = both-hold (in_order o (take (size o) l)) _ h in
-      let b = both-hold (fits kind mark (least_label (take (size o) l))) _ a.1 in
+      let b = both-hold (follows_mark kind mark (least_label (take (size o) l))) _ a.1 in
       let r = test-parts kind (next_mark kind mark (least_label (take (size o) l))) os (drop (size o) l) b.1 in
       (fits-follows kind mark (least_label (take (size o) l)) (leasts os (drop (size o) l)) b.0 r.0, (test-stands o (take (size o) l) a.0, r.1))
 
@@ -125,4 +125,4 @@ mutual
   parts-test kind mark (more o os) l f h =
       let k = follows-fits kind mark (least_label (take (size o) l)) (leasts os (drop (size o) l)) f in
       hold-both (in_order o (take (size o) l)) _ (stands-test o (take (size o) l) h.0)
-      (hold-both (fits kind mark (least_label (take (size o) l))) _ k.0 (parts-test kind (next_mark kind mark (least_label (take (size o) l))) os (drop (size o) l) k.1 h.1))
+      (hold-both (follows_mark kind mark (least_label (take (size o) l))) _ k.0 (parts-test kind (next_mark kind mark (least_label (take (size o) l))) os (drop (size o) l) k.1 h.1))

@@ -17,7 +17,7 @@ use Rattle.object_text.specs.declared.print_stack.Todo.{Todo}
 use Rattle.object_text.specs.declared.print_stack.Todo.TheVariants as todo
 use Rattle.object_text.specs.declared.output.Form.{Form}
 use Rattle.object_text.specs.declared.output.Form.TheVariants as form
-use Rattle.object_text.specs.Output.{OpenParts, Printed, grown, opened, arranged, opener, closer, labelled_leaf}
+use Rattle.object_text.specs.Output.{OpenParts, Printed, grown, form_opened, arranged, opening_byte, closing_byte, labelled_leaf}
 use Rattle.object_text.specs.Todos.{joined_objects, spaced_objects}
 use Rattle.object_text.specs.Printing.{PrintsObject, Prints}
 use Rattle.object_text.proofs.PartTexts.{after_spaces, spaced-first}
@@ -258,19 +258,19 @@ module _ (s : Spec) (whole : List ℕ) (later : List Todo) (e : ℕ) (l : List �
   pub record CountsOpen (f : Form) (part : ExprId) (t : Token) (tokens : List Token) : Type 0 where
     pub parts : ℕ
     pub is_count : t ≡ token.Count parts
-    pub prints : Prints s whole (replicate parts (todo.Part part) ++ todo.Close f ∷ later) tokens l (opened p)
+    pub prints : Prints s whole (replicate parts (todo.Part part) ++ todo.Close f ∷ later) tokens l (form_opened p)
 
-  open-parts : (f : Form) (part : ExprId) (os : Objects) (h : ℕ) (t : Token) (tokens rest : List Token) → t ∷ tokens ≡ token.Count (count os) ∷ tokens_all os ++ rest → HaveAll s (ClassHas s h) part.0 os → Prints s whole later rest (drop (sizes os) l) (grown p (least_label (take (sizes os) l)) (opener f ∷ spaced (arranged f (texts_all s h part.0 os (take (sizes os) l))) ++ closer f ∷ [])) → CountsOpen f part t tokens
+  open-parts : (f : Form) (part : ExprId) (os : Objects) (h : ℕ) (t : Token) (tokens rest : List Token) → t ∷ tokens ≡ token.Count (count os) ∷ tokens_all os ++ rest → HaveAll s (ClassHas s h) part.0 os → Prints s whole later rest (drop (sizes os) l) (grown p (least_label (take (sizes os) l)) (opening_byte f ∷ spaced (arranged f (texts_all s h part.0 os (take (sizes os) l))) ++ closing_byte f ∷ [])) → CountsOpen f part t tokens
   open-parts f part os h t tokens rest split w m = record {
     parts = count os;
     is_count = cc;
     prints =
         let same : tokens ≡ tokens_all os ++ rest = cc in
         let all : List PartText = texts_all s h part.0 os l in
-        subst (λ ts. Prints s whole (replicate (count os) (todo.Part part) ++ todo.Close f ∷ later) ts l (opened p)) (sym same)
+        subst (λ ts. Prints s whole (replicate (count os) (todo.Part part) ++ todo.Close f ∷ later) ts l (form_opened p)) (sym same)
         (parts-all s whole (todo.Close f ∷ later) h part os w rest l p.least p.text [] p.frames
-        (subst (λ n. Prints s whole later rest (drop (sizes os) l) (record { least = lesser_label p.least n; text = p.text ++ (opener f ∷ spaced (arranged f all) ++ closer f ∷ []); frames = p.frames })) (sym (least-all canonical s (class_text canonical s h) part.0 os l))
-        (subst (λ ts. Prints s whole later rest (drop (sizes os) l) (grown p (least_label (take (sizes os) l)) (opener f ∷ spaced (arranged f ts) ++ closer f ∷ []))) (all-enough canonical s (class_text canonical s h) part.0 os l) m)));
+        (subst (λ n. Prints s whole later rest (drop (sizes os) l) (record { least = lesser_label p.least n; text = p.text ++ (opening_byte f ∷ spaced (arranged f all) ++ closing_byte f ∷ []); frames = p.frames })) (sym (least-all canonical s (class_text canonical s h) part.0 os l))
+        (subst (λ ts. Prints s whole later rest (drop (sizes os) l) (grown p (least_label (take (sizes os) l)) (opening_byte f ∷ spaced (arranged f ts) ++ closing_byte f ∷ []))) (all-enough canonical s (class_text canonical s h) part.0 os l) m)));
   }
 
   pub of-set : (part : ExprId) → node_at s e ≡ Some (Node.Set part.0) → (t : Token) (tokens : List Token) → PrintsObject s e (Prints s whole later) (t ∷ tokens) l p → CountsOpen form.Set part t tokens

@@ -13,7 +13,7 @@ use Rattle.object_store.specs.declared.token.Token.TheVariants as token
 use Rattle.object_store.specs.Tokens.{tokens_of, tokens_all}
 use Rattle.object_text.specs.declared.parsed.Kind.{Kind}
 use Rattle.object_text.specs.declared.parsed.Kind.TheVariants.{Sequence, Set, Cycle}
-use Rattle.object_text.specs.Taken.{OpenList, Taken, in_order, parts_in_order, fits, next_mark, with_token, with_label, with_object, opened, parted, closed}
+use Rattle.object_text.specs.Taken.{OpenList, Taken, in_order, parts_in_order, follows_mark, next_mark, with_token, with_label, with_object, opened, parted, closed}
 use Rattle.object_text.proofs.ObjectTexts.{list_object}
 
 abbrev pub make : List Token → List ℕ → ℕ → Bool → List OpenList → Taken
@@ -77,7 +77,7 @@ through-parts mode none l kind before outer mark tokens labels ordered lists h =
 through-parts mode (more o os) l kind before outer mark tokens labels ordered lists h =
     let a : ℕ = least_label (take (size o) l) in
     let rest : List ℕ = drop (size o) l in
-    let fit : Bool = fits kind mark a in
+    let fit : Bool = follows_mark kind mark a in
     let next : Option ℕ = next_mark kind mark a in
     let own : Bool = in_order o (take (size o) l) in
     let last : List OpenList = frame kind before (lesser_label outer (least_label l)) (marks kind next os rest) ∷ lists in

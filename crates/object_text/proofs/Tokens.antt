@@ -24,7 +24,7 @@ use Rattle.object_text.specs.Todos.{joined_objects}
 use Rattle.object_text.specs.Printing.{PrintsObject, Prints}
 use Rattle.object_text.specs.declared.output.Form.{Form}
 use Rattle.object_text.specs.declared.output.Form.TheVariants as form
-use Rattle.object_text.specs.Output.{Printed, blank, grown, opened}
+use Rattle.object_text.specs.Output.{Printed, blank, grown, form_opened}
 use Rattle.object_text.proofs.Steps.{of-union, of-sequence, of-set, of-cycle, CountsOpen}
 
 token-node : (s : Spec) (e : ℕ) (n : Node) → HasToken s e → node_at s e ≡ Some n → IsTokenNode n
@@ -69,15 +69,15 @@ module _ (s : Spec) (whole : List ℕ) (later : List Todo) (e : ℕ) (l : List �
       (subst (λ m. Prints s whole (joined_objects (replicate m part) ++ todo.Byte 93 ∷ later) rest l (grown p 0 (91 ∷ []))) (same-number k.parts n k.is_count is) k.prints)
 
   -- and so does that of a set or a cycle
-  prints-open : (f : Form) (part : ExprId) (n : ℕ) → t ≡ token.Count n → CountsOpen s whole later e l p f part t rest → Prints s whole (replicate n (todo.Part part) ++ todo.Close f ∷ later) rest (drop (token_size t) l) (opened p)
+  prints-open : (f : Form) (part : ExprId) (n : ℕ) → t ≡ token.Count n → CountsOpen s whole later e l p f part t rest → Prints s whole (replicate n (todo.Part part) ++ todo.Close f ∷ later) rest (drop (token_size t) l) (form_opened p)
   prints-open f part n is k =
-      subst (λ u. Prints s whole (replicate n (todo.Part part) ++ todo.Close f ∷ later) rest (drop (token_size u) l) (opened p)) (sym is)
-      (subst (λ m. Prints s whole (replicate m (todo.Part part) ++ todo.Close f ∷ later) rest l (opened p)) (same-number k.parts n k.is_count is) k.prints)
+      subst (λ u. Prints s whole (replicate n (todo.Part part) ++ todo.Close f ∷ later) rest (drop (token_size u) l) (form_opened p)) (sym is)
+      (subst (λ m. Prints s whole (replicate m (todo.Part part) ++ todo.Close f ∷ later) rest l (form_opened p)) (same-number k.parts n k.is_count is) k.prints)
 
-  pub prints-set : (part : ExprId) (n : ℕ) → node_at s e ≡ Some (Node.Set part.0) → t ≡ token.Count n → PrintsObject s e (Prints s whole later) (t ∷ rest) l p → Prints s whole (replicate n (todo.Part part) ++ todo.Close form.Set ∷ later) rest (drop (token_size t) l) (opened p)
+  pub prints-set : (part : ExprId) (n : ℕ) → node_at s e ≡ Some (Node.Set part.0) → t ≡ token.Count n → PrintsObject s e (Prints s whole later) (t ∷ rest) l p → Prints s whole (replicate n (todo.Part part) ++ todo.Close form.Set ∷ later) rest (drop (token_size t) l) (form_opened p)
   prints-set part n at is h = prints-open form.Set part n is (of-set s whole later e l p part at t rest h)
 
-  pub prints-cycle : (part : ExprId) (n : ℕ) → node_at s e ≡ Some (Node.Cyc part.0) → t ≡ token.Count n → PrintsObject s e (Prints s whole later) (t ∷ rest) l p → Prints s whole (replicate n (todo.Part part) ++ todo.Close form.Cycle ∷ later) rest (drop (token_size t) l) (opened p)
+  pub prints-cycle : (part : ExprId) (n : ℕ) → node_at s e ≡ Some (Node.Cyc part.0) → t ≡ token.Count n → PrintsObject s e (Prints s whole later) (t ∷ rest) l p → Prints s whole (replicate n (todo.Part part) ++ todo.Close form.Cycle ∷ later) rest (drop (token_size t) l) (form_opened p)
   prints-cycle part n at is h = prints-open form.Cycle part n is (of-cycle s whole later e l p part at t rest h)
 
 -- The tokens of a class's object are printed as the object's text.

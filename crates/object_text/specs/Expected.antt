@@ -85,7 +85,7 @@ Comes s None stack taken = λ whole text. Reads s whole stack text taken
 Comes s (Some e) stack taken = λ whole text. ReadsObject s e.0 (Reads s whole stack) text taken
 
 -- A list may have another part: its range is not used up, and its number of parts is small.
-pub record IsOpen (s : Spec) (left : ℕ) (c : Counted) : Type 0 where
+pub record MayHaveAnotherPart (s : Spec) (left : ℕ) (c : Counted) : Type 0 where
   pub part_below : c.part.0 < length s.nodes
   pub few : c.parts + 1 + left < 2 ^ 32
   pub range_some : IsWithinHigh c.range.low c.range.high
@@ -95,7 +95,7 @@ pub record IsOpen (s : Spec) (left : ℕ) (c : Counted) : Type 0 where
 abbrev pub CanCome : Spec → ℕ → Expected → Type 0
 CanCome s left Close = Unit {0}
 CanCome s left (Part e) = e.0 < length s.nodes
-CanCome s left (Further c) = IsOpen s left c
+CanCome s left (Further c) = MayHaveAnotherPart s left c
 
 abbrev pub AllCanCome : Spec → ℕ → List Expected → Type 0
 AllCanCome s left stack = AllByRecursion (CanCome s left) stack

@@ -33,8 +33,8 @@ grown p label text = record {
 }
 
 -- A set or cycle begins.
-abbrev pub opened : Printed → Printed
-opened p =
+abbrev pub form_opened : Printed → Printed
+form_opened p =
     record {
       least = 0;
       text = [];
@@ -49,8 +49,8 @@ with_part part (f ∷ frames) =
     record { least = f.least; text = f.text; parts = f.parts ++ part ∷ [] } ∷ frames
 
 -- The open text is a finished part, and a new one begins.
-abbrev pub parted : Printed → Printed
-parted p =
+abbrev pub part_printed : Printed → Printed
+part_printed p =
     record {
       least = 0;
       text = [];
@@ -64,26 +64,26 @@ arranged Set parts = set_parts Arrangement.Canonical parts
 arranged Cycle parts = cycle_parts Arrangement.Canonical parts
 
 -- The byte before the parts, and the byte after them.
-abbrev pub opener : Form → ℕ
-opener Set = 123
-opener Cycle = 60
+abbrev pub opening_byte : Form → ℕ
+opening_byte Set = 123
+opening_byte Cycle = 60
 
-abbrev pub closer : Form → ℕ
-closer Set = 125
-closer Cycle = 62
+abbrev pub closing_byte : Form → ℕ
+closing_byte Set = 125
+closing_byte Cycle = 62
 
 -- The innermost set or cycle ends: its text follows the text before it.
-abbrev pub closed_in : Form → Printed → List OpenParts → Printed
-closed_in form p [] = p
-closed_in form p (f ∷ frames) = record {
+abbrev pub form_closed_in : Form → Printed → List OpenParts → Printed
+form_closed_in form p [] = p
+form_closed_in form p (f ∷ frames) = record {
   least = lesser_label f.least (least_of f.parts);
   text =
-      f.text ++ (opener form ∷ spaced (arranged form f.parts) ++ closer form ∷ []);
+      f.text ++ (opening_byte form ∷ spaced (arranged form f.parts) ++ closing_byte form ∷ []);
   frames = frames;
 }
 
-abbrev pub closed : Form → Printed → Printed
-closed form p = closed_in form p p.frames
+abbrev pub form_closed : Form → Printed → Printed
+form_closed form p = form_closed_in form p p.frames
 
 -- A leaf's text and, if it has one, its label are printed.
 abbrev pub labelled_leaf : Printed → List ℕ → Option ℕ → Printed

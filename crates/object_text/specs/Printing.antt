@@ -13,7 +13,7 @@ use Rattle.object_store.specs.Walk.{HasToken, Expands}
 use Rattle.object_text.specs.declared.print_stack.Todo.{Todo}
 use Rattle.object_text.specs.declared.print_stack.Todo.TheVariants.{Byte, Node, Part, EndPart}
 use Rattle.object_text.specs.declared.print_stack.Todo.TheVariants.{Close}
-use Rattle.object_text.specs.Output.{Printed, grown, parted, closed}
+use Rattle.object_text.specs.Output.{Printed, grown, part_printed, form_closed}
 
 -- The tokens are those of an object of the node, with others after them, and what is done later
 -- holds of the others, of the labels that the object doesn't take, and of what is printed with the
@@ -37,11 +37,11 @@ Prints s whole (Byte byte ∷ todos) =
 Prints s whole (Node e ∷ todos) = PrintsObject s e.0 (Prints s whole todos)
 Prints s whole (Part e ∷ todos) =
     PrintsObject s e.0 (λ tokens labels printed. Prints s whole todos tokens labels
-    (parted printed))
+    (part_printed printed))
 Prints s whole (EndPart ∷ todos) =
-    λ tokens labels printed. Prints s whole todos tokens labels (parted printed)
+    λ tokens labels printed. Prints s whole todos tokens labels (part_printed printed)
 Prints s whole (Close form ∷ todos) =
-    λ tokens labels printed. Prints s whole todos tokens labels (closed form printed)
+    λ tokens labels printed. Prints s whole todos tokens labels (form_closed form printed)
 
 -- These tokens and labels can be printed.
 pub record AreWholly (s : Spec) (todos : List Todo) (tokens : List Token) (labels : List ℕ)
@@ -88,9 +88,10 @@ pub record IsDone (todo : Todo) (rest : List Todo) (before : Printed) (todos : L
   pub passes : PassesFreely (todo ∷ rest) before todos printed
 
 -- One thing is done, or a node is to be printed now.
-abbrev pub IsBegun : Todo → List Todo → Printed → List Todo → Printed → Option ExprId → Type 0
-IsBegun todo rest before todos printed None = IsDone todo rest before todos printed
-IsBegun todo rest before todos printed (Some e) =
+abbrev pub IsDoneOrAtNode : Todo → List Todo → Printed → List Todo → Printed → Option ExprId
+    → Type 0
+IsDoneOrAtNode todo rest before todos printed None = IsDone todo rest before todos printed
+IsDoneOrAtNode todo rest before todos printed (Some e) =
     PassesFreely (todo ∷ rest) before (Node e ∷ todos) printed
 
 -- A class's body, or a product's parts, stand in its place.

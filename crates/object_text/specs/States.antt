@@ -28,10 +28,10 @@ pub record IsReadWhole (mode : Mode) (taken : Taken) (shape : List Token)
   pub labels : labels_told ≡ told mode taken.labels
 
 -- What was read doesn't stand in order, or memory ran out.
-abbrev pub IsRefused : Taken → TextFault → Type 0
-IsRefused taken (fault.NotObject place) = ⊥
-IsRefused taken fault.NotCanonical = ¬ (IsOrderly taken)
-IsRefused taken fault.OutOfMemory = Unit {0}
+abbrev pub IsRefusedReading : Taken → TextFault → Type 0
+IsRefusedReading taken (fault.NotObject place) = ⊥
+IsRefusedReading taken fault.NotCanonical = ¬ (IsOrderly taken)
+IsRefusedReading taken fault.OutOfMemory = Unit {0}
 
 -- The fault of a text of so many bytes where reading it stopped.
 abbrev pub stop_fault : ℕ → Stop → TextFault

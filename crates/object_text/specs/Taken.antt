@@ -15,10 +15,10 @@ use Rattle.object_text.specs.declared.parsed.Kind.TheVariants.{Sequence, Set, Cy
 -- The parts of a list stand in order as far as they were read; the mark is the least label of the
 -- last part of a set, and that of the first part of a cycle. A part with this least label may come
 -- next.
-abbrev pub fits : Kind → Option ℕ → ℕ → Bool
-fits Set (Some mark) least = nat_le mark least
-fits Cycle (Some mark) least = nat_eq (lesser_label mark least) mark
-fits kind mark least = true
+abbrev pub follows_mark : Kind → Option ℕ → ℕ → Bool
+follows_mark Set (Some mark) least = nat_le mark least
+follows_mark Cycle (Some mark) least = nat_eq (lesser_label mark least) mark
+follows_mark kind mark least = true
 
 -- The mark behind a part with this least label.
 abbrev pub next_mark : Kind → Option ℕ → ℕ → Option ℕ
@@ -41,7 +41,8 @@ abbrev mutual
   pub parts_in_order : Kind → Option ℕ → Objects → List ℕ → Bool
   parts_in_order kind mark none labels = true
   parts_in_order kind mark (more o os) labels =
-      in_order o (take (size o) labels) && (fits kind mark (least_label (take (size o) labels)) &&
+      in_order o (take (size o) labels) && (follows_mark kind mark
+      (least_label (take (size o) labels)) &&
       parts_in_order kind (next_mark kind mark (least_label (take (size o) labels))) os
       (drop (size o) labels))
 
@@ -120,7 +121,7 @@ parted_in t (f ∷ lists) = record {
   labels = t.labels;
   least = 0;
   ordered =
-      t.ordered && fits f.kind f.mark t.least;
+      t.ordered && follows_mark f.kind f.mark t.least;
   lists =
       record {
         kind = f.kind;

@@ -24,9 +24,9 @@ entry_items (entry.Spaced e n) = spaced_objects (replicate n e)
 entry_items (entry.Parts e n) = replicate n (Part e)
 
 -- What entries stand for, the last entry first.
-abbrev pub unrolled : List Entry → List Todo
-unrolled [] = []
-unrolled (x ∷ entries) = unrolled entries ++ entry_items x
+abbrev pub todos_in_order : List Entry → List Todo
+todos_in_order [] = []
+todos_in_order (x ∷ entries) = todos_in_order entries ++ entry_items x
 
 -- The entry stands for something.
 abbrev pub IsSomething : Entry → Type 0

@@ -4,8 +4,9 @@
 //! is known only then.
 ghost use Rattle.std.specs.Prelude.{◌≡◌, ◌≤◌, ◌++◌, ◌∷◌, [], OnOk, decimal, length, take, drop};
 ghost use Rattle.bz_model.specs.ObjectText.{lesser_label, least_of, spaced, rotated_to};
-ghost use Rattle.object_text.specs.Output.{blank, grown, opened, parted, closed, arranged, opener};
-ghost use Rattle.object_text.specs.Output.{closer};
+ghost use Rattle.object_text.specs.Output.{blank, grown, form_opened, part_printed, form_closed};
+ghost use Rattle.object_text.specs.Output.{arranged, opening_byte};
+ghost use Rattle.object_text.specs.Output.{closing_byte};
 
 use itoa::Buffer;
 use smallvec::SmallVec;
@@ -138,7 +139,7 @@ impl Output {
 
     /// Begins a set or a cycle.
     pub(crate) fn open(&mut self) -> Result<(), AllocError>
-        ensures { OnOk result (self.new ≡ opened self.old) }
+        ensures { OnOk result (self.new ≡ form_opened self.old) }
     {
         let alloc = *self.text.allocator();
         let frame = Frame {
@@ -153,7 +154,7 @@ impl Output {
 
     /// Makes the open text a finished part of the innermost set or cycle, and begins the next.
     pub(crate) fn end_part(&mut self) -> Result<(), AllocError>
-        ensures { OnOk result (self.new ≡ parted self.old) }
+        ensures { OnOk result (self.new ≡ part_printed self.old) }
     {
         let alloc = *self.text.allocator();
         let part = Part {
@@ -170,7 +171,7 @@ impl Output {
 
     /// Ends the innermost set or cycle: its text follows the text before it.
     pub(crate) fn close(&mut self, form: Form) -> Result<(), AllocError>
-        ensures { OnOk result (self.new ≡ closed form self.old) }
+        ensures { OnOk result (self.new ≡ form_closed form self.old) }
     {
         let Some(frame) = self.frames.pop() else {
             return Ok(());
@@ -194,7 +195,8 @@ fn write_parts(
     mut parts: SmallVec<Part, SHORT>,
 ) -> Result<(), AllocError>
     ensures { OnOk result (text.new.items
-        ≡ text.old.items ++ (opener form ∷ spaced (arranged form parts.items) ++ closer form
+        ≡ text.old.items ++ (opening_byte form ∷ spaced (arranged form parts.items)
+        ++ closing_byte form
         ∷ [])) }
 {
     match form {

@@ -1,7 +1,8 @@
 //! What was read of a text so far.
 ghost use Rattle.std.specs.Prelude.{◌≡◌, [], OnOk, IfOk};
 ghost use Rattle.bz_model.specs.ObjectText.{lesser_label};
-ghost use Rattle.object_text.specs.Taken.{fits, next_mark, nothing, with_token, with_label, opened};
+ghost use Rattle.object_text.specs.Taken.{follows_mark, next_mark, nothing, with_token, with_label};
+ghost use Rattle.object_text.specs.Taken.{opened};
 ghost use Rattle.object_text.specs.Taken.{parted, closed};
 
 use crate::output::lesser;
@@ -175,7 +176,7 @@ impl Partial {
 
 /// Whether a part with this least label may come next in a list with this mark.
 fn fits(kind: Kind, mark: Option<u64>, least: u64) -> bool
-    ensures { result ≡ fits kind mark least }
+    ensures { result ≡ follows_mark kind mark least }
 {
     match (kind, mark) {
         (Kind::Set, Some(mark)) => mark <= least,

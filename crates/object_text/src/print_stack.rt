@@ -46,11 +46,11 @@ pub(crate) struct Todos {
 impl Model for Todos {
     ghost use Rattle.std.specs.Prelude.{List};
     ghost use Rattle.object_text.specs.declared.print_stack.Todo.{Todo};
-    ghost use Rattle.object_text.specs.Todos.{unrolled, AreSome};
+    ghost use Rattle.object_text.specs.Todos.{todos_in_order, AreSome};
 
     ghost Value = { List Todo };
 
-    ghost view = { λ t. unrolled t.entries.items };
+    ghost view = { λ t. todos_in_order t.entries.items };
 
     ghost invariant = { λ t. AreSome t.entries.items };
 }

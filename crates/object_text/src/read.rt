@@ -3,7 +3,7 @@ ghost use Rattle.std.specs.Prelude.{◌≡◌, ◌≤◌, ◌<◌, ◌^◌, [], 
 ghost use Rattle.class_system.specs.Views.{spec_mode};
 ghost use Rattle.object_text.specs.Reading.{IsRead, TellsFault};
 ghost use Rattle.object_text.specs.Scanning.{StopsAt};
-ghost use Rattle.object_text.specs.States.{IsReadWhole, IsRefused, stop_fault};
+ghost use Rattle.object_text.specs.States.{IsReadWhole, IsRefusedReading, stop_fault};
 
 use crate::fault::TextFault;
 use crate::parsed::Partial;
@@ -74,7 +74,7 @@ fn finish(alloc: Global, mode: Mode, taken: Partial) -> Result<ReadObject, TextF
     requires whole { taken.lists ≡ [] }
     ensures ok { IfOk result (λ object.
         IsReadWhole (spec_mode mode) taken object.shape.items object.labels) }
-    ensures fault { IfErr result (IsRefused taken) }
+    ensures fault { IfErr result (IsRefusedReading taken) }
 {
     if !taken.is_ordered() {
         return Err(TextFault::NotCanonical);

@@ -5,8 +5,9 @@ ghost use Rattle.std.specs.Prelude.{replicate};
 ghost use Rattle.bz_model.specs.Spec.{Mode};
 ghost use Rattle.bz_model.specs.ObjectText.{leaf_text};
 ghost use Rattle.object_store.specs.Walk.{HasToken};
-ghost use Rattle.object_text.specs.Output.{grown, opened, labelled_leaf};
-ghost use Rattle.object_text.specs.Printing.{Prints, ArePrinted, AreWholly, IsNextNode, IsBegun};
+ghost use Rattle.object_text.specs.Output.{grown, form_opened, labelled_leaf};
+ghost use Rattle.object_text.specs.Printing.{Prints, ArePrinted, AreWholly, IsNextNode};
+ghost use Rattle.object_text.specs.Printing.{IsDoneOrAtNode};
 ghost use Rattle.object_text.specs.Printing.{ExpandsIf, IsFront, IsToPrint, TakesToken};
 
 use crate::output::{Form, Output};
@@ -78,7 +79,7 @@ fn next_node(todos: &mut Todos, output: &mut Output) -> Result<Option<ExprId>, A
 
 /// Does a thing, or tells the node of which an object is to be printed now.
 fn begin(todo: Todo, todos: &mut Todos, output: &mut Output) -> Result<Option<ExprId>, AllocError>
-    ensures begun { IfOk result (IsBegun todo todos.old output.old todos.new output.new) }
+    ensures begun { IfOk result (IsDoneOrAtNode todo todos.old output.old todos.new output.new) }
 {
     match todo {
         Todo::Byte(byte) => output.write(&[byte])?,
@@ -178,7 +179,7 @@ fn begin_parts(
 ) -> Result<(), AllocError>
     ensures { OnOk result (
         (todos.new ≡ replicate parts (Todo.Part part) ++ Todo.Close form ∷ todos.old)
-        × (output.new ≡ opened output.old)) }
+        × (output.new ≡ form_opened output.old)) }
 {
     output.open()?;
     todos.push_one(Todo::Close(form))?;

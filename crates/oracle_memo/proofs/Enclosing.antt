@@ -12,7 +12,7 @@ use Rattle.class_system.specs.Sound.{IsSound}
 use Rattle.class_system.specs.NodeResults.{ranged_nodes}
 use Rattle.class_system.proofs.Results.{length-node_results, length-zip}
 use Rattle.fixed_enclosure.specs.Rounded.{greatest}
-use Rattle.rounded_map.specs.RoundedMap.{Setting, setting, value_at, repeated, values_down, value_up, values_up, sweep_up, IsPostFixed, IsFirstMissing}
+use Rattle.rounded_map.specs.RoundedMap.{Setting, setting, value_at, repeated, values_down, node_value_up, values_up, sweep_up, IsPostFixed, IsFirstMissing}
 use Rattle.rounded_map.specs.Bounding.{AreBelow}
 use Rattle.rounded_map.proofs.Bounding.{values-above, values-below, post_fixed-above, sweeps-reached}
 use Rattle.rounded_map.proofs.EachValued.{each-value}
@@ -124,7 +124,7 @@ missing-past : (n : ℕ) (o : Option ℕ) → o ≡ None → (v : ℕ) → o ≡
 missing-past n o none v there = cc
 
 length-values : (s : Spec) (num den F : ℕ) → IsSound s → (classes : List ℕ) → length (values_up (setting s num den F) classes) ≡ length s.nodes
-length-values s num den F sound classes = length-node_results (value_up (setting s num den F) classes) [] (ranged_nodes s) ∙ omega (arith, length-zip s.nodes s.ranges sound.ranges.lengths)
+length-values s num den F sound classes = length-node_results (node_value_up (setting s num den F) classes) [] (ranged_nodes s) ∙ omega (arith, length-zip s.nodes s.ranges sound.ranges.lengths)
 
 -- For a sound specification and a positive denominator, no node's upper value is missing at a
 -- post-fixed vector.

@@ -7,7 +7,7 @@ use Rattle.bz_model.specs.declared.cell.Bounds.{Bounds}
 use Rattle.fixed_enclosure.specs.Rounded.{greatest}
 use Rattle.rounded_map.specs.RoundedMap.{Setting, value_at, values_down, values_up}
 use Rattle.oracle_memo.specs.Levels.{level_down_from, level_up, lesser_value, bound_down_from, bound_up, level_bounds_from}
-use Rattle.oracle_memo.specs.Memos.{whole, bounds_at, bounds_before, drawn_in, HasRows}
+use Rattle.oracle_memo.specs.Memos.{widest_bounds, bounds_at, bounds_before, drawn_in, HasRows}
 
 -- A row begins at 0, or after a whole row.
 pub start-cases : (rows n start : ℕ) → start ≡ rows * n → (start ≡ 0) ⊎ (n ≤ start)
@@ -15,11 +15,11 @@ start-cases zero n start at = inl (omega arith)
 start-cases (suc rows) n start at = inr (omega arith)
 
 -- In the first row there are no bounds before, in the others those of the row before.
-pub before-first : (table : List Bounds) (n start e : ℕ) → start ≡ 0 → bounds_before table n start e ≡ whole
-before-first table n start e at = ap (λ b. cond b whole (bounds_at table (start - n + e))) (eq-eqb start 0 at)
+pub before-first : (table : List Bounds) (n start e : ℕ) → start ≡ 0 → bounds_before table n start e ≡ widest_bounds
+before-first table n start e at = ap (λ b. cond b widest_bounds (bounds_at table (start - n + e))) (eq-eqb start 0 at)
 
 pub before-later : (table : List Bounds) (n start e i : ℕ) → 0 < start → i ≡ start - n + e → bounds_before table n start e ≡ bounds_at table i
-before-later table n start e i some at = ap (λ b. cond b whole (bounds_at table (start - n + e))) (ne_eqb start 0 (λ none. omega arith)) ∙ ap (bounds_at table) (sym at)
+before-later table n start e i some at = ap (λ b. cond b widest_bounds (bounds_at table (start - n + e))) (ne_eqb start 0 (λ none. omega arith)) ∙ ap (bounds_at table) (sym at)
 
 -- The bounds before a row stay where the places before it do.
 pub before-same : (old new : List Bounds) (n start e : ℕ) → (start ≡ 0) ⊎ (n ≤ start) → e < n → ((i : ℕ) → i < start → bounds_at new i ≡ bounds_at old i) → bounds_before new n start e ≡ bounds_before old n start e
@@ -34,13 +34,13 @@ pub written-more : (old table : List Bounds) (n start e : ℕ) (v : Bounds) (low
     → (k : ℕ) → k < e + 1 → bounds_at (set table (start + e) v) (start + k) ≡ drawn_in (bounds_before old n start k) (slice_index lows k) (slice_index highs k)
 written-more old table n start e v lows highs before room is =
     below_more (λ k. bounds_at (set table (start + e) v) (start + k) ≡ drawn_in (bounds_before old n start k) (slice_index lows k) (slice_index highs k)) e
-    (λ k below. let other : start + k ≢ start + e = omega arith in get_or-set_other table (start + e) (start + k) v whole other ∙ before k below)
-    (get_or-set_same table (start + e) v whole room ∙ is)
+    (λ k below. let other : start + k ≢ start + e = omega arith in get_or-set_other table (start + e) (start + k) v widest_bounds other ∙ before k below)
+    (get_or-set_same table (start + e) v widest_bounds room ∙ is)
 
 -- Where a table agrees with an old one before place start, it still does after a write at or past
 -- start.
 pub others-stay : (old table : List Bounds) (start e : ℕ) (v : Bounds) → ((i : ℕ) → i < start → bounds_at table i ≡ bounds_at old i) → (i : ℕ) → i < start → bounds_at (set table (start + e) v) i ≡ bounds_at old i
-others-stay old table start e v same i below = let other : i ≢ start + e = omega arith in get_or-set_other table (start + e) i v whole other ∙ same i below
+others-stay old table start e v same i below = let other : i ≢ start + e = omega arith in get_or-set_other table (start + e) i v widest_bounds other ∙ same i below
 
 -- The bounds at a level, from those at the level before and the values.
 value-copied : (highs : List ℕ) (e : ℕ) → e < length highs → value_at (map Some highs) e ≡ Some (slice_index highs e)

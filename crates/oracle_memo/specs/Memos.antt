@@ -21,17 +21,18 @@ pub record Memory : Type 0 where
   pub raised : ℕ
 
 -- No bounds: from 0 to the greatest number.
-abbrev pub whole : Bounds
-whole = record { lo = 0; hi = greatest }
+abbrev pub widest_bounds : Bounds
+widest_bounds = record { lo = 0; hi = greatest }
 
 -- The bounds at a place of a table.
 abbrev pub bounds_at : List Bounds → ℕ → Bounds
-bounds_at table i = slice_index_or table i whole
+bounds_at table i = slice_index_or table i widest_bounds
 
 -- The bounds of a node in the row of n before the one that begins at `start`; before the first row
 -- there are none.
 abbrev pub bounds_before : List Bounds → (n start node : ℕ) → Bounds
-bounds_before table n start e = if nat_eq start 0 then whole else bounds_at table (start - n + e)
+bounds_before table n start e =
+    if nat_eq start 0 then widest_bounds else bounds_at table (start - n + e)
 
 -- Bounds that are drawn in to a lower and an upper value.
 abbrev pub drawn_in : Bounds → (lo hi : ℕ) → Bounds

@@ -5,7 +5,7 @@ use Rattle.std.proofs.Math.Decide.{dec_lt}
 use Rattle.bz_model.specs.Spec.{Spec, Mode, body_of}
 use Rattle.class_system.proofs.OneLimit.{one_limit, no_limit}
 use Rattle.pointing.specs.Atoms.{HasAtom}
-use Rattle.pointing.specs.Calls.{IsRanged, LacksAtom, TellsFault}
+use Rattle.pointing.specs.Calls.{IsRanged, LacksAtom, TellsPointFault}
 use Rattle.pointing.specs.PointedSpec.{CanBeMarked, pointed_spec}
 use Rattle.pointing.specs.declared.fault.PointFault.{PointFault}
 use Rattle.pointing.specs.declared.fault.PointFault.TheVariants as fault
@@ -33,7 +33,7 @@ no-atomless : (s : Spec) → LacksAtom s → (body : ℕ) → body_of s 0 ≡ So
 no-atomless s h body at has = let none = h.none body has.object at has.belongs in let some = has.an_atom in omega (arith, none, some)
 
 -- faults of one specification are the same
-pub one-fault : (s : Spec) (a b : PointFault) → a ≢ fault.OutOfMemory → b ≢ fault.OutOfMemory → TellsFault s a → TellsFault s b → a ≡ b
+pub one-fault : (s : Spec) (a b : PointFault) → a ≢ fault.OutOfMemory → b ≢ fault.OutOfMemory → TellsPointFault s a → TellsPointFault s b → a ≡ b
 one-fault s fault.OutOfMemory b m n t u = absurd (m refl)
 one-fault s fault.Labelled fault.OutOfMemory m n t u = absurd (n refl)
 one-fault s (fault.Ranged e) fault.OutOfMemory m n t u = absurd (n refl)
@@ -57,7 +57,7 @@ one-fault s (fault.Limit f) fault.NoAtom m n t u = absurd (no-atomless s u t.bod
 one-fault s (fault.Limit f) (fault.Limit g) m n t u = ap (λ k. fault.Limit k) (one_limit (pointed_spec s) f g t.no_memory_fault u.no_memory_fault t.broken u.broken)
 
 -- what can be pointed has no fault
-pub no-fault : (s : Spec) (a : PointFault) → a ≢ fault.OutOfMemory → TellsFault s a → CanBePointed s → ⊥
+pub no-fault : (s : Spec) (a : PointFault) → a ≢ fault.OutOfMemory → TellsPointFault s a → CanBePointed s → ⊥
 no-fault s fault.OutOfMemory m t can = m refl
 no-fault s fault.Labelled m t can = two-modes s t can.able.is_plain.unlabelled
 no-fault s (fault.Ranged e) m t can = no-ranged s e.0 t.here can.able.is_plain

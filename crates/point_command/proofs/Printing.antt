@@ -9,7 +9,7 @@ use Rattle.class_system.specs.Sound.{IsSound}
 use Rattle.class_system.proofs.Soundness.{has_body}
 use Rattle.well_founded.specs.EmptyObjects.{answer_at}
 use Rattle.pointing.specs.Atoms.{AreAtomic, atomic_classes}
-use Rattle.pointing.specs.Calls.{TellsFault}
+use Rattle.pointing.specs.Calls.{TellsPointFault}
 use Rattle.pointing.specs.Correspondence.{IsPointable}
 use Rattle.pointing.specs.PointedSpec.{CanBeMarked, pointed_spec}
 use Rattle.pointing.specs.declared.fault.PointFault.{PointFault}
@@ -44,7 +44,7 @@ pointable s system same sound within is_plain inhabited = record {
 }
 
 -- a specification can't be pointed, or memory ran out
-pub point_refused : (s : Spec) (fault : PointFault) (status : Status) (text : List ℕ) → fault ≢ PointFault.OutOfMemory → TellsFault s fault → Says Status.PointRefused (point_line fault) 0 status text 0 → PointedPrinted s status text 0
+pub point_refused : (s : Spec) (fault : PointFault) (status : Status) (text : List ℕ) → fault ≢ PointFault.OutOfMemory → TellsPointFault s fault → Says Status.PointRefused (point_line fault) 0 status text 0 → PointedPrinted s status text 0
 point_refused s fault status text memory tells says = point.refused fault memory tells says
 
 pub pointing_lacks_memory : (s : Spec) (e : Refusal) → e ≡ refusal.OutOfMemory → PointedPrinted s (refusal_status e) (refusal_text e) 0

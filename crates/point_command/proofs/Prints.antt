@@ -11,7 +11,7 @@ use Rattle.class_system.proofs.Soundness.{has_body}
 use Rattle.spec_reader.specs.Reading.{Grammar}
 use Rattle.well_founded.specs.EmptyObjects.{answer_at}
 use Rattle.pointing.specs.Atoms.{HasAtom, atomic_classes, is_atomic_node}
-use Rattle.pointing.specs.Calls.{TellsFault}
+use Rattle.pointing.specs.Calls.{TellsPointFault}
 use Rattle.pointing.specs.Correspondence.{IsPointable, Corresponds}
 use Rattle.pointing.specs.PointedForm.{pointed_class}
 use Rattle.pointing.specs.PointedSpec.{pointed_spec}
@@ -34,14 +34,14 @@ only-printed s can status text ticks memory (point.printed can_too says) = (says
 pub is-printed : (f : Files) (file : List ℕ) (s : Spec) (status : Status) (text : List ℕ) (ticks : ℕ) → HasSpecification f file s → CanBePointed s → status ≢ Status.OutOfMemory → CarriesPoint f file status text ticks → (status ≡ Status.Done) × (text ≡ form_text (pointed_spec s))
 is-printed f file s status text ticks has can memory h = only-printed s can status text ticks memory (specified-only f file s PointedPrinted status text ticks has memory h)
 
-only-refused : (s : Spec) (fault : PointFault) → fault ≢ PointFault.OutOfMemory → TellsFault s fault → (status : Status) (text : List ℕ) (ticks : ℕ) → status ≢ Status.OutOfMemory → PointedPrinted s status text ticks → (status ≡ Status.PointRefused) × (text ≡ point_line fault)
+only-refused : (s : Spec) (fault : PointFault) → fault ≢ PointFault.OutOfMemory → TellsPointFault s fault → (status : Status) (text : List ℕ) (ticks : ℕ) → status ≢ Status.OutOfMemory → PointedPrinted s status text ticks → (status ≡ Status.PointRefused) × (text ≡ point_line fault)
 only-refused s fault n tells status text ticks memory (point.refused other m tells_too says) = (says.status_is, says.text_is ∙ ap point_line (one-fault s other fault m n tells_too tells))
 only-refused s fault n tells status text ticks memory (point.no_memory says) = absurd (memory says.status_is)
 only-refused s fault n tells status text ticks memory (point.printed can says) = absurd (no-fault s fault n tells can)
 
 -- Where the file has a specification that can't be pointed for some cause, the command refuses it
 -- with the line of that cause, unless memory runs out.
-pub is-refused : (f : Files) (file : List ℕ) (s : Spec) (fault : PointFault) (status : Status) (text : List ℕ) (ticks : ℕ) → HasSpecification f file s → fault ≢ PointFault.OutOfMemory → TellsFault s fault → status ≢ Status.OutOfMemory → CarriesPoint f file status text ticks → (status ≡ Status.PointRefused) × (text ≡ point_line fault)
+pub is-refused : (f : Files) (file : List ℕ) (s : Spec) (fault : PointFault) (status : Status) (text : List ℕ) (ticks : ℕ) → HasSpecification f file s → fault ≢ PointFault.OutOfMemory → TellsPointFault s fault → status ≢ Status.OutOfMemory → CarriesPoint f file status text ticks → (status ≡ Status.PointRefused) × (text ≡ point_line fault)
 is-refused f file s fault status text ticks has n tells memory h = only-refused s fault n tells status text ticks memory (specified-only f file s PointedPrinted status text ticks has memory h)
 
 -- a call that is done pointed a specification

@@ -4,7 +4,7 @@ use Rattle.bz_model.specs.Spec.{Spec, body_of}
 use Rattle.class_system.specs.CanonicalText.{canonical_text}
 use Rattle.class_system.specs.Limits.{IsWithinLimits}
 use Rattle.pointing.specs.Atoms.{HasAtom}
-use Rattle.pointing.specs.Calls.{TellsFault}
+use Rattle.pointing.specs.Calls.{TellsPointFault}
 use Rattle.pointing.specs.Correspondence.{IsPointable}
 use Rattle.pointing.specs.PointedSpec.{pointed_spec}
 use Rattle.pointing.specs.declared.fault.PointFault.{PointFault}
@@ -38,7 +38,7 @@ pub record CanBePointed (s : Spec) : Type 0 where
 -- A specification is pointed: it has no pointed one, for a cause, or the pointed one is printed in
 -- its canonical form. Memory may run out instead.
 pub data PointedPrinted (s : Spec) (status : Status) (text : List ℕ) (ticks : ℕ) : Type 0 where
-  refused : (fault : PointFault) → fault ≢ PointFault.OutOfMemory → TellsFault s fault
+  refused : (fault : PointFault) → fault ≢ PointFault.OutOfMemory → TellsPointFault s fault
       → Says Status.PointRefused (point_line fault) 0 status text ticks
       → PointedPrinted s status text ticks
   printed : CanBePointed s → Says Status.Done (form_text (pointed_spec s)) 0 status text ticks

@@ -1,7 +1,7 @@
 //! Laws of the command's outcomes. Each function's contract is a law, and its body calls only laws.
 ghost use Rattle.std.specs.Prelude.{◌≡◌, ◌≢◌, ℕ, List, [], ◌∷◌, ◌++◌, codes};
 ghost use Rattle.bz_model.specs.Spec.{Spec};
-ghost use Rattle.pointing.specs.Calls.{TellsFault};
+ghost use Rattle.pointing.specs.Calls.{TellsPointFault};
 ghost use Rattle.pointing.specs.PointedSpec.{pointed_spec};
 ghost use Rattle.pointing.specs.Rows.{binary, row};
 ghost use Rattle.pointing.specs.declared.fault.PointFault.{PointFault};
@@ -35,7 +35,8 @@ pub fn what_can_be_pointed_is_printed()
         → (status ≡ Status.Done) × (text ≡ form_text (pointed_spec s)) }
     ensures refused { (f : Files) (file : List ℕ) (s : Spec) (fault : PointFault) (status : Status)
         (text : List ℕ) (ticks : ℕ) → HasSpecification f file s → fault ≢ PointFault.OutOfMemory
-        → TellsFault s fault → status ≢ Status.OutOfMemory → CarriesPoint f file status text ticks
+        → TellsPointFault s fault → status ≢ Status.OutOfMemory
+        → CarriesPoint f file status text ticks
         → (status ≡ Status.PointRefused) × (text ≡ point_line fault) }
 {}
 

@@ -8,7 +8,7 @@ use Rattle.class_system.specs.declared.limits.BuildFault.{BuildFault}
 use Rattle.class_system.specs.declared.limits.BuildFault.TheVariants as limit
 use Rattle.class_system.proofs.Soundness.{has_body}
 use Rattle.well_founded.specs.EmptyObjects.{answer_at}
-use Rattle.pointing.specs.Forms.{parts_from, joined, body_forms}
+use Rattle.pointing.specs.Forms.{parts_from, forms_joined, body_forms}
 use Rattle.pointing.specs.Atoms.{atomic_classes}
 use Rattle.pointing.specs.PointedForm.{pointed_parts, copied}
 use Rattle.pointing.specs.PointedSpec.{pointed_by, pointed_spec, pointed_names, pointed_bodies}
@@ -43,7 +43,7 @@ drafted s cls l d is with_bodies = with_bodies ∙ (λ i. record {
 })
   where
     same : parts_from (pointed_parts cls (parts_from (body_forms s)) ++ map (copied cls) (body_forms s)) ≡ pointed_bodies cls (parts_from (body_forms s))
-    same = sym (joined-parts (pointed_parts cls (parts_from (body_forms s))) (map (copied cls) (body_forms s))) ∙ ap (joined (parts_from (pointed_parts cls (parts_from (body_forms s))))) (sym (copied-list cls (body_forms s)))
+    same = sym (joined-parts (pointed_parts cls (parts_from (body_forms s))) (map (copied cls) (body_forms s))) ∙ ap (forms_joined (parts_from (pointed_parts cls (parts_from (body_forms s))))) (sym (copied-list cls (body_forms s)))
 
     bodies : l.draft.bodies ++ l.numbers ≡ tops 0 (pointed_bodies cls (parts_from (body_forms s)))
     bodies = ap (λ z. z ++ l.numbers) is.no_bodies ∙ is.numbered ∙ ap (tops 0) same

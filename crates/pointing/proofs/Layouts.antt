@@ -8,7 +8,7 @@ use Rattle.bz_model.specs.Spec.{Node, plain_range}
 use Rattle.class_system.specs.Drafting.{with_node}
 use Rattle.pointing.specs.Forms.{Form, Forms, parts_from}
 use Rattle.pointing.specs.LaidOut.{below, all_nodes, top, tops, laid, laid_each, plain}
-use Rattle.pointing.specs.Building.{Layout, IsLayout, put_together, choice_of}
+use Rattle.pointing.specs.Building.{Layout, IsLayout, put_together, union_of_last}
 use Rattle.pointing.proofs.Laying.{length-laid, length-laid-each}
 
 -- As many nodes as both lists have.
@@ -190,13 +190,13 @@ layout-none names fs before after is drafted numbered empty = record {
     alone = none fs (sym (as-many names fs before is) ∙ ap length empty)
 
 -- A choice of one form or none is as it was, and one of more is their union.
-pub choice-few : (n : ℕ) (fs : List Form) → n < 2 → choice_of n fs ≡ fs
+pub choice-few : (n : ℕ) (fs : List Form) → n < 2 → union_of_last n fs ≡ fs
 choice-few zero fs few = refl
 choice-few (suc zero) fs few = refl
 choice-few (suc (suc n)) fs few = absurd (omega arith)
 
 -- A choice of n forms, where n is at least 2, puts the last n forms together as one union.
-pub choice-many : (n : ℕ) (fs : List Form) → 2 ≤ n → choice_of n fs ≡ put_together (λ gs. Form.Union (parts_from gs) ∷ []) n fs
+pub choice-many : (n : ℕ) (fs : List Form) → 2 ≤ n → union_of_last n fs ≡ put_together (λ gs. Form.Union (parts_from gs) ∷ []) n fs
 choice-many zero fs many = absurd (omega arith)
 choice-many (suc zero) fs many = absurd (omega arith)
 choice-many (suc (suc n)) fs many = refl

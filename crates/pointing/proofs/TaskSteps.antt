@@ -13,11 +13,11 @@ use Rattle.class_system.specs.declared.expr.Expr.TheVariants as expr
 use Rattle.class_system.specs.declared.ids.ExprId.{ExprId}
 use Rattle.class_system.proofs.Soundness.{part_in_range, body_in_range}
 use Rattle.well_founded.specs.EmptyObjects.{answer_at}
-use Rattle.pointing.specs.Forms.{Form, Forms, also, parts_from, joined, all_forms, form_at, found, body_forms, node_form}
+use Rattle.pointing.specs.Forms.{Form, Forms, also, parts_from, forms_joined, all_forms, form_at, found, body_forms, node_form}
 use Rattle.pointing.specs.Atoms.{is_atomic}
 use Rattle.pointing.specs.PointedForm.{how_many, pointed, pointed_parts, one_pointed, one_of, copied, copied_each, around}
 use Rattle.pointing.specs.LaidOut.{laid, plain}
-use Rattle.pointing.specs.Building.{Layout, IsLayout, put_together, choice_of, after_task, after_tasks, IsInside, alternative, alternatives, IsTaskDone}
+use Rattle.pointing.specs.Building.{Layout, IsLayout, put_together, union_of_last, after_task, after_tasks, IsInside, alternative, alternatives, IsTaskDone}
 use Rattle.pointing.specs.declared.tasks.Task.{Task}
 use Rattle.pointing.specs.declared.tasks.Task.TheVariants as task
 use Rattle.pointing.proofs.Layouts.{take-front, drop-front}
@@ -33,7 +33,7 @@ together join n fs gs e =
     from : length (fs ++ gs) - n ≡ length fs
     from = let a = length-append fs gs in omega arith
 
-pub choice-together : (n : ℕ) (fs gs : List Form) → n ≡ length gs → choice_of n (fs ++ gs) ≡ fs ++ option_to_list (one_of gs)
+pub choice-together : (n : ℕ) (fs gs : List Form) → n ≡ length gs → union_of_last n (fs ++ gs) ≡ fs ++ option_to_list (one_of gs)
 choice-together zero fs [] e = refl
 choice-together zero fs (g ∷ gs) e = absurd (omega arith)
 choice-together (suc zero) fs [] e = absurd (omega arith)
@@ -45,11 +45,11 @@ choice-together (suc (suc n)) fs (g ∷ h ∷ gs) e = together (λ ks. Form.Unio
 
 -- The parts from one list of forms joined with those from another are the parts from both lists,
 -- one after the other.
-pub joined-parts : (xs ys : List Form) → joined (parts_from xs) (parts_from ys) ≡ parts_from (xs ++ ys)
+pub joined-parts : (xs ys : List Form) → forms_joined (parts_from xs) (parts_from ys) ≡ parts_from (xs ++ ys)
 joined-parts [] ys = refl
 joined-parts (x ∷ xs) ys = ap (also x) (joined-parts xs ys)
 
-joined-one : (xs : List Form) (g : Form) (t : Forms) → joined (parts_from xs) (also g t) ≡ joined (parts_from (xs ++ g ∷ [])) t
+joined-one : (xs : List Form) (g : Form) (t : Forms) → forms_joined (parts_from xs) (also g t) ≡ forms_joined (parts_from (xs ++ g ∷ [])) t
 joined-one [] g t = refl
 joined-one (x ∷ xs) g t = ap (also x) (joined-one xs g t)
 
@@ -178,12 +178,12 @@ module _ (s : Spec) (cls : List Bool) where
 
   -- one alternative
   after-alternative : (n : ℕ) (before later : List ExprId) (p : ExprId) (q : Form) (fs : List Form) → n ≡ length before + suc (length later) → pointed cls (form_at s p.0) ≡ Some q
-      → after_tasks s cls (alternative n before p later) fs ≡ fs ++ Form.Product (joined (parts_from (map (copied cls) (forms before))) (also q (copied_each cls (parts_from (forms later))))) ∷ []
+      → after_tasks s cls (alternative n before p later) fs ≡ fs ++ Form.Product (forms_joined (parts_from (map (copied cls) (forms before))) (also q (copied_each cls (parts_from (forms later))))) ∷ []
   after-alternative n before later p q fs e h =
       after-append (map task.Copy before ++ task.Point p ∷ map task.Copy later) (task.Product n ∷ []) fs
       ∙ ap (put_together (λ gs. Form.Product (parts_from gs) ∷ []) n) parts
       ∙ together (λ gs. Form.Product (parts_from gs) ∷ []) n fs (B ++ q ∷ C) long
-      ∙ ap (λ z. fs ++ Form.Product z ∷ []) (sym (joined-parts B (q ∷ C)) ∙ ap (λ z. joined (parts_from B) (also q z)) (sym (copied-list cls (forms later))))
+      ∙ ap (λ z. fs ++ Form.Product z ∷ []) (sym (joined-parts B (q ∷ C)) ∙ ap (λ z. forms_joined (parts_from B) (also q z)) (sym (copied-list cls (forms later))))
     where
       B : List Form
       B = map (copied cls) (forms before)
@@ -212,24 +212,24 @@ module _ (s : Spec) (cls : List Bool) where
 
     -- all alternatives
     pub after-alternatives : (n : ℕ) (before ps : List ExprId) (fs : List Form) → n ≡ length before + length ps
-        → after_tasks s cls (alternatives n nodes before ps) fs ≡ fs ++ map (λ t. Form.Product (joined (parts_from (map (copied cls) (forms before))) t)) (one_pointed cls (parts_from (forms ps)))
+        → after_tasks s cls (alternatives n nodes before ps) fs ≡ fs ++ map (λ t. Form.Product (forms_joined (parts_from (map (copied cls) (forms before))) t)) (one_pointed cls (parts_from (forms ps)))
     after-alternatives n before [] fs e = sym (append-nil fs)
     after-alternatives n before (p ∷ ps) fs e = go (λ gs. after-alternatives n (before ++ p ∷ []) ps gs (let a = length-append before (p ∷ []) in omega arith)) (pointed cls (form_at s p.0)) refl
       where
         P : Forms → Form
-        P t = Form.Product (joined (parts_from (map (copied cls) (forms before))) t)
+        P t = Form.Product (forms_joined (parts_from (map (copied cls) (forms before))) t)
 
         f : Form
         f = form_at s p.0
 
         Q : Forms → Form
-        Q t = Form.Product (joined (parts_from (map (copied cls) (forms (before ++ p ∷ [])))) t)
+        Q t = Form.Product (forms_joined (parts_from (map (copied cls) (forms (before ++ p ∷ [])))) t)
 
         snoc : map (copied cls) (forms (before ++ p ∷ [])) ≡ map (copied cls) (forms before) ++ copied cls f ∷ []
         snoc = ap (λ z. map (copied cls) (map (found (all_forms s)) z)) (map-append number before (p ∷ [])) ∙ ap (map (copied cls)) (map-append (found (all_forms s)) (map number before) (p.0 ∷ [])) ∙ map-append (copied cls) (forms before) (f ∷ [])
 
         shifted : map Q (one_pointed cls (parts_from (forms ps))) ≡ map P (map (also (copied cls f)) (one_pointed cls (parts_from (forms ps))))
-        shifted = map-each Q (λ t. P (also (copied cls f) t)) (λ t. ap (λ z. Form.Product (joined (parts_from z) t)) snoc ∙ ap Form.Product (sym (joined-one (map (copied cls) (forms before)) (copied cls f) t))) (one_pointed cls (parts_from (forms ps))) ∙ sym (map-both P (also (copied cls f)) (one_pointed cls (parts_from (forms ps))))
+        shifted = map-each Q (λ t. P (also (copied cls f) t)) (λ t. ap (λ z. Form.Product (forms_joined (parts_from z) t)) snoc ∙ ap Form.Product (sym (joined-one (map (copied cls) (forms before)) (copied cls f) t))) (one_pointed cls (parts_from (forms ps))) ∙ sym (map-both P (also (copied cls f)) (one_pointed cls (parts_from (forms ps))))
 
         Rest : Type 0
         Rest = (gs : List Form) → after_tasks s cls (alternatives n nodes (before ++ p ∷ []) ps) gs ≡ gs ++ map Q (one_pointed cls (parts_from (forms ps)))
@@ -250,14 +250,14 @@ module _ (s : Spec) (cls : List Bool) where
     pub point-union : (n : ℕ) (ps : List ExprId) (fs : List Form) → n ≡ how_many (map (answer_at nodes) (map number ps))
         → after_tasks s cls (map task.Point ps ++ task.Choice n ∷ []) fs ≡ fs ++ option_to_list (pointed cls (Form.Union (parts_from (forms ps))))
     point-union n ps fs e =
-        after-append (map task.Point ps) (task.Choice n ∷ []) fs ∙ ap (choice_of n) (after-points ps fs)
+        after-append (map task.Point ps) (task.Choice n ∷ []) fs ∙ ap (union_of_last n) (after-points ps fs)
         ∙ choice-together n fs (pointed_parts cls (parts_from (forms ps))) (e ∙ ap how_many (marks-tell (map number ps)) ∙ sym (parts-count cls (parts_from (forms ps))))
 
     -- the pointed form of a product
     pub point-product : (n : ℕ) (ps : List ExprId) (fs : List Form) → n ≡ how_many (map (answer_at nodes) (map number ps))
         → after_tasks s cls (alternatives (length ps) nodes [] ps ++ task.Choice n ∷ []) fs ≡ fs ++ option_to_list (pointed cls (Form.Product (parts_from (forms ps))))
     point-product n ps fs e =
-        after-append (alternatives (length ps) nodes [] ps) (task.Choice n ∷ []) fs ∙ ap (choice_of n) (after-alternatives (length ps) [] ps fs (let z : length ps ≡ 0 + length ps = omega arith in z))
+        after-append (alternatives (length ps) nodes [] ps) (task.Choice n ∷ []) fs ∙ ap (union_of_last n) (after-alternatives (length ps) [] ps fs (let z : length ps ≡ 0 + length ps = omega arith in z))
         ∙ choice-together n fs (map Form.Product (one_pointed cls (parts_from (forms ps)))) (e ∙ ap how_many (marks-tell (map number ps)) ∙ sym (products-count cls (parts_from (forms ps))) ∙ sym (length-map (one_pointed cls (parts_from (forms ps))) Form.Product))
 
   -- the pointed form of a sequence

@@ -19,7 +19,7 @@ use Rattle.pointing.specs.Correspondence.{IsPointable}
 use Rattle.pointing.specs.Forms.{all_forms}
 use Rattle.pointing.specs.PointedForm.{how_many}
 use Rattle.pointing.specs.Marking.{Marks, MarksOne, Splits, chosen, choices, choice_at}
-use Rattle.pointing.specs.Unmarking.{due_copies, ToRead, Passes, Unmarks, Reads, IsChoice}
+use Rattle.pointing.specs.Unmarking.{due_copies, ToRead, CopiesObjects, Unmarks, ReadsDue, IsChoice}
 use Rattle.pointing.specs.declared.dues.Due.{Due}
 use Rattle.pointing.specs.declared.dues.Due.TheVariants as due
 use Rattle.pointing.proofs.AtomMarks.{mark-found}
@@ -31,7 +31,7 @@ use Rattle.pointing.proofs.OneSource.{marked-has, marked-one-has}
 use Rattle.pointing.proofs.Rounds.{are-atomic}
 
 -- All of some objects are written, and what is to come comes after them.
-pub passes-all : (after : ToRead) (members others : Objects) (w : List Token) → after others (w ++ tokens_all members) → Passes (count members) after (joined members others) w
+pub passes-all : (after : ToRead) (members others : Objects) (w : List Token) → after others (w ++ tokens_all members) → CopiesObjects (count members) after (joined members others) w
 passes-all after none others w h = subst (after others) (append-nil w) h
 passes-all after (more o os) others w h = passes-all after os others (w ++ tokens_of o) (subst (after others) (sym (append_assoc w (tokens_of o) (tokens_all os))) h)
 
@@ -152,31 +152,31 @@ parted s {part} {a} {os} {before} {later} {m} (Splits.further o others front b e
     }
 
 module _ (s : Spec) (whole : List Token) (atom : ℕ) (ds : List Due) where
-  pub put-due : (n told : ℕ) (os : Objects) (w : List Token) → Passes n (Reads s whole atom ds told) os w → Reads s whole atom (due_copies n ++ ds) told os w
+  pub put-due : (n told : ℕ) (os : Objects) (w : List Token) → CopiesObjects n (ReadsDue s whole atom ds told) os w → ReadsDue s whole atom (due_copies n ++ ds) told os w
   put-due zero told os w h = h
   put-due (suc n) told os w h = h
 
-  pub put-dues : (k n told : ℕ) (os : Objects) (w : List Token) → Passes k (Passes n (Reads s whole atom ds told)) os w → Reads s whole atom (due_copies k ++ (due_copies n ++ ds)) told os w
+  pub put-dues : (k n told : ℕ) (os : Objects) (w : List Token) → CopiesObjects k (CopiesObjects n (ReadsDue s whole atom ds told)) os w → ReadsDue s whole atom (due_copies k ++ (due_copies n ++ ds)) told os w
   put-dues zero zero told os w h = h
   put-dues zero (suc n) told os w h = h
   put-dues (suc k) zero told os w h = h
   put-dues (suc k) (suc n) told os w h = h
 
   -- a tuple with one of its objects marked
-  pub tuple-reads : {parts : List ℕ} {os ms : Objects} {a i : ℕ} (others : Objects) (w : List Token) (part : ExprId) (later told : ℕ) → MarksOne s (is_atomic_node s) parts os a i ms → slice_get parts i ≡ Some part.0 → later ≡ count ms - i - 1 → Reads s whole atom ds (size_of w + a) others (w ++ tokens_all os) → Passes i (Reads s whole atom (due.Marked part ∷ (due_copies later ++ ds)) told) (joined ms others) w
+  pub tuple-reads : {parts : List ℕ} {os ms : Objects} {a i : ℕ} (others : Objects) (w : List Token) (part : ExprId) (later told : ℕ) → MarksOne s (is_atomic_node s) parts os a i ms → slice_get parts i ≡ Some part.0 → later ≡ count ms - i - 1 → ReadsDue s whole atom ds (size_of w + a) others (w ++ tokens_all os) → CopiesObjects i (ReadsDue s whole atom (due.Marked part ∷ (due_copies later ++ ds)) told) (joined ms others) w
   tuple-reads {parts} {os} {ms} {a} {i} others w part later told (MarksOne.first p rest o m tail ep eo k ei em) at left h =
       let same : p ≡ part.0 = same-part parts 0 p part.0 (ap (λ z. slice_get z 0) ep) (subst (λ z. slice_get parts z ≡ Some part.0) ei at) in
-      let all : Reads s whole atom ds (size_of w + a) others ((w ++ tokens_of o) ++ tokens_all tail) = subst (Reads s whole atom ds (size_of w + a) others) (ap (λ z. w ++ tokens_all z) eo ∙ sym (append_assoc w (tokens_of o) (tokens_all tail))) h in
+      let all : ReadsDue s whole atom ds (size_of w + a) others ((w ++ tokens_of o) ++ tokens_all tail) = subst (ReadsDue s whole atom ds (size_of w + a) others) (ap (λ z. w ++ tokens_all z) eo ∙ sym (append_assoc w (tokens_of o) (tokens_all tail))) h in
       let so_many : count tail ≡ later = (let e = ap count em in let f : count (more m tail) ≡ suc (count tail) = refl in omega arith) in
-      let rest_read : Reads s whole atom (due_copies later ++ ds) (size_of w + a) (joined tail others) (w ++ tokens_of o) = put-due later (size_of w + a) (joined tail others) (w ++ tokens_of o) (subst (λ n. Passes n (Reads s whole atom ds (size_of w + a)) (joined tail others) (w ++ tokens_of o)) so_many (passes-all (Reads s whole atom ds (size_of w + a)) tail others (w ++ tokens_of o) all)) in
-      let first : Unmarks s part.0 (Reads s whole atom (due_copies later ++ ds)) m (joined tail others) w = record { atom = a; object = o; marks = subst (λ z. Marks s (is_atomic_node s) z o a m) same k; rest = rest_read } in
-      subst (λ z. Passes z (Reads s whole atom (due.Marked part ∷ (due_copies later ++ ds)) told) (joined ms others) w) (sym ei)
-      (subst (λ z. Passes 0 (Reads s whole atom (due.Marked part ∷ (due_copies later ++ ds)) told) (joined z others) w) (sym em) first)
+      let rest_read : ReadsDue s whole atom (due_copies later ++ ds) (size_of w + a) (joined tail others) (w ++ tokens_of o) = put-due later (size_of w + a) (joined tail others) (w ++ tokens_of o) (subst (λ n. CopiesObjects n (ReadsDue s whole atom ds (size_of w + a)) (joined tail others) (w ++ tokens_of o)) so_many (passes-all (ReadsDue s whole atom ds (size_of w + a)) tail others (w ++ tokens_of o) all)) in
+      let first : Unmarks s part.0 (ReadsDue s whole atom (due_copies later ++ ds)) m (joined tail others) w = record { atom = a; object = o; marks = subst (λ z. Marks s (is_atomic_node s) z o a m) same k; rest = rest_read } in
+      subst (λ z. CopiesObjects z (ReadsDue s whole atom (due.Marked part ∷ (due_copies later ++ ds)) told) (joined ms others) w) (sym ei)
+      (subst (λ z. CopiesObjects 0 (ReadsDue s whole atom (due.Marked part ∷ (due_copies later ++ ds)) told) (joined z others) w) (sym em) first)
   tuple-reads {parts} {os} {ms} {a} {i} others w part later told (MarksOne.later p rest o tail marked b j ep eo k ea ei em) at left h =
       let at_rest : slice_get rest j ≡ Some part.0 = (let e : slice_get (p ∷ rest) (suc j) ≡ Some part.0 = subst (λ z. slice_get z (suc j) ≡ Some part.0) ep (subst (λ z. slice_get parts z ≡ Some part.0) ei at) in e) in
       let so_far : size_of w + a ≡ size_of (w ++ tokens_of o) + b = (let e = size_of-append w (tokens_of o) in let f = size_of-tokens o in omega arith) in
-      let all : Reads s whole atom ds (size_of (w ++ tokens_of o) + b) others ((w ++ tokens_of o) ++ tokens_all tail) =
-      subst (λ n. Reads s whole atom ds n others ((w ++ tokens_of o) ++ tokens_all tail)) so_far (subst (Reads s whole atom ds (size_of w + a) others) (ap (λ z. w ++ tokens_all z) eo ∙ sym (append_assoc w (tokens_of o) (tokens_all tail))) h) in
+      let all : ReadsDue s whole atom ds (size_of (w ++ tokens_of o) + b) others ((w ++ tokens_of o) ++ tokens_all tail) =
+      subst (λ n. ReadsDue s whole atom ds n others ((w ++ tokens_of o) ++ tokens_all tail)) so_far (subst (ReadsDue s whole atom ds (size_of w + a) others) (ap (λ z. w ++ tokens_all z) eo ∙ sym (append_assoc w (tokens_of o) (tokens_all tail))) h) in
       let next = tuple-reads others (w ++ tokens_of o) part later told k at_rest (let e = ap count em in let f : count (more o marked) ≡ suc (count marked) = refl in omega arith) all in
-      subst (λ z. Passes z (Reads s whole atom (due.Marked part ∷ (due_copies later ++ ds)) told) (joined ms others) w) (sym ei)
-      (subst (λ z. Passes (suc j) (Reads s whole atom (due.Marked part ∷ (due_copies later ++ ds)) told) (joined z others) w) (sym em) next)
+      subst (λ z. CopiesObjects z (ReadsDue s whole atom (due.Marked part ∷ (due_copies later ++ ds)) told) (joined ms others) w) (sym ei)
+      (subst (λ z. CopiesObjects (suc j) (ReadsDue s whole atom (due.Marked part ∷ (due_copies later ++ ds)) told) (joined z others) w) (sym em) next)

@@ -14,7 +14,7 @@ use Rattle.pointing.specs.Atoms.{is_atomic_node}
 use Rattle.pointing.specs.Calls.{AreMarkedAt}
 use Rattle.pointing.specs.Marking.{Marks}
 use Rattle.pointing.specs.PointedSpec.{pointed_spec}
-use Rattle.pointing.specs.Unmarking.{Unmarks, Reads, Unmarking, ReadsOn, with_dues, IsSome, SameReading, LeadsTo, ReadsTo, HasRead}
+use Rattle.pointing.specs.Unmarking.{Unmarks, ReadsDue, Unmarking, ReadsOn, with_dues, IsSome, SameReading, LeadsTo, ReadsTo, HasRead}
 use Rattle.pointing.specs.declared.dues.Due.{Due}
 use Rattle.pointing.specs.declared.dues.Due.TheVariants as due
 use Rattle.pointing.proofs.Marked.{same-body}
@@ -35,11 +35,11 @@ unmarking-start s p tokens walk now body is at system of asked waits a c = recor
       let w = (subst (λ z. (of : IsOf z 0 tokens) → (walk.waiting ≡ of.body ∷ []) × AreWaiting z walk.waiting (more of.object none) walk.left) is waits) are.to in
       let marks : Marks s (is_atomic_node s) body.0 are.from.object atom are.to.object = subst (λ z. Marks s (is_atomic_node s) z are.from.object atom are.to.object) (same-body s (is_atomic_node s) 0 are.from.body body.0 are.from.is_body at) are.marks in
       let number_is : size_of [] + atom ≡ atom = (let f : size_of [] ≡ 0 = refl in omega arith) in
-      let first : Unmarks s body.0 (Reads s plain atom []) are.to.object none [] = record { atom = atom; object = are.from.object; marks = marks; rest = (refl, are.from.spelled, number_is) } in
+      let first : Unmarks s body.0 (ReadsDue s plain atom []) are.to.object none [] = record { atom = atom; object = are.from.object; marks = marks; rest = (refl, are.from.spelled, number_is) } in
       record {
         objects = more are.to.object none;
         waits = subst (λ z. AreWaiting z walk.waiting (more are.to.object none) walk.left) (sym is) w.1;
-        reads = subst (λ z. Reads s plain atom z now.told (more are.to.object none) now.written) (sym a) (subst (λ z. Reads s plain atom (due.Marked body ∷ []) now.told (more are.to.object none) z) (sym c) first);
+        reads = subst (λ z. ReadsDue s plain atom z now.told (more are.to.object none) now.written) (sym a) (subst (λ z. ReadsDue s plain atom (due.Marked body ∷ []) now.told (more are.to.object none) z) (sym c) first);
       };
 }
 
@@ -68,7 +68,7 @@ unmarking-end s p tokens walk next now plain atom are k h =
 -- Where no object waits, nothing is due.
 pub read-whole : (s : Spec) (whole : List Token) (atom : ℕ) (d : Option Due) (now : Unmarking) → IsSome d → IfNone d (now.dues ≡ []) → ReadsOn s whole atom (with_dues (option_to_list d) now) none → (now.written ≡ whole) × (now.told ≡ atom)
 read-whole s whole atom None now some e h =
-    let k : Reads s whole atom [] now.told none now.written = subst (λ z. Reads s whole atom z now.told none now.written) e h in
+    let k : ReadsDue s whole atom [] now.told none now.written = subst (λ z. ReadsDue s whole atom z now.told none now.written) e h in
     (k.1, k.2)
 read-whole s whole atom (Some (due.Copied n)) now some e h = none-copied n some h
   where
@@ -104,9 +104,9 @@ read-resolved s p node to e v before middle now leads same_dues same_told read =
     resolved : (whole : List Token) (atom : ℕ) (os : Objects) → ReadsOn s whole atom (with_dues (due.Marked node ∷ []) before) os → ReadsOn s whole atom (with_dues (due.Marked to ∷ []) middle) os
     resolved whole atom none h = absurd h
     resolved whole atom (more m os) h =
-        let k : Unmarks s node.0 (Reads s whole atom before.dues) m os before.written = h in
+        let k : Unmarks s node.0 (ReadsDue s whole atom before.dues) m os before.written = h in
         let r = leads.on k.object m k.atom k.marks in
-        let rest : Reads s whole atom before.dues (size_of middle.written + k.atom) os (middle.written ++ tokens_of r.0) =
-        subst (λ n. Reads s whole atom before.dues (n + k.atom) os (middle.written ++ tokens_of r.0)) (sym leads.no_atom) (subst (Reads s whole atom before.dues (size_of before.written + k.atom) os) r.2 k.rest) in
-        let first : Unmarks s to.0 (Reads s whole atom middle.dues) m os middle.written = record { atom = k.atom; object = r.0; marks = r.1; rest = subst (λ z. Reads s whole atom z (size_of middle.written + k.atom) os (middle.written ++ tokens_of r.0)) (sym same_dues) rest } in
+        let rest : ReadsDue s whole atom before.dues (size_of middle.written + k.atom) os (middle.written ++ tokens_of r.0) =
+        subst (λ n. ReadsDue s whole atom before.dues (n + k.atom) os (middle.written ++ tokens_of r.0)) (sym leads.no_atom) (subst (ReadsDue s whole atom before.dues (size_of before.written + k.atom) os) r.2 k.rest) in
+        let first : Unmarks s to.0 (ReadsDue s whole atom middle.dues) m os middle.written = record { atom = k.atom; object = r.0; marks = r.1; rest = subst (λ z. ReadsDue s whole atom z (size_of middle.written + k.atom) os (middle.written ++ tokens_of r.0)) (sym same_dues) rest } in
         first

@@ -16,10 +16,10 @@ abbrev pub put_together : (join : List Form → List Form) → (n : ℕ) → Lis
 put_together join n fs = take (length fs - n) fs ++ join (drop (length fs - n) fs)
 
 -- The last n forms become their union, where there are two or more.
-abbrev pub choice_of : ℕ → List Form → List Form
-choice_of zero fs = fs
-choice_of (suc zero) fs = fs
-choice_of n fs = put_together (λ gs. Form.Union (parts_from gs) ∷ []) n fs
+abbrev pub union_of_last : ℕ → List Form → List Form
+union_of_last zero fs = fs
+union_of_last (suc zero) fs = fs
+union_of_last n fs = put_together (λ gs. Form.Union (parts_from gs) ∷ []) n fs
 
 -- The forms after a task, from those before it.
 abbrev pub after_task : Spec → (classes : List Bool) → Task → List Form → List Form
@@ -30,7 +30,7 @@ after_task s classes (task.Union n) fs =
 after_task s classes (task.Product n) fs =
     put_together (λ gs. Form.Product (parts_from gs) ∷ []) n fs
 after_task s classes task.Seq fs = put_together (map Form.Seq) 1 fs
-after_task s classes (task.Choice n) fs = choice_of n fs
+after_task s classes (task.Choice n) fs = union_of_last n fs
 
 -- The forms after some tasks, one after the other.
 abbrev pub after_tasks : Spec → (classes : List Bool) → List Task → List Form → List Form

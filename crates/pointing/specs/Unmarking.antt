@@ -28,10 +28,10 @@ abbrev pub ToRead : Type 1
 ToRead = Objects → (written : List Token) → Type 0
 
 -- The first n objects are written as they are.
-abbrev pub Passes : ℕ → (after : ToRead) → ToRead
-Passes zero after os written = after os written
-Passes (suc n) after none written = ⊥
-Passes (suc n) after (more o os) written = Passes n after os (written ++ tokens_of o)
+abbrev pub CopiesObjects : ℕ → (after : ToRead) → ToRead
+CopiesObjects zero after os written = after os written
+CopiesObjects (suc n) after none written = ⊥
+CopiesObjects (suc n) after (more o os) written = CopiesObjects n after os (written ++ tokens_of o)
 
 -- The first object is one of node e with an atom marked; it is written without the mark, and the
 -- atom's number among all atoms is told.
@@ -82,19 +82,19 @@ pub record ReadsLast (place before : ℕ) (after : ToRead) (last : Object) (os :
 
 -- Read so, the objects make the whole list of tokens and the number of the marked atom, `told`
 -- being what was told of it before.
-abbrev pub Reads : Spec → (whole : List Token) → (atom : ℕ) → List Due → (told : ℕ) → ToRead
-Reads s whole atom [] told os written = (os ≡ none) × (written ≡ whole) × (told ≡ atom)
-Reads s whole atom (due.Copied n ∷ ds) told os written =
-    Passes n (Reads s whole atom ds told) os written
-Reads s whole atom (due.Marked e ∷ ds) told (more m os) written =
-    Unmarks s e.0 (Reads s whole atom ds) m os written
-Reads s whole atom (due.Tuple e place ∷ ds) told (more m os) written =
-    UnmarksTuple s e.0 place (Reads s whole atom ds) m os written
-Reads s whole atom (due.Split part ∷ ds) told (more first (more m (more last os))) written =
-    UnmarksSplit s part.0 (Reads s whole atom ds) first m last os written
-Reads s whole atom (due.Last place before ∷ ds) told (more last os) written =
-    ReadsLast place before (Reads s whole atom ds told) last os written
-Reads s whole atom _ told _ written = ⊥
+abbrev pub ReadsDue : Spec → (whole : List Token) → (atom : ℕ) → List Due → (told : ℕ) → ToRead
+ReadsDue s whole atom [] told os written = (os ≡ none) × (written ≡ whole) × (told ≡ atom)
+ReadsDue s whole atom (due.Copied n ∷ ds) told os written =
+    CopiesObjects n (ReadsDue s whole atom ds told) os written
+ReadsDue s whole atom (due.Marked e ∷ ds) told (more m os) written =
+    Unmarks s e.0 (ReadsDue s whole atom ds) m os written
+ReadsDue s whole atom (due.Tuple e place ∷ ds) told (more m os) written =
+    UnmarksTuple s e.0 place (ReadsDue s whole atom ds) m os written
+ReadsDue s whole atom (due.Split part ∷ ds) told (more first (more m (more last os))) written =
+    UnmarksSplit s part.0 (ReadsDue s whole atom ds) first m last os written
+ReadsDue s whole atom (due.Last place before ∷ ds) told (more last os) written =
+    ReadsLast place before (ReadsDue s whole atom ds told) last os written
+ReadsDue s whole atom _ told _ written = ⊥
 
 -- What is still to be read, what is written, and the number that was told of the atom.
 pub record Unmarking : Type 0 where
@@ -103,7 +103,7 @@ pub record Unmarking : Type 0 where
   pub told : ℕ
 
 abbrev pub ReadsOn : Spec → (whole : List Token) → (atom : ℕ) → Unmarking → Objects → Type 0
-ReadsOn s whole atom u os = Reads s whole atom u.dues u.told os u.written
+ReadsOn s whole atom u os = ReadsDue s whole atom u.dues u.told os u.written
 
 -- Some that are put first.
 abbrev pub with_dues : List Due → Unmarking → Unmarking

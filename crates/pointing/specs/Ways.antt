@@ -38,8 +38,8 @@ abbrev pub place : Level → ℕ
 place level = level.parts - level.left
 
 -- The places at some levels, the innermost level standing first.
-abbrev pub places : List Level → List ℕ
-places levels = map place (reverse levels)
+abbrev pub level_places : List Level → List ℕ
+level_places levels = map place (reverse levels)
 
 -- One part of a level is done, where so many were left.
 abbrev pub one_done : (left : ℕ) → Level → List Level → (closed : List Level) → List Level
@@ -55,9 +55,9 @@ finished [] = []
 finished (level ∷ levels) = one_done level.left level levels (finished levels)
 
 -- An object with so many parts is begun; with none it is done.
-abbrev pub opened : (parts : ℕ) → List Level → List Level
-opened zero levels = finished levels
-opened (suc n) levels = record { parts = suc n; left = suc n } ∷ levels
+abbrev pub level_opened : (parts : ℕ) → List Level → List Level
+level_opened zero levels = finished levels
+level_opened (suc n) levels = record { parts = suc n; left = suc n } ∷ levels
 
 -- A search for an atom: the levels on the way to the object that comes next, and how many atoms
 -- come before the one that is searched for.
@@ -69,7 +69,8 @@ pub record Search : Type 0 where
 abbrev pub way_from : List Level → (before : ℕ) → Objects → List ℕ
 way_from levels n none = []
 way_from levels n (more o os) =
-    here_or (size o - n) (places levels ++ way o n) (way_from (finished levels) (n - size o) os)
+    here_or (size o - n) (level_places levels ++ way o n)
+    (way_from (finished levels) (n - size o) os)
 
 -- The search finds the same way from what waits now.
 pub record IsNearer (s : Spec) (before now : Search) (os : Objects) (fs : List ℕ)
@@ -80,14 +81,15 @@ pub record IsNearer (s : Spec) (before now : Search) (os : Objects) (fs : List �
   pub same : way_from before.levels before.before os ≡ way_from now.levels now.before objects
 
 -- The atom was found, or the search is nearer to it.
-abbrev pub IsFound : Spec → (found : Bool) → (before now : Search) → Objects → List ℕ
+abbrev pub IsFoundOrNearer : Spec → (found : Bool) → (before now : Search) → Objects → List ℕ
     → List Token → Type 0
-IsFound s true before now os fs us =
-    way_from before.levels before.before os ≡ places now.levels
-IsFound s false before now os fs us = IsNearer s before now os fs us
+IsFoundOrNearer s true before now os fs us =
+    way_from before.levels before.before os ≡ level_places now.levels
+IsFoundOrNearer s false before now os fs us = IsNearer s before now os fs us
 
 -- The search passed the visit of a node, and tells whether that was the atom.
 pub record HasPassed (s : Spec) (e : ℕ) (v : Visit) (before now : Search) (found : Bool)
     : Type 0 where
   pub on : (es : List ℕ) (os : Objects) (ts : List Token) (fs : List ℕ) (us : List Token)
-      → Shows s e es os ts v fs us → before.before < sizes os → IsFound s found before now os fs us
+      → Shows s e es os ts v fs us → before.before < sizes os
+      → IsFoundOrNearer s found before now os fs us

@@ -6,7 +6,7 @@ ghost use Rattle.class_system.specs.Drafting.{with_node};
 ghost use Rattle.class_system.specs.Views.{spec_node, number};
 ghost use Rattle.pointing.specs.Forms.{Form, parts_from};
 ghost use Rattle.pointing.specs.LaidOut.{laid, plain};
-ghost use Rattle.pointing.specs.Building.{IsLayout, put_together, choice_of};
+ghost use Rattle.pointing.specs.Building.{IsLayout, put_together, union_of_last};
 
 use class_system::draft::Draft;
 use class_system::expr::Expr;
@@ -148,7 +148,7 @@ impl Layout {
     pub(crate) fn choice(&mut self, n: usize) -> Result<(), AllocError>
         ensures laid { OnOk result ((names : List (List ℕ)) (fs : List Form)
             → IsLayout names fs self.old
-            → IsLayout names (choice_of n fs) self.new) }
+            → IsLayout names (union_of_last n fs) self.new) }
     {
         if n < 2 { Ok(()) } else { self.union(n) }
     }

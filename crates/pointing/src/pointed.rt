@@ -4,7 +4,7 @@ ghost use Rattle.bz_model.specs.Spec as model;
 ghost use Rattle.class_system.specs.Limits.{IsWithinLimits};
 ghost use Rattle.object_store.specs.Tokens.{size_of, IsOf};
 ghost use Rattle.pointing.specs.Atoms.{is_atomic};
-ghost use Rattle.pointing.specs.Calls.{AreMarkedAt, IsFirstRanged, IsPointingOf, TellsFault};
+ghost use Rattle.pointing.specs.Calls.{AreMarkedAt, IsFirstRanged, IsPointingOf, TellsPointFault};
 ghost use Rattle.pointing.specs.Forms.{all_forms};
 ghost use Rattle.pointing.specs.PointedSpec.{CanBeMarked, pointed_by, pointed_spec};
 
@@ -58,7 +58,7 @@ pub fn point(alloc: Global, founded: &Founded) -> Result<Pointed, PointFault>
     ensures pointing { IfOk result (IsPointingOf founded.now) }
     ensures plain { OnOk result (CanBeMarked founded.now) }
     ensures limits { OnOk result (IsWithinLimits (pointed_spec founded.now)) }
-    ensures fault { IfErr result (TellsFault founded.now) }
+    ensures fault { IfErr result (TellsPointFault founded.now) }
 {
     let system = founded.system();
     if let Mode::Labelled = system.mode() {

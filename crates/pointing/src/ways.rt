@@ -6,7 +6,7 @@ ghost use Rattle.std.specs.Prelude.{◌≡◌, ◌<◌, [], ◌∷◌, length, I
 ghost use Rattle.bz_model.specs.Spec.{node_at};
 ghost use Rattle.object_store.specs.Seen.{parts_at};
 ghost use Rattle.object_store.specs.Tokens.{size_of, IsOf};
-ghost use Rattle.pointing.specs.Ways.{way, places, finished, opened, HasPassed};
+ghost use Rattle.pointing.specs.Ways.{way, level_places, finished, level_opened, HasPassed};
 
 use class_system::ids::{ClassId, ExprId};
 use class_system::system::System;
@@ -50,7 +50,7 @@ impl Levels {
 
     /// Begins an object with so many parts; with none it is done.
     fn open(&mut self, parts: u32) -> Result<(), AllocError>
-        ensures opened { OnOk result (self.new ≡ opened parts self.old) }
+        ensures opened { OnOk result (self.new ≡ level_opened parts self.old) }
     {
         if parts == 0 {
             self.finish();
@@ -77,7 +77,7 @@ impl Levels {
 
     /// The places at the levels, the outermost first.
     fn places(&self) -> Result<Vec<u32>, AllocError>
-        ensures places { IfOk result (λ found. found.items ≡ places self.now) }
+        ensures places { IfOk result (λ found. found.items ≡ level_places self.now) }
     {
         let mut found = Vec::new(*self.content.allocator());
         for level in &self.content {

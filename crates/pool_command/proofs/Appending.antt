@@ -8,7 +8,7 @@ use Rattle.std.proofs.Math.Seq.{take-suc}
 use Rattle.bz_model.specs.Spec.{Spec}
 use Rattle.object_store.specs.Tokens.{IsOf}
 use Rattle.size_window.specs.declared.turned.Entry.{Entry}
-use Rattle.size_window.specs.Turn.{HasLabels, entry_of}
+use Rattle.size_window.specs.Turn.{EntryHasLabels, entry_of}
 use Rattle.session_pool.specs.Member.{MemberState}
 use Rattle.call_stages.specs.Lines.{lines_below}
 use Rattle.sample_command.specs.Drawn.{AreLinesOf, Lists}
@@ -108,12 +108,12 @@ status-more statuses n so_far status next before is first =
     first ∙ ap (λ s. first_of s status) before ∙ ap (first_of (first_status statuses n)) is ∙ ap (first_status statuses) (sym (add-one n))
 
 -- the entries of a drawing of which all can be printed
-pub printable-at : (s : Spec) (pool : List MemberState) (number : ℕ) (entries : List Entry) → AllCanPrint s pool → number < length pool → IfSome (slice_get pool number) (λ m. entries ≡ m.entries) → All (λ e. IsOf s 0 e.shape.items) entries × All (HasLabels s.mode) entries
+pub printable-at : (s : Spec) (pool : List MemberState) (number : ℕ) (entries : List Entry) → AllCanPrint s pool → number < length pool → IfSome (slice_get pool number) (λ m. entries ≡ m.entries) → All (λ e. IsOf s 0 e.shape.items) entries × All (EntryHasLabels s.mode) entries
 printable-at s pool number entries all within told = go (slice_get pool number) refl told
   where
-    go : (o : Option MemberState) → slice_get pool number ≡ o → IfSome o (λ m. entries ≡ m.entries) → All (λ e. IsOf s 0 e.shape.items) entries × All (HasLabels s.mode) entries
+    go : (o : Option MemberState) → slice_get pool number ≡ o → IfSome o (λ m. entries ≡ m.entries) → All (λ e. IsOf s 0 e.shape.items) entries × All (EntryHasLabels s.mode) entries
     go None at k = absurd (is-there pool number within at)
-    go (Some m) at k = let can = all.each number m at in (subst (All (λ (e : Entry). IsOf s 0 e.shape.items)) (sym k) can.are_of, subst (All (HasLabels s.mode)) (sym k) can.labels)
+    go (Some m) at k = let can = all.each number m at in (subst (All (λ (e : Entry). IsOf s 0 e.shape.items)) (sym k) can.are_of, subst (All (EntryHasLabels s.mode)) (sym k) can.labels)
 
 -- the lines of entries are those of a drawing
 lines-of-member : (s : Spec) (o : Option MemberState) (entries : List Entry) (lines : List ℕ) → IfSome o (λ m. entries ≡ m.entries) → Lists s (map entry_of entries) lines → AreLinesOfMember s o lines

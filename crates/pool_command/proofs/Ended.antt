@@ -2,7 +2,7 @@
 use Rattle.std.proofs.Common.{◌≡◌, ℕ, ◌+◌, ◌-◌, ◌≤◌, arith, List, map, refl, sym, ap, subst, ◌∙◌}
 use Rattle.std.specs.Prelude.{Option, Some}
 use Rattle.bz_model.specs.Fraction.{ratio}
-use Rattle.bit_tape.specs.Tape.{TapeSource, bits_of}
+use Rattle.bit_tape.specs.Tape.{TapeSource, bits_of_source}
 use Rattle.class_system.specs.Sound.{IsSound}
 use Rattle.size_window.specs.declared.ending.Ending.{Ending as Told}
 use Rattle.size_window.specs.declared.ending.Ending.TheVariants as told
@@ -10,9 +10,9 @@ use Rattle.size_window.specs.RunByBits.{RunState}
 use Rattle.size_window.specs.Drawing.{AreLimits, ending_of}
 use Rattle.size_window.specs.Turn.{entry_of, turns_of}
 use Rattle.session_pool.specs.Member.{MemberState}
-use Rattle.session_pool.specs.Interleaving.{Shared, setting, EndedRightly}
+use Rattle.session_pool.specs.Interleaving.{Shared, shared_setting, EndedRightly}
 use Rattle.call_stages.specs.Stages.{files}
-use Rattle.sample_command.specs.Drawn.{Lists, closing_lines}
+use Rattle.sample_command.specs.Drawn.{Lists, closing_text}
 use Rattle.sample_command.specs.UnderWay.{met, has_failed, IsCourseSoFar, IsAtEnd}
 use Rattle.sample_command.proofs.AtTheEnd.{course-of, drawn-at-end, closing-is}
 use Rattle.sample_command.proofs.OneTurn.{open-told}
@@ -24,7 +24,7 @@ use Rattle.pool_command.specs.Pages.{closing_by}
 
 -- what the drawings of a pool over a base share
 abbrev pub shared_of : PoolSetting → (contents : List ℕ → Option (List ℕ)) → Shared
-shared_of p contents = setting p.setting.spec (ratio p.setting.num p.setting.den) p.setting.bits (table_of p) contents
+shared_of p contents = shared_setting p.setting.spec (ratio p.setting.num p.setting.den) p.setting.bits (table_of p) contents
 
 -- a drawing is asked as often as its closing states
 asks-are : (e : Told) (turns : ℕ) → asks_to_end (ending_of e) turns ≡ turns + (1 - turns_of e)
@@ -37,7 +37,7 @@ asks-are told.ReadFault turns = omega arith
 -- a drawing of a pool is one of the command
 module _ (p : PoolSetting) (contents : List ℕ → Option (List ℕ)) (begun counts before : List ℕ → ℕ) (chosen : Chosen p.setting.spec p.setting.bits (table_of p)) (earlier : (other : List ℕ) → before other ≤ begun other) (m : MemberState) (most : ℕ) (h : IsMemberUnderWay (shared_of p contents) p.limits begun counts m most) (name : List ℕ) (source : m.tape.source ≡ TapeSource.Named name) where
   abbrev pub SoFarOver : TapeSource → Type 0
-  SoFarOver s = IsCourseSoFar p.setting.spec (ratio p.setting.num p.setting.den) p.setting.bits (table_of p) p.limits (bits_of s contents) m.drawing m.tape.used most
+  SoFarOver s = IsCourseSoFar p.setting.spec (ratio p.setting.num p.setting.den) p.setting.bits (table_of p) p.limits (bits_of_source s contents) m.drawing m.tape.used most
 
   pub over-name : (q : SoFarOver (TapeSource.Named name)) × (q.course.entries ≡ map entry_of m.entries)
   over-name = subst (λ s. (q : SoFarOver s) × (q.course.entries ≡ map entry_of m.entries)) source (h.so_far, h.entries)
@@ -79,7 +79,7 @@ module _ (p : PoolSetting) (contents : List ℕ → Option (List ℕ)) (begun co
       lists = subst (λ es. Lists p.setting.spec es lines) (sym over-name.1) lists;
     }
 
-    pub closing-same : closing_by m m.drawing.ending ≡ closing_lines (table_of p) over-name.0.course (ending_of e)
+    pub closing-same : closing_by m m.drawing.ending ≡ closing_text (table_of p) over-name.0.course (ending_of e)
     closing-same = ap (closing_by m) is ∙ closing-is p.setting.spec (ratio p.setting.num p.setting.den) p.setting.bits (table_of p) p.limits (met (TapeSource.Named name) contents met-between.before met-between.now) chosen m.drawing m.tape.used most over-name.0 e m.drawing.kept m.drawing.thrown m.tape.used m.drawing.turns at-end-of refl refl refl refl
 
     pub asks-same : asks_to_end (ending_of e) over-name.0.course.state.turns ≡ asked_until m.drawing m.drawing.ending

@@ -3,7 +3,7 @@ use Rattle.std.proofs.Common.{◌≡◌, ◌≢◌, ℕ, zero, suc, ◌+◌, ◌
 use Rattle.std.specs.Prelude.{nat_eq, replicate, if◌then◌else◌}
 use Rattle.std.proofs.lemmas.Bool.Decides.{eqb_tells}
 use Rattle.std.proofs.lemmas.List.Sums.{sum_by-append}
-use Rattle.session_pool.specs.Interleaving.{times}
+use Rattle.session_pool.specs.Interleaving.{how_often}
 use Rattle.pool_command.specs.Schedule.{ends_now, ends_in}
 
 -- 1 where a test passes
@@ -11,7 +11,7 @@ abbrev one-if : Bool → ℕ
 one-if b = cond b 1 0
 
 -- how often a number stands in two lists together
-pub times-both : (number : ℕ) (xs ys : List ℕ) → times number (xs ++ ys) ≡ times number xs + times number ys
+pub times-both : (number : ℕ) (xs ys : List ℕ) → how_often number (xs ++ ys) ≡ how_often number xs + how_often number ys
 times-both number xs ys = sum_by-append (λ x. one-if (nat_eq number x)) xs ys
 
 same-is : (n : ℕ) → nat_eq n n ≡ true
@@ -30,27 +30,27 @@ differs-is n m other = go (eqb_tells n m)
     go (inr h) = h.0
 
 -- a number stands once in the list of itself
-times-itself : (number : ℕ) → times number (number ∷ []) ≡ 1
+times-itself : (number : ℕ) → how_often number (number ∷ []) ≡ 1
 times-itself number = ap (λ b. 0 + one-if b) (same-is number)
 
-pub times-once-more : (number : ℕ) (xs : List ℕ) → times number (xs ++ number ∷ []) ≡ times number xs + 1
-times-once-more number xs = times-both number xs (number ∷ []) ∙ ap (λ n. times number xs + n) (times-itself number)
+pub times-once-more : (number : ℕ) (xs : List ℕ) → how_often number (xs ++ number ∷ []) ≡ how_often number xs + 1
+times-once-more number xs = times-both number xs (number ∷ []) ∙ ap (λ n. how_often number xs + n) (times-itself number)
 
 -- A number stands n times in a list of n copies of it.
-pub times-replicated : (number n : ℕ) → times number (replicate n number) ≡ n
+pub times-replicated : (number n : ℕ) → how_often number (replicate n number) ≡ n
 times-replicated number zero = refl
 times-replicated number (suc n) =
-    let both : times number (replicate (suc n) number) ≡ times number (number ∷ []) + times number (replicate n number) = times-both number (number ∷ []) (replicate n number) in
+    let both : how_often number (replicate (suc n) number) ≡ how_often number (number ∷ []) + how_often number (replicate n number) = times-both number (number ∷ []) (replicate n number) in
     let one = times-itself number in
     let rest = times-replicated number n in
     omega (arith, both, one, rest)
 
 -- it doesn't end where it was asked for another time
-now-none : (asks : ℕ → ℕ) (before : List ℕ) (i : ℕ) → asks i ≢ times i before + 1 → ends_now asks before i ≡ []
-now-none asks before i other = ap (λ b. if b then i ∷ [] else []) (differs-is (asks i) (times i before + 1) other)
+now-none : (asks : ℕ → ℕ) (before : List ℕ) (i : ℕ) → asks i ≢ how_often i before + 1 → ends_now asks before i ≡ []
+now-none asks before i other = ap (λ b. if b then i ∷ [] else []) (differs-is (asks i) (how_often i before + 1) other)
 
-now-one : (asks : ℕ → ℕ) (before : List ℕ) (i : ℕ) → asks i ≡ times i before + 1 → ends_now asks before i ≡ i ∷ []
-now-one asks before i is = ap (λ n. if nat_eq n (times i before + 1) then i ∷ [] else []) is ∙ ap (λ b. if b then i ∷ [] else []) (same-is (times i before + 1))
+now-one : (asks : ℕ → ℕ) (before : List ℕ) (i : ℕ) → asks i ≡ how_often i before + 1 → ends_now asks before i ≡ i ∷ []
+now-one asks before i is = ap (λ n. if nat_eq n (how_often i before + 1) then i ∷ [] else []) is ∙ ap (λ b. if b then i ∷ [] else []) (same-is (how_often i before + 1))
 
 -- one more is asked at the end
 ends-on : (asks : ℕ → ℕ) (before xs : List ℕ) (i : ℕ) → ends_in asks before (xs ++ i ∷ []) ≡ ends_in asks before xs ++ ends_now asks (before ++ xs) i
@@ -63,7 +63,7 @@ ends-on asks before (x ∷ xs) i =
 
 -- The numbers of asks agree, but for a drawing that was not to end, and now is to end after all that is asked.
 abbrev Agree : (asks other : ℕ → ℕ) → (all : List ℕ) → (number : ℕ) → Type 0
-Agree asks other all number = (other number ≡ asks number) ⊎ ((asks number ≡ 0) × (times number all < other number))
+Agree asks other all number = (other number ≡ asks number) ⊎ ((asks number ≡ 0) × (how_often number all < other number))
 
 -- those that end are the same
 pub ends-alike : (asks other : ℕ → ℕ) (before xs : List ℕ) → ((number : ℕ) → Agree asks other (before ++ xs) number) → ends_in other before xs ≡ ends_in asks before xs
@@ -74,7 +74,7 @@ ends-alike asks other before (x ∷ xs) agree =
     ∙ ap (λ more. ends_now asks before x ++ more) (ends-alike asks other (before ++ x ∷ []) xs (λ number. subst (λ all. Agree asks other all number) (sym (append_assoc before (x ∷ []) xs)) (agree number)))
   where
     now : Agree asks other (before ++ x ∷ xs) x → ends_now other before x ≡ ends_now asks before x
-    now (inl same) = ap (λ n. if nat_eq n (times x before + 1) then x ∷ [] else []) same
+    now (inl same) = ap (λ n. if nat_eq n (how_often x before + 1) then x ∷ [] else []) same
     now (inr later) =
         let none = later.0 in
         let more = later.1 in
@@ -84,7 +84,7 @@ ends-alike asks other before (x ∷ xs) agree =
         now-none other before x (λ is. omega (arith, more, both, rest, one, is)) ∙ sym (now-none asks before x (λ is. omega (arith, none, is)))
 
 -- one that had ended, or goes on, changes nothing
-pub order-stays : (asks other : ℕ → ℕ) (xs : List ℕ) (i : ℕ) → ((number : ℕ) → other number ≡ asks number) → asks i ≤ times i xs → ends_in other [] (xs ++ i ∷ []) ≡ ends_in asks [] xs
+pub order-stays : (asks other : ℕ → ℕ) (xs : List ℕ) (i : ℕ) → ((number : ℕ) → other number ≡ asks number) → asks i ≤ how_often i xs → ends_in other [] (xs ++ i ∷ []) ≡ ends_in asks [] xs
 order-stays asks other xs i same past =
     ends-alike asks other [] (xs ++ i ∷ []) (λ number. inl (same number))
     ∙ ends-on asks [] xs i
@@ -92,7 +92,7 @@ order-stays asks other xs i same past =
     ∙ append-nil (ends_in asks [] xs)
 
 -- one that ends is the next
-pub order-grows : (asks other : ℕ → ℕ) (xs : List ℕ) (i : ℕ) → ((number : ℕ) → number ≢ i → other number ≡ asks number) → asks i ≡ 0 → other i ≡ times i xs + 1 → ends_in other [] (xs ++ i ∷ []) ≡ ends_in asks [] xs ++ i ∷ []
+pub order-grows : (asks other : ℕ → ℕ) (xs : List ℕ) (i : ℕ) → ((number : ℕ) → number ≢ i → other number ≡ asks number) → asks i ≡ 0 → other i ≡ how_often i xs + 1 → ends_in other [] (xs ++ i ∷ []) ≡ ends_in asks [] xs ++ i ∷ []
 order-grows asks other xs i same none last =
     ends-on other [] xs i
     ∙ ap (λ front. front ++ ends_now other xs i) (ends-alike asks other [] xs agree)
@@ -102,5 +102,5 @@ order-grows asks other xs i same none last =
     agree number = go (eqb_tells number i)
       where
         go : ((nat_eq number i ≡ true) × (number ≡ i)) ⊎ ((nat_eq number i ≡ false) × (number ≢ i)) → Agree asks other xs number
-        go (inl h) = inr (ap asks h.1 ∙ none, let e : other number ≡ other i = ap other h.1 in let t : times number xs ≡ times i xs = ap (λ n. times n xs) h.1 in omega (arith, e, t, last))
+        go (inl h) = inr (ap asks h.1 ∙ none, let e : other number ≡ other i = ap other h.1 in let t : how_often number xs ≡ how_often i xs = ap (λ n. how_often n xs) h.1 in omega (arith, e, t, last))
         go (inr h) = inl (same number h.1)

@@ -10,12 +10,12 @@ use Rattle.size_window.specs.RunByBits.{Ending}
 use Rattle.size_window.specs.Drawing.{ending_of}
 use Rattle.session_pool.specs.Member.{MemberState}
 use Rattle.session_pool.specs.Pool.{sources_of}
-use Rattle.session_pool.specs.Interleaving.{has_failed, failures}
+use Rattle.session_pool.specs.Interleaving.{failed_on_tape, failures}
 use Rattle.pool_command.specs.PoolCommand.{is_read_fault, failures_from}
 
 -- 1 where a drawing ended with a failed read of the tape of this name
 abbrev mark : (name : List ℕ) → MemberState → ℕ
-mark name m = cond (has_failed name m.tape.source m.drawing.ending) 1 0
+mark name m = cond (failed_on_tape name m.tape.source m.drawing.ending) 1 0
 
 one-more : (name : List ℕ) (m : MemberState) (pool : List MemberState) → failures name (m ∷ pool) ≡ mark name m + failures name pool
 one-more name m pool =
@@ -24,7 +24,7 @@ one-more name m pool =
     omega (arith, both, one)
 
 -- the mark of an ending
-same-mark : (name tape : List ℕ) (e : Told) → ◌≡◌ {A = ℕ} (if is_read_fault (ending_of e) && bytes_eq name tape then 1 else 0) (cond (has_failed name (TapeSource.Named tape) (Some e)) 1 0)
+same-mark : (name tape : List ℕ) (e : Told) → ◌≡◌ {A = ℕ} (if is_read_fault (ending_of e) && bytes_eq name tape then 1 else 0) (cond (failed_on_tape name (TapeSource.Named tape) (Some e)) 1 0)
 same-mark name tape told.Done = refl
 same-mark name tape told.TapeEnded = refl
 same-mark name tape (told.Undecided straddle) = refl
@@ -32,7 +32,7 @@ same-mark name tape told.TurnLimit = refl
 same-mark name tape told.ReadFault = refl
 
 mark-at : (name tape : List ℕ) (m : MemberState) (e : Told) → m.tape.source ≡ TapeSource.Named tape → m.drawing.ending ≡ Some e → ◌≡◌ {A = ℕ} (if is_read_fault (ending_of e) && bytes_eq name tape then 1 else 0) (mark name m)
-mark-at name tape m e source is = same-mark name tape e ∙ ap (λ o. cond (has_failed name (TapeSource.Named tape) o) 1 0) (sym is) ∙ ap (λ s. cond (has_failed name s m.drawing.ending) 1 0) (sym source)
+mark-at name tape m e source is = same-mark name tape e ∙ ap (λ o. cond (failed_on_tape name (TapeSource.Named tape) o) 1 0) (sym is) ∙ ap (λ s. cond (failed_on_tape name s m.drawing.ending) 1 0) (sym source)
 
 -- What is told of the endings of drawings: that of each is the one told.
 abbrev pub AreTold : (endings : ℕ → Ending) (first : ℕ) → List MemberState → Type 0

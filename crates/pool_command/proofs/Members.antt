@@ -5,7 +5,7 @@ use Rattle.std.specs.List.{All}
 use Rattle.std.proofs.lemmas.List.{map-append}
 use Rattle.std.proofs.lemmas.List.Elements.{All-push}
 use Rattle.bz_model.specs.Spec.{Mode}
-use Rattle.bit_tape.specs.Tape.{TapeSource, CountsFault, bits_of}
+use Rattle.bit_tape.specs.Tape.{TapeSource, CountsFault, bits_of_source}
 use Rattle.class_system.specs.Sound.{IsSound}
 use Rattle.size_window.specs.declared.ending.Ending.{Ending as Told}
 use Rattle.size_window.specs.declared.ending.Ending.TheVariants as told
@@ -14,14 +14,14 @@ use Rattle.size_window.specs.declared.turned.Turned.{Turned as Answer}
 use Rattle.size_window.specs.declared.turned.Turned.TheVariants as answer
 use Rattle.size_window.specs.RunByBits.{Limits}
 use Rattle.size_window.specs.Trace.{TurnsContinue}
-use Rattle.size_window.specs.Turn.{HasLabels, IfKept, entry_of, told_entry, turns_by, turns_of, ending_by}
+use Rattle.size_window.specs.Turn.{EntryHasLabels, IfKept, entry_of, told_entry, turns_by, turns_of, ending_by}
 use Rattle.session_pool.specs.declared.pooled.Pooled.{Pooled}
 use Rattle.session_pool.specs.Member.{MemberState, bits_to_nodes}
 use Rattle.session_pool.specs.Turn.{IsMemberTurn, kept_in}
 use Rattle.session_pool.specs.Interleaving.{Shared}
 use Rattle.sample_command.specs.UnderWay.{IsCourseSoFar, has_failed}
 use Rattle.sample_command.proofs.OneTurn.{TellsTurn, so-far-on, entries-on, same-fault}
-use Rattle.pool_command.specs.UnderWay.{AreMoments, IsMemberUnderWay, IsCounted, asked_until}
+use Rattle.pool_command.specs.UnderWay.{AreMoments, IsMemberUnderWay, CountsAsked, asked_until}
 
 -- what an answer tells to be kept
 kept-told : (a : Answer) → option_to_list (told_entry a) ≡ map entry_of (kept_in a)
@@ -30,11 +30,11 @@ kept-told (answer.Kept e) = refl
 kept-told (answer.Finished e) = refl
 kept-told answer.OutOfMemory = refl
 
-labels-on : (mode : Mode) (es : List Entry) (a : Answer) → All (HasLabels mode) es → IfKept a (HasLabels mode) → All (HasLabels mode) (es ++ kept_in a)
-labels-on mode es answer.Going all one = subst (All (HasLabels mode)) (sym (append-nil es)) all
-labels-on mode es (answer.Kept e) all one = All-push (HasLabels mode) es e all one
-labels-on mode es (answer.Finished e) all one = subst (All (HasLabels mode)) (sym (append-nil es)) all
-labels-on mode es answer.OutOfMemory all one = subst (All (HasLabels mode)) (sym (append-nil es)) all
+labels-on : (mode : Mode) (es : List Entry) (a : Answer) → All (EntryHasLabels mode) es → IfKept a (EntryHasLabels mode) → All (EntryHasLabels mode) (es ++ kept_in a)
+labels-on mode es answer.Going all one = subst (All (EntryHasLabels mode)) (sym (append-nil es)) all
+labels-on mode es (answer.Kept e) all one = All-push (EntryHasLabels mode) es e all one
+labels-on mode es (answer.Finished e) all one = subst (All (EntryHasLabels mode)) (sym (append-nil es)) all
+labels-on mode es answer.OutOfMemory all one = subst (All (EntryHasLabels mode)) (sym (append-nil es)) all
 
 -- a turn after which the drawing goes on is counted
 going-counts : (a : Answer) → a ≢ answer.OutOfMemory → ending_by None a ≡ None → turns_by None a ≡ 1
@@ -67,7 +67,7 @@ member-longer w limits begun counts later m most grew p = record { so_far = p.so
 
 module _ (w : Shared) (before now : List ℕ → ℕ) (m later : MemberState) (pooled : Pooled) (h : IsMemberTurn w.spec w.x w.F w.table w.contents before now m pooled later) where
   -- how a turn of a drawing that goes on is counted
-  pub counted-on : m.drawing.ending ≡ None → IsCounted m.drawing.turns later.drawing.turns (asked_until later.drawing later.drawing.ending) later.drawing.ending
+  pub counted-on : m.drawing.ending ≡ None → CountsAsked m.drawing.turns later.drawing.turns (asked_until later.drawing later.drawing.ending) later.drawing.ending
   counted-on going = go later.drawing.ending refl
     where
       turns-are : later.drawing.turns ≡ m.drawing.turns + turns_by None h.told
@@ -76,30 +76,30 @@ module _ (w : Shared) (before now : List ℕ → ℕ) (m later : MemberState) (p
       ends-by : ending_by None h.told ≡ later.drawing.ending
       ends-by = sym (h.counted.ending ∙ ap (λ o. ending_by o h.told) going)
 
-      go : (o : Option Told) → later.drawing.ending ≡ o → IsCounted m.drawing.turns later.drawing.turns (asked_until later.drawing o) o
+      go : (o : Option Told) → later.drawing.ending ≡ o → CountsAsked m.drawing.turns later.drawing.turns (asked_until later.drawing o) o
       go None is = turns-are ∙ ap (λ n. m.drawing.turns + n) (going-counts h.told h.made (ends-by ∙ is))
       go (Some e) is = let same = turns-are in let by = end-counts h.told e (ends-by ∙ is) in let one = few-turns e in omega (arith, same, by, one)
 
   module _ (limits : Limits) (most : ℕ) (law : TurnsContinue) (sound : IsSound w.spec) (begun : List ℕ → ℕ) (rose : (name : List ℕ) → begun name ≤ before name) (grew : (name : List ℕ) → before name ≤ now name) (p : IsMemberUnderWay w limits begun before m most) where
-    tells : TellsTurn w.spec w.x w.F w.table limits (bits_of m.tape.source w.contents) m.drawing later.drawing m.tape.used later.tape.used h.told
+    tells : TellsTurn w.spec w.x w.F w.table limits (bits_of_source m.tape.source w.contents) m.drawing later.drawing m.tape.used later.tape.used h.told
     tells = record { law = law; sound = sound; within = p.so_far.drawing.within; turn = h.turn; counted = h.counted }
 
     abbrev later_most : ℕ
     later_most = max most (bits_to_nodes m later)
 
-    abbrev on : IsCourseSoFar w.spec w.x w.F w.table limits (bits_of m.tape.source w.contents) later.drawing later.tape.used later_most
-    on = so-far-on w.spec w.x w.F w.table limits (bits_of m.tape.source w.contents) m.drawing later.drawing m.tape.used later.tape.used h.told tells most p.so_far
+    abbrev on : IsCourseSoFar w.spec w.x w.F w.table limits (bits_of_source m.tape.source w.contents) later.drawing later.tape.used later_most
+    on = so-far-on w.spec w.x w.F w.table limits (bits_of_source m.tape.source w.contents) m.drawing later.drawing m.tape.used later.tape.used h.told tells most p.so_far
 
     entries-are : on.course.entries ≡ map entry_of later.entries
     entries-are =
-        entries-on w.spec w.x w.F w.table limits (bits_of m.tape.source w.contents) m.drawing later.drawing m.tape.used later.tape.used h.told tells most p.so_far
+        entries-on w.spec w.x w.F w.table limits (bits_of_source m.tape.source w.contents) m.drawing later.drawing m.tape.used later.tape.used h.told tells most p.so_far
         ∙ ap (λ es. es ++ option_to_list (told_entry h.told)) p.entries
         ∙ ap (λ es. map entry_of m.entries ++ es) (kept-told h.told)
         ∙ sym (map-append entry_of m.entries (kept_in h.told))
         ∙ ap (map entry_of) (sym h.entries)
 
-    labels-are : All (HasLabels w.spec.mode) later.entries
-    labels-are = subst (All (HasLabels w.spec.mode)) (sym h.entries) (labels-on w.spec.mode m.entries h.told p.labels h.labels)
+    labels-are : All (EntryHasLabels w.spec.mode) later.entries
+    labels-are = subst (All (EntryHasLabels w.spec.mode)) (sym h.entries) (labels-on w.spec.mode m.entries h.told p.labels h.labels)
 
     -- the moments between which it met its tape
     moments-are : AreMoments later.tape.source (has_failed later.drawing.ending) begun now
@@ -117,7 +117,7 @@ module _ (w : Shared) (before now : List ℕ → ℕ) (m later : MemberState) (p
 
     pub member-on : IsMemberUnderWay w limits begun now later later_most
     member-on =
-        let moved = subst (λ source. (q : IsCourseSoFar w.spec w.x w.F w.table limits (bits_of source w.contents) later.drawing later.tape.used later_most) × (q.course.entries ≡ map entry_of later.entries)) (sym h.source) (on, entries-are) in
+        let moved = subst (λ source. (q : IsCourseSoFar w.spec w.x w.F w.table limits (bits_of_source source w.contents) later.drawing later.tape.used later_most) × (q.course.entries ≡ map entry_of later.entries)) (sym h.source) (on, entries-are) in
         record {
           so_far = moved.0;
           entries = moved.1;

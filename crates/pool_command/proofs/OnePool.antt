@@ -19,12 +19,12 @@ use Rattle.call_stages.specs.Stages.{Files, IsCalm, AreCalm, Based}
 use Rattle.call_stages.specs.declared.status.Status.{Status}
 use Rattle.call_stages.proofs.Endings as endings
 use Rattle.call_stages.proofs.OneReading.{one-read, one-specified, one-based}
-use Rattle.sample_command.specs.Drawn.{HasFailed, is_fault, IsDrawn, ending_status, closing_lines, drawn_header}
+use Rattle.sample_command.specs.Drawn.{HasFailed, ended_by_fault, IsDrawn, ending_status, closing_text, drawn_header}
 use Rattle.sample_command.specs.UnderWay.{met}
 use Rattle.sample_command.proofs.OneDrawing.{one-course, one-list}
-use Rattle.session_pool.specs.Interleaving.{times}
+use Rattle.session_pool.specs.Interleaving.{how_often}
 use Rattle.pool_command.specs.Schedules.{AreOverOne}
-use Rattle.pool_command.specs.Schedule.{named, all_asked, ends_now, ends_in, order_of, asks_to_end}
+use Rattle.pool_command.specs.Schedule.{drawings_named, all_asked, ends_now, ends_in, order_of, asks_to_end}
 use Rattle.pool_command.specs.PoolCommand.{PoolSetting, PoolDrawing, IsDrawnIn, AreDrawnIn, PoolDrawn, PooledOver, CarriesPool, pool_of, table_of, first_of, first_status, session_line, session_lines, drawings_text, order_line, pool_end_line, asks_of}
 use Rattle.pool_command.specs.PoolCommand as pooled
 use Rattle.pool_command.proofs.Appending.{below-alike}
@@ -44,12 +44,12 @@ never-at-all : (first last middle : ℕ) → first ≤ middle → middle ≤ las
 never-at-all first last middle since until calm rose = calm (omega (arith, since, until, rose))
 
 module _ (p : PoolSetting) (f : Files) (name : List ℕ) (calm : IsCalm f name) where
-  quiet-counts : (d : PoolDrawing) (h : IsDrawnIn p f name d) (b : Bool) → is_fault d.so_far.course.state.ending ≡ b → b ≡ false
+  quiet-counts : (d : PoolDrawing) (h : IsDrawnIn p f name d) (b : Bool) → ended_by_fault d.so_far.course.state.ending ≡ b → b ≡ false
   quiet-counts d h false is = refl
   quiet-counts d h true is = absurd (never-failed (h.before name) (h.now name) (f.before name) (f.after name) (h.moments.since name) (h.moments.until name) calm.unfailed (fault-rose (TapeSource.Named name) h.before h.now (subst (λ b. CountsFault b (TapeSource.Named name) h.before h.now) is h.drawn.course.reads)))
 
-  quiet : (d : PoolDrawing) (h : IsDrawnIn p f name d) → is_fault d.so_far.course.state.ending ≡ false
-  quiet d h = quiet-counts d h (is_fault d.so_far.course.state.ending) refl
+  quiet : (d : PoolDrawing) (h : IsDrawnIn p f name d) → ended_by_fault d.so_far.course.state.ending ≡ false
+  quiet d h = quiet-counts d h (ended_by_fault d.so_far.course.state.ending) refl
 
   moved : (d : PoolDrawing) → IsDrawnIn p f name d → IsDrawn p.setting.spec (ratio p.setting.num p.setting.den) p.setting.bits (table_of p) p.limits (met (TapeSource.Named name) f.content f.before f.before) d.so_far.course d.so_far.most d.ending
   moved d h = record {
@@ -98,9 +98,9 @@ module _ (p : PoolSetting) (f : Files) (tapes : List (List ℕ)) (d e : ℕ → 
 
   session-alike : (i : ℕ) → ArePrintedAlike (d i) (e i) → session_lines (table_of p) d i ≡ session_lines (table_of p) e i
   session-alike i same =
-      ap (λ ls. session_line i ++ (ls ++ closing_lines (table_of p) (d i).so_far.course (d i).ending)) same.lines
-      ∙ ap (λ c. session_line i ++ ((e i).lines ++ closing_lines (table_of p) c (d i).ending)) same.course
-      ∙ ap (λ n. session_line i ++ ((e i).lines ++ closing_lines (table_of p) (e i).so_far.course n)) same.ending
+      ap (λ ls. session_line i ++ (ls ++ closing_text (table_of p) (d i).so_far.course (d i).ending)) same.lines
+      ∙ ap (λ c. session_line i ++ ((e i).lines ++ closing_text (table_of p) c (d i).ending)) same.course
+      ∙ ap (λ n. session_line i ++ ((e i).lines ++ closing_text (table_of p) (e i).so_far.course n)) same.ending
 
   pub text-alike : drawings_text p (length tapes) d ≡ drawings_text p (length tapes) e
   text-alike = ap (λ t. drawn_header (version_line 2) p.setting p.base p.limits ++ t) (below-alike (session_lines (table_of p) d) (session_lines (table_of p) e) (length tapes) (λ i few. session-alike i (all-alike i few)))
@@ -127,7 +127,7 @@ below-replicated : (n count x : ℕ) → x < n → AreBelow n (replicate count x
 below-replicated n zero x few = tt
 below-replicated n (suc count) x few = (few, below-replicated n count x few)
 
-below-named : (n : ℕ) → 1 ≤ n → (bytes : List ℕ) → AreBelow n (named n bytes)
+below-named : (n : ℕ) → 1 ≤ n → (bytes : List ℕ) → AreBelow n (drawings_named n bytes)
 below-named n some [] = tt
 below-named n some (b ∷ bytes) = (let h : b % n < n = omega (arith, some) in h, below-named n some bytes)
 
@@ -144,15 +144,15 @@ ends-within asks other n before (x ∷ xs) below same =
     ap (λ front. front ++ ends_in other (before ++ x ∷ []) xs) (now (other x) (asks x) (same x below.0))
     ∙ ap (λ more. ends_now asks before x ++ more) (ends-within asks other n (before ++ x ∷ []) xs below.1 same)
   where
-    now : (a b : ℕ) → a ≡ b → (if nat_eq a (times x before + 1) then x ∷ [] else []) ≡ (if nat_eq b (times x before + 1) then x ∷ [] else [])
-    now a b e = ap (λ k. if nat_eq k (times x before + 1) then x ∷ [] else []) e
+    now : (a b : ℕ) → a ≡ b → (if nat_eq a (how_often x before + 1) then x ∷ [] else []) ≡ (if nat_eq b (how_often x before + 1) then x ∷ [] else [])
+    now a b e = ap (λ k. if nat_eq k (how_often x before + 1) then x ∷ [] else []) e
 
 -- The order in which n drawings end by a schedule depends only on how often each of them is asked,
 -- where n is at least 1.
 pub order-alike : (asks other : ℕ → ℕ) (n : ℕ) (bytes : List ℕ) → 1 ≤ n → ((i : ℕ) → i < n → other i ≡ asks i) → order_of other n bytes ≡ order_of asks n bytes
 order-alike asks other n bytes some same =
-    ap (ends_in other []) (asked-alike asks other (named n bytes) n same)
-    ∙ ends-within asks other n [] (all_asked asks (named n bytes) n) (below-asked asks (named n bytes) n n (omega arith) (below-named n some bytes)) same
+    ap (ends_in other []) (asked-alike asks other (drawings_named n bytes) n same)
+    ∙ ends-within asks other n [] (all_asked asks (drawings_named n bytes) n) (below-asked asks (drawings_named n bytes) n n (omega arith) (below-named n some bytes)) same
 
 -- what two pools that end print, each by a schedule of its own
 pub ended-twice : (p : PoolSetting) (f : Files) (tapes : List (List ℕ)) → 1 ≤ length tapes → AreCalm f tapes → (a b : List ℕ) (status other : Status) (text others : List ℕ) (ticks more : ℕ) → status ≢ Status.OutOfMemory → other ≢ Status.OutOfMemory → PoolDrawn p f tapes a status text ticks → PoolDrawn p f tapes b other others more → AreOverOne p (length tapes) a b status other text others

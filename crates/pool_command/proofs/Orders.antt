@@ -12,9 +12,9 @@ use Rattle.size_window.specs.declared.ending.Ending.{Ending as Told}
 use Rattle.size_window.specs.Drawing.{DrawingBelongs}
 use Rattle.session_pool.specs.Member.{MemberState}
 use Rattle.session_pool.specs.Pool.{PoolBelongs, ending_at, ending_of_member}
-use Rattle.session_pool.specs.Interleaving.{times, WasAsked}
-use Rattle.pool_command.specs.Schedule.{named, all_asked, ends_in}
-use Rattle.pool_command.specs.UnderWay.{Moment, Beginning, IsSoFar, IsPoolRunning, IsBrokenPool, IsAsked, IsFinished, IsCounted, asked_by, asked_of_member, asked_until, turns_at, turns_of_member, ended_now}
+use Rattle.session_pool.specs.Interleaving.{how_often, WasAsked}
+use Rattle.pool_command.specs.Schedule.{drawings_named, all_asked, ends_in}
+use Rattle.pool_command.specs.UnderWay.{Moment, Beginning, IsSoFar, IsPoolRunning, IsBrokenPool, IsAsked, IsFinished, CountsAsked, asked_by, asked_of_member, asked_until, turns_at, turns_of_member, ended_now}
 use Rattle.pool_command.proofs.Ends.{differs-is, times-both, times-replicated, order-stays, order-grows}
 use Rattle.pool_command.proofs.SoFar.{none-asked}
 use Rattle.pool_command.proofs.TurnsLeft.{turns_left, left_of_member, left_until}
@@ -40,20 +40,20 @@ is-there xs i within none = go (slice_get_cases xs i).1
 
 module _ (b : Beginning) (asked : List ℕ) (n : Moment) (p : IsSoFar b asked n) (number : ℕ) where
   -- a drawing that goes on made as many turns as it was asked for
-  pub turns-asked : ending_at n.pool number ≡ None → number < length n.pool → turns_at n.pool number ≡ times number asked
+  pub turns-asked : ending_at n.pool number ≡ None → number < length n.pool → turns_at n.pool number ≡ how_often number asked
   turns-asked going within = go (slice_get n.pool number) refl going
     where
-      go : (o : Option MemberState) → slice_get n.pool number ≡ o → ending_of_member o ≡ None → turns_of_member o ≡ times number asked
+      go : (o : Option MemberState) → slice_get n.pool number ≡ o → ending_of_member o ≡ None → turns_of_member o ≡ how_often number asked
       go None at is = absurd (is-there n.pool number within at)
-      go (Some m) at is = was-asked-going (times number asked) m (p.after.each number m at).asked is
+      go (Some m) at is = was-asked-going (how_often number asked) m (p.after.each number m at).asked is
 
   -- one that ended was asked at least as often as that took
-  pub ended-asked : asked_by n.pool number ≤ times number asked
+  pub ended-asked : asked_by n.pool number ≤ how_often number asked
   ended-asked = go (slice_get n.pool number) refl
     where
-      go : (o : Option MemberState) → slice_get n.pool number ≡ o → asked_of_member o ≤ times number asked
+      go : (o : Option MemberState) → slice_get n.pool number ≡ o → asked_of_member o ≤ how_often number asked
       go None at = omega arith
-      go (Some m) at = was-asked-ended (times number asked) m (p.after.each number m at).asked
+      go (Some m) at = was-asked-ended (how_often number asked) m (p.after.each number m at).asked
 
 some-is : (o : Option Told) (e : Told) → o ≡ Some e → IsSome o
 some-is o e is = subst IsSome (sym is) refl
@@ -84,18 +84,18 @@ module _ (b : Beginning) (asked : List ℕ) (old new : Moment) (order : List ℕ
       go (Some e) l was now k = absurd (cc)
       go None None was now k = absurd (cc)
       go None (Some e) was now k =
-          let counted = subst (IsCounted (turns_at old.pool number) (turns_at new.pool number) (asked_by new.pool number)) now (h.counted was) in
+          let counted = subst (CountsAsked (turns_at old.pool number) (turns_at new.pool number) (asked_by new.pool number)) now (h.counted was) in
           order-grows (asked_by old.pool) (asked_by new.pool) asked number (λ i other. ap asked_of_member (h.others i other)) (none-asked (slice_get old.pool number) was)
           (counted ∙ ap (λ t. t + 1) (turns-asked b asked old p.so_far number was within))
 
   -- how often a drawing was asked that ended by it
-  pub asked-at-end : ending_at old.pool number ≡ None → IsSome (ending_at new.pool number) → asked_by new.pool number ≡ times number asked + 1
+  pub asked-at-end : ending_at old.pool number ≡ None → IsSome (ending_at new.pool number) → asked_by new.pool number ≡ how_often number asked + 1
   asked-at-end was some = go (ending_at new.pool number) refl some
     where
-      go : (l : Option Told) → ending_at new.pool number ≡ l → IsSome l → asked_by new.pool number ≡ times number asked + 1
+      go : (l : Option Told) → ending_at new.pool number ≡ l → IsSome l → asked_by new.pool number ≡ how_often number asked + 1
       go None now k = absurd (cc)
       go (Some e) now k =
-          subst (IsCounted (turns_at old.pool number) (turns_at new.pool number) (asked_by new.pool number)) now (h.counted was)
+          subst (CountsAsked (turns_at old.pool number) (turns_at new.pool number) (asked_by new.pool number)) now (h.counted was)
           ∙ ap (λ t. t + 1) (turns-asked b asked old p.so_far number was within)
 
 -- a pool that is under way can be broken off
@@ -112,7 +112,7 @@ asked-more asked n x = append_assoc asked (replicate n x) (x ∷ []) ∙ ap (λ 
 
 -- What is known of a drawing that is asked until it ends: how often it was asked; if it has ended, as often as that took.
 abbrev pub Finishing : (b : Beginning) (asked : List ℕ) (n : Moment) (order : List ℕ) (number : ℕ) → Type 0
-Finishing b asked n order number = (more : ℕ) × IsPoolRunning b (asked ++ replicate more number) n order × (IsSome (ending_at n.pool number) → asked_by n.pool number - times number asked ≡ more)
+Finishing b asked n order number = (more : ℕ) × IsPoolRunning b (asked ++ replicate more number) n order × (IsSome (ending_at n.pool number) → asked_by n.pool number - how_often number asked ≡ more)
 
 -- A drawing of a pool under way is one asked until it ends, with no further turn asked yet.
 pub finish-start : (b : Beginning) (asked : List ℕ) (n : Moment) (order : List ℕ) (number : ℕ) → IsPoolRunning b asked n order → Finishing b asked n order number
@@ -133,25 +133,25 @@ finish-more b asked old new order later number f h q within going = (
 
 -- Once the drawing that is asked until it ends has ended, the pool is under way with that drawing
 -- asked, in all, as often as its ending took.
-pub finish-end : (b : Beginning) (asked : List ℕ) (n : Moment) (order : List ℕ) (number : ℕ) → Finishing b asked n order number → IsSome (ending_at n.pool number) → IsPoolRunning b (asked ++ replicate (asked_by n.pool number - times number asked) number) n order
+pub finish-end : (b : Beginning) (asked : List ℕ) (n : Moment) (order : List ℕ) (number : ℕ) → Finishing b asked n order number → IsSome (ending_at n.pool number) → IsPoolRunning b (asked ++ replicate (asked_by n.pool number - how_often number asked) number) n order
 finish-end b asked n order number f some = subst (λ k. IsPoolRunning b (asked ++ replicate k number) n order) (sym (f.2 some)) f.1
 
 -- other drawings that are asked don't count for this one
-times-none : (number other n : ℕ) → number ≢ other → times number (replicate n other) ≡ 0
+times-none : (number other n : ℕ) → number ≢ other → how_often number (replicate n other) ≡ 0
 times-none number other zero differs = refl
 times-none number other (suc n) differs =
-    let both : times number (replicate (suc n) other) ≡ times number (other ∷ []) + times number (replicate n other) = times-both number (other ∷ []) (replicate n other) in
-    let one : times number (other ∷ []) ≡ 0 = ap (λ b. 0 + cond b 1 0) (differs-is number other differs) in
+    let both : how_often number (replicate (suc n) other) ≡ how_often number (other ∷ []) + how_often number (replicate n other) = times-both number (other ∷ []) (replicate n other) in
+    let one : how_often number (other ∷ []) ≡ 0 = ap (λ b. 0 + cond b 1 0) (differs-is number other differs) in
     let rest = times-none number other n differs in
     omega (arith, both, one, rest)
 
-times-before : (asks : ℕ → ℕ) (asked : List ℕ) (n number : ℕ) → n ≤ number → times number (all_asked asks asked n) ≡ times number asked
+times-before : (asks : ℕ → ℕ) (asked : List ℕ) (n number : ℕ) → n ≤ number → how_often number (all_asked asks asked n) ≡ how_often number asked
 unfolding all_asked
 times-before asks asked zero number few = refl
 times-before asks asked (suc n) number few =
-    times-both number (all_asked asks asked n) (replicate (asks n - times n asked) n)
-    ∙ ap (λ k. times number (all_asked asks asked n) + k) (times-none number n (asks n - times n asked) (λ same. omega (arith, few, same)))
-    ∙ (let none : times number (all_asked asks asked n) + 0 ≡ times number (all_asked asks asked n) = omega arith in none)
+    times-both number (all_asked asks asked n) (replicate (asks n - how_often n asked) n)
+    ∙ ap (λ k. how_often number (all_asked asks asked n) + k) (times-none number n (asks n - how_often n asked) (λ same. omega (arith, few, same)))
+    ∙ (let none : how_often number (all_asked asks asked n) + 0 ≡ how_often number (all_asked asks asked n) = omega arith in none)
     ∙ times-before asks asked n number (omega (arith, few))
 
 -- as often as they were asked, they are asked
@@ -159,10 +159,10 @@ pub asked-alike : (asks other : ℕ → ℕ) (asked : List ℕ) (n : ℕ) → ((
 unfolding all_asked
 asked-alike asks other asked zero same = refl
 asked-alike asks other asked (suc n) same =
-    ap (λ front. front ++ replicate (other n - times n asked) n) (asked-alike asks other asked n (λ i few. same i (omega (arith, few))))
-    ∙ ap (λ k. all_asked asks asked n ++ replicate (k - times n asked) n) (same n (omega arith))
+    ap (λ front. front ++ replicate (other n - how_often n asked) n) (asked-alike asks other asked n (λ i few. same i (omega (arith, few))))
+    ∙ ap (λ k. all_asked asks asked n ++ replicate (k - how_often n asked) n) (same n (omega arith))
 
-asked-next : (asks : ℕ → ℕ) (asked : List ℕ) (n : ℕ) → all_asked asks asked (suc n) ≡ all_asked asks asked n ++ replicate (asks n - times n asked) n
+asked-next : (asks : ℕ → ℕ) (asked : List ℕ) (n : ℕ) → all_asked asks asked (suc n) ≡ all_asked asks asked n ++ replicate (asks n - how_often n asked) n
 unfolding all_asked
 asked-next asks asked n = refl
 
@@ -172,11 +172,11 @@ unfolding all_asked
 asked-none asks asked = refl
 
 -- one more drawing was asked until it ended
-pub all-more : (b : Beginning) (asked : List ℕ) (pool : List MemberState) (new : Moment) (later : List ℕ) (number : ℕ) → IsFinished pool number new.pool → IsPoolRunning b (all_asked (asked_by pool) asked number ++ replicate (asked_by new.pool number - times number (all_asked (asked_by pool) asked number)) number) new later → IsPoolRunning b (all_asked (asked_by new.pool) asked (number + 1)) new later
+pub all-more : (b : Beginning) (asked : List ℕ) (pool : List MemberState) (new : Moment) (later : List ℕ) (number : ℕ) → IsFinished pool number new.pool → IsPoolRunning b (all_asked (asked_by pool) asked number ++ replicate (asked_by new.pool number - how_often number (all_asked (asked_by pool) asked number)) number) new later → IsPoolRunning b (all_asked (asked_by new.pool) asked (number + 1)) new later
 all-more b asked pool new later number h q =
     subst (λ a. IsPoolRunning b a new later)
     (ap (λ k. all_asked (asked_by pool) asked number ++ replicate (asked_by new.pool number - k) number) (times-before (asked_by pool) asked number number (omega arith))
-    ∙ ap (λ front. front ++ replicate (asked_by new.pool number - times number asked) number) (sym (asked-alike (asked_by pool) (asked_by new.pool) asked number (λ i few. ap asked_of_member (h.others i (λ same. omega (arith, few, same))))))
+    ∙ ap (λ front. front ++ replicate (asked_by new.pool number - how_often number asked) number) (sym (asked-alike (asked_by pool) (asked_by new.pool) asked number (λ i few. ap asked_of_member (h.others i (λ same. omega (arith, few, same))))))
     ∙ sym (asked-next (asked_by new.pool) asked number)
     ∙ ap (all_asked (asked_by new.pool) asked) (let one : suc number ≡ number + 1 = omega arith in one)) q
 
@@ -220,13 +220,13 @@ fewer-left s x pool later number belongs h going within = go (slice_get pool num
         let mine = subst (λ (k : MemberState). DrawingBelongs s x k.drawing) (get_or_from_slice_get pool number m m at) (belongs.each number m (slice_get_within pool number m at)) in
         let is : m.drawing.ending ≡ None = ap ending_of_member (sym at) ∙ going in
         subst (λ n. suc (turns_left later number) ≤ n) (sym (ap (left_until m.drawing.turns) is))
-        (after m.drawing.turns (let turns = mine.turns in let limit = mine.limits.turns in omega (arith, turns, limit)) (slice_get later number) (subst (λ o. IsCounted (turns_of_member o) (turns_at later number) (asked_by later number) (ending_at later number)) at (h.counted going)))
+        (after m.drawing.turns (let turns = mine.turns in let limit = mine.limits.turns in omega (arith, turns, limit)) (slice_get later number) (subst (λ o. CountsAsked (turns_of_member o) (turns_at later number) (asked_by later number) (ending_at later number)) at (h.counted going)))
       where
-        after : (turns : ℕ) → turns ≤ 50000000 → (l : Option MemberState) → IsCounted turns (turns_of_member l) (asked_of_member l) (ending_of_member l) → suc (left_of_member l) ≤ 50000002 - turns
+        after : (turns : ℕ) → turns ≤ 50000000 → (l : Option MemberState) → CountsAsked turns (turns_of_member l) (asked_of_member l) (ending_of_member l) → suc (left_of_member l) ≤ 50000002 - turns
         after turns few None counted = omega (arith, few)
         after turns few (Some k) counted = ends k.drawing.ending counted
           where
-            ends : (e : Option Told) → IsCounted turns k.drawing.turns (asked_until k.drawing e) e → suc (left_until k.drawing.turns e) ≤ 50000002 - turns
+            ends : (e : Option Told) → CountsAsked turns k.drawing.turns (asked_until k.drawing e) e → suc (left_until k.drawing.turns e) ≤ 50000002 - turns
             ends None c = omega (arith, few, c)
             ends (Some e) c = omega (arith, few)
 
@@ -236,13 +236,13 @@ unfolding ends_in
 starts-under-way b n order p none = record { so_far = p; order_is = none }
 
 -- one more byte names a drawing
-pub named-more : (asked : List ℕ) (n : ℕ) (bytes : List ℕ) (i byte d : ℕ) → i < length bytes → byte ≡ get_or bytes i d → (asked ++ named n (take i bytes)) ++ byte % n ∷ [] ≡ asked ++ named n (take (i + 1) bytes)
+pub named-more : (asked : List ℕ) (n : ℕ) (bytes : List ℕ) (i byte d : ℕ) → i < length bytes → byte ≡ get_or bytes i d → (asked ++ drawings_named n (take i bytes)) ++ byte % n ∷ [] ≡ asked ++ drawings_named n (take (i + 1) bytes)
 named-more asked n bytes i byte d within at =
-    append_assoc asked (named n (take i bytes)) (byte % n ∷ [])
+    append_assoc asked (drawings_named n (take i bytes)) (byte % n ∷ [])
     ∙ ap (λ xs. asked ++ xs) (sym (map-append (λ b. b % n) (take i bytes) (byte ∷ [])))
-    ∙ ap (λ b. asked ++ named n (take i bytes ++ b ∷ [])) at
-    ∙ ap (λ xs. asked ++ named n xs) (sym (take-suc bytes i d within))
-    ∙ ap (λ k. asked ++ named n (take k bytes)) (sym (add-one i))
+    ∙ ap (λ b. asked ++ drawings_named n (take i bytes ++ b ∷ [])) at
+    ∙ ap (λ xs. asked ++ drawings_named n xs) (sym (take-suc bytes i d within))
+    ∙ ap (λ k. asked ++ drawings_named n (take k bytes)) (sym (add-one i))
 
 -- whether there is no ending
 pub none-by : (o : Option Told) (b v : Bool) → is_some o ≡ not b → b ≡ v → is_none o ≡ v

@@ -20,12 +20,12 @@ use Rattle.session_pool.specs.declared.pooled.Pooled.{Pooled}
 use Rattle.session_pool.specs.declared.pooled.Pooled.TheVariants as pooled
 use Rattle.session_pool.specs.Member.{MemberState, bits_to_nodes}
 use Rattle.session_pool.specs.Pool.{LeavesTapeOf, bits_between, bits_to_nodes_at, ending_at, ending_of_member}
-use Rattle.session_pool.specs.Turn.{IsPoolTurn, answer_of}
-use Rattle.session_pool.specs.Interleaving.{Shared, setting, IsPoolAfter}
+use Rattle.session_pool.specs.Turn.{IsPoolTurn, pool_answer}
+use Rattle.session_pool.specs.Interleaving.{Shared, shared_setting, IsPoolAfter}
 use Rattle.session_pool.proofs.Replaced.{replaced-here, replaced-elsewhere}
 use Rattle.sample_command.proofs.Turns.{raised-for}
 use Rattle.pool_command.specs.PoolCommand.{greatest_below}
-use Rattle.pool_command.specs.UnderWay.{Moment, Beginning, IsMemberUnderWay, IsSoFar, IsAsked, IsCounted, asked_by, asked_of_member, asked_until, turns_at, turns_of_member, moment, ended_now}
+use Rattle.pool_command.specs.UnderWay.{Moment, Beginning, IsMemberUnderWay, IsSoFar, IsAsked, CountsAsked, asked_by, asked_of_member, asked_until, turns_at, turns_of_member, moment, ended_now}
 use Rattle.pool_command.proofs.Members.{counted-on, member-on, member-longer}
 
 -- numbers with one replaced
@@ -96,8 +96,8 @@ module _ (w : Shared) (before now : List ℕ → ℕ) (pool later : List MemberS
     rests = rests;
     counted = λ going.
         let counted = counted-on w before now h.old_member h.new_member pooled h.turn (ap ending_of_member (sym h.at) ∙ going) in
-        subst (λ o. IsCounted (turns_of_member o) (turns_at later number) (asked_by later number) (ending_at later number)) (sym h.at)
-        (subst (λ o. IsCounted h.old_member.drawing.turns (turns_of_member o) (asked_of_member o) (ending_of_member o)) (sym later-here) counted);
+        subst (λ o. CountsAsked (turns_of_member o) (turns_at later number) (asked_by later number) (ending_at later number)) (sym h.at)
+        (subst (λ o. CountsAsked h.old_member.drawing.turns (turns_of_member o) (asked_of_member o) (ending_of_member o)) (sym later-here) counted);
   }
 
   module _ (limits : Limits) (law : TurnsContinue) (sound : IsSound w.spec) where
@@ -139,8 +139,8 @@ module _ (b : Beginning) (asked : List ℕ) (old new : Moment) (number : ℕ) (p
     }
 
 -- what the drawings share is as it was
-pub same-shared : (s t : Spec) (x y : Fraction) (F : ℕ) (table other : (level node : ℕ) → Bounds) (contents others : List ℕ → Option (List ℕ)) → s ≡ t → x ≡ y → table ≡ other → contents ≡ others → setting s x F table contents ≡ setting t y F other others
-same-shared s t x y F table other contents others es ex et ec = ap (λ z. setting z x F table contents) es ∙ ap (λ z. setting t z F table contents) ex ∙ ap (λ z. setting t y F z contents) et ∙ ap (λ z. setting t y F other z) ec
+pub same-shared : (s t : Spec) (x y : Fraction) (F : ℕ) (table other : (level node : ℕ) → Bounds) (contents others : List ℕ → Option (List ℕ)) → s ≡ t → x ≡ y → table ≡ other → contents ≡ others → shared_setting s x F table contents ≡ shared_setting t y F other others
+same-shared s t x y F table other contents others es ex et ec = ap (λ z. shared_setting z x F table contents) es ∙ ap (λ z. shared_setting t z F table contents) ex ∙ ap (λ z. shared_setting t y F z contents) et ∙ ap (λ z. shared_setting t y F other z) ec
 
 -- the same, of what the drawings share as the code has it
 pub so-far-by : (b : Beginning) (asked : List ℕ) (old new : Moment) (number : ℕ) (pooled : Pooled) (w : Shared) → w ≡ b.shared → IsSoFar b asked old → IsPoolTurn w.spec w.x w.F w.table w.contents old.counts new.counts old.pool number pooled new.pool → TurnsContinue → IsSound w.spec → new.shared ≡ old.shared → ((limits : Limits) (sources : List TapeSource) (begun : List ℕ → ℕ) (turns : List ℕ) → IsPoolAfter w limits sources begun old.counts turns old.pool → IsPoolAfter w limits sources begun new.counts (turns ++ number ∷ []) new.pool) → new.cost ≡ old.cost → new.raised ≤ 6 → old.raised ≤ new.raised → new.raised ≡ max old.raised (level_for (bits_to_nodes_at number old.pool new.pool)) → new.ticks ≤ old.ticks + cost_between old.cost old.raised new.raised → number < length old.pool → length new.pool ≡ length old.pool → ((name : List ℕ) → old.counts name ≤ new.counts name) → IsSoFar b (asked ++ number ∷ []) new
@@ -187,12 +187,12 @@ pub finished-made : pooled.Finished ≢ pooled.OutOfMemory
 finished-made e = absurd (cc)
 
 -- whether a drawing ended by a turn
-pub goes-on : (before now : Option Told) → pooled.Going ≡ answer_of now → false ≡ ended_now before now
+pub goes-on : (before now : Option Told) → pooled.Going ≡ pool_answer now → false ≡ ended_now before now
 goes-on None None is = refl
 goes-on (Some e) None is = refl
 goes-on before (Some e) is = absurd (cc)
 
-pub ends-by : (before now : Option Told) → pooled.Finished ≡ answer_of now → not (is_some before) ≡ ended_now before now
+pub ends-by : (before now : Option Told) → pooled.Finished ≡ pool_answer now → not (is_some before) ≡ ended_now before now
 ends-by before None is = absurd (cc)
 ends-by None (Some e) is = refl
 ends-by (Some f) (Some e) is = refl

@@ -3,7 +3,7 @@ use Rattle.std.proofs.Common.{◌≡◌, ℕ, zero, suc, ◌≤◌, max, arith, 
 use Rattle.std.specs.Prelude.{Option, Some, None, option_map}
 use Rattle.std.specs.List.{All}
 use Rattle.std.proofs.lemmas.Option.{slice_get_within, get_or_from_slice_get}
-use Rattle.bit_tape.specs.Tape.{TapeSource, TapeState, Belongs, bits_of}
+use Rattle.bit_tape.specs.Tape.{TapeSource, TapeState, BelongsToShelf, bits_of_source}
 use Rattle.bit_tape.proofs.NewTapes.{belongs_new}
 use Rattle.bz_model.specs.Fraction.{ratio}
 use Rattle.kleene_lower.specs.Lower.{zeros}
@@ -15,14 +15,14 @@ use Rattle.oracle_memo.specs.Levels.{level_bounds_from, costs}
 use Rattle.size_window.specs.declared.ending.Ending.{Ending as Told}
 use Rattle.size_window.specs.RunByBits.{Limits, RunState, at_start}
 use Rattle.size_window.specs.Drawing.{ending_of}
-use Rattle.size_window.specs.Turn.{HasLabels, entry_of}
+use Rattle.size_window.specs.Turn.{EntryHasLabels, entry_of}
 use Rattle.size_window.specs.Trace.{HasTrace, TracesStart}
 use Rattle.session_pool.specs.Member.{MemberState, IsNewMember}
-use Rattle.session_pool.specs.Interleaving.{Shared, setting, IsPoolAfter}
+use Rattle.session_pool.specs.Interleaving.{Shared, shared_setting, IsPoolAfter}
 use Rattle.session_pool.specs.Pool.{IsNewPool, tapes_of}
 use Rattle.sample_command.specs.UnderWay.{has_failed}
 use Rattle.pool_command.specs.PoolCommand.{greatest_below, pool_of}
-use Rattle.pool_command.specs.UnderWay.{AreMoments, IsMemberUnderWay, Beginning, IsSoFar, beginning, moment, tape_over}
+use Rattle.pool_command.specs.UnderWay.{AreMoments, IsMemberUnderWay, Beginning, IsSoFar, pool_beginning, moment, tape_over}
 use Rattle.pool_command.proofs.Ended.{shared_of}
 
 -- a drawing that starts hasn't ended
@@ -37,12 +37,12 @@ new-under-way starts w limits counts m new unused =
     record {
       so_far = record { turns = 0; course = at_start; drawing = started };
       entries = sym (ap (map entry_of) new.entries);
-      labels = subst (All (HasLabels w.spec.mode)) (sym new.entries) (λ k d lt. absurd (omega (arith, lt)));
+      labels = subst (All (EntryHasLabels w.spec.mode)) (sym new.entries) (λ k d lt. absurd (omega (arith, lt)));
       moments = subst (λ o. AreMoments m.tape.source (has_failed o) counts counts) (sym going) (record { before = counts; now = counts; since = λ name. omega arith; until = λ name. omega arith; reads = refl });
     }
   where
-    started : HasTrace w.spec w.x w.F w.table limits (bits_of m.tape.source w.contents) 0 m.drawing m.tape.used 0 at_start
-    started = subst (λ used. HasTrace w.spec w.x w.F w.table limits (bits_of m.tape.source w.contents) 0 m.drawing used 0 at_start) (sym unused) (starts w.spec w.x w.F w.table limits (bits_of m.tape.source w.contents) m.drawing new.state new.same_limits new.atoms)
+    started : HasTrace w.spec w.x w.F w.table limits (bits_of_source m.tape.source w.contents) 0 m.drawing m.tape.used 0 at_start
+    started = subst (λ used. HasTrace w.spec w.x w.F w.table limits (bits_of_source m.tape.source w.contents) 0 m.drawing used 0 at_start) (sym unused) (starts w.spec w.x w.F w.table limits (bits_of_source m.tape.source w.contents) m.drawing new.state new.same_limits new.atoms)
 
 -- nothing is the greatest of none
 greatest-none : (n : ℕ) → greatest_below (λ i. 0) n ≡ 0
@@ -78,7 +78,7 @@ tapes-unused (n ∷ names) zero d lt = refl
 tapes-unused (n ∷ names) (suc k) d lt = tapes-unused names k d (omega (arith, lt))
 
 -- The tapes over given names, before any bit is used, all belong to the contents of the files.
-pub tapes-belong : (contents : List ℕ → Option (List ℕ)) (names : List (List ℕ)) → All (Belongs contents) (map tape_over names)
+pub tapes-belong : (contents : List ℕ → Option (List ℕ)) (names : List (List ℕ)) → All (BelongsToShelf contents) (map tape_over names)
 tapes-belong contents [] k d lt = absurd (omega (arith, lt))
 tapes-belong contents (n ∷ names) zero d lt = belongs_new contents (TapeSource.Named n) 0
 tapes-belong contents (n ∷ names) (suc k) d lt = tapes-belong contents names k d (omega (arith, lt))
@@ -90,10 +90,10 @@ members-unused (m ∷ pool) (n ∷ names) same zero d lt = let here : m.tape ≡
 members-unused (m ∷ pool) (n ∷ names) same (suc k) d lt = members-unused pool names (let rest : tapes_of pool ≡ map tape_over names = cc in rest) k d (omega (arith, lt))
 
 -- a pool by a memo of which no level is raised
-pub memo-starts : TracesStart → (t : Rounded) (base : List ℕ) (limits : Limits) (contents : List ℕ → Option (List ℕ)) (names : List (List ℕ)) (counts : List ℕ → ℕ) (ticks now : ℕ) (m : Memory) (tapes : List TapeState) (pool : List MemberState) → m ≡ record { spec = t.spec; num = t.num; den = t.den; start = zeros t; base = base; raised = 0 } → tapes ≡ map tape_over names → IsNewPool limits tapes pool → ((w : Shared) (c : List ℕ → ℕ) → IsPoolAfter w limits (map (λ (tape : TapeState). tape.source) tapes) c c [] pool) → now ≤ ticks → IsSoFar (beginning (shared_of (pool_of t base limits) contents) limits (map TapeSource.Named names) counts ticks) [] (moment (setting m.spec (ratio m.num m.den) t.bits (level_bounds_from (rounded.setting m.spec m.num m.den t.bits) m.start m.base) contents) counts costs m.raised now pool)
+pub memo-starts : TracesStart → (t : Rounded) (base : List ℕ) (limits : Limits) (contents : List ℕ → Option (List ℕ)) (names : List (List ℕ)) (counts : List ℕ → ℕ) (ticks now : ℕ) (m : Memory) (tapes : List TapeState) (pool : List MemberState) → m ≡ record { spec = t.spec; num = t.num; den = t.den; start = zeros t; base = base; raised = 0 } → tapes ≡ map tape_over names → IsNewPool limits tapes pool → ((w : Shared) (c : List ℕ → ℕ) → IsPoolAfter w limits (map (λ (tape : TapeState). tape.source) tapes) c c [] pool) → now ≤ ticks → IsSoFar (pool_beginning (shared_of (pool_of t base limits) contents) limits (map TapeSource.Named names) counts ticks) [] (moment (shared_setting m.spec (ratio m.num m.den) t.bits (level_bounds_from (rounded.setting m.spec m.num m.den t.bits) m.start m.base) contents) counts costs m.raised now pool)
 memo-starts law t base limits contents names counts ticks now m tapes pool made tapes_are new alone few =
-    subst (λ (k : Memory). IsSoFar (beginning (shared_of (pool_of t base limits) contents) limits (map TapeSource.Named names) counts ticks) [] (moment (setting k.spec (ratio k.num k.den) t.bits (level_bounds_from (rounded.setting k.spec k.num k.den t.bits) k.start k.base) contents) counts costs k.raised now pool)) (sym made)
-    (starts-so-far law (beginning (shared_of (pool_of t base limits) contents) limits (map TapeSource.Named names) counts ticks) now pool new.each (members-unused pool names (new.same_tapes ∙ tapes_are))
+    subst (λ (k : Memory). IsSoFar (pool_beginning (shared_of (pool_of t base limits) contents) limits (map TapeSource.Named names) counts ticks) [] (moment (shared_setting k.spec (ratio k.num k.den) t.bits (level_bounds_from (rounded.setting k.spec k.num k.den t.bits) k.start k.base) contents) counts costs k.raised now pool)) (sym made)
+    (starts-so-far law (pool_beginning (shared_of (pool_of t base limits) contents) limits (map TapeSource.Named names) counts ticks) now pool new.each (members-unused pool names (new.same_tapes ∙ tapes_are))
     (subst (λ ss. IsPoolAfter (shared_of (pool_of t base limits) contents) limits ss counts counts [] pool) (ap (map (λ (tape : TapeState). tape.source)) tapes_are ∙ sources-of-tapes names) (alone (shared_of (pool_of t base limits) contents) counts)) few)
 
 -- there is one drawing for each tape

@@ -17,12 +17,12 @@ use Rattle.call_stages.specs.Lines.{lines_below}
 use Rattle.call_stages.specs.Outcomes.{IsWithin}
 use Rattle.call_stages.specs.Stages.{files}
 use Rattle.call_stages.specs.declared.status.Status.{Status}
-use Rattle.sample_command.specs.Drawn.{closing_lines, drawn_header, ending_status}
+use Rattle.sample_command.specs.Drawn.{closing_text, drawn_header, ending_status}
 use Rattle.sample_command.proofs.TapeEnds.{Chosen, EndLaws}
 use Rattle.pool_command.specs.PoolCommand.{PoolSetting, PoolCourse, PoolDrawing, AreCoursesIn, IsCourseIn, IsDrawnIn, PoolDrawn, table_of, greatest_below, raising_ticks, session_line, session_lines, failures_from, first_status, asks_of, drawings_text, order_line, pool_end_line}
 use Rattle.pool_command.specs.PoolCommand as pooled
-use Rattle.pool_command.specs.UnderWay.{beginning, Moment, IsSoFar, asked_by, asked_of_member}
-use Rattle.pool_command.specs.Schedule.{named, all_asked, ends_in, asks_to_end}
+use Rattle.pool_command.specs.UnderWay.{pool_beginning, Moment, IsSoFar, asked_by, asked_of_member}
+use Rattle.pool_command.specs.Schedule.{drawings_named, all_asked, ends_in, asks_to_end}
 use Rattle.pool_command.specs.Pages.{told_session, closing_of_member, status_by, AreLinesOfMember}
 use Rattle.pool_command.proofs.Ended.{shared_of, course_of_member, course-in, drawn-in, closing-same, asks-same}
 use Rattle.pool_command.proofs.Appending.{below-alike}
@@ -57,7 +57,7 @@ name-at names i name at = same_Some (get_or names i []) name (sym (slice_get-get
 rose-from : (number begun before now : ℕ) → before ≤ begun → RoseBy number begun now → RoseBy number before now
 rose-from number begun before now less rose = omega (arith, less, rose)
 
-module _ (p : PoolSetting) (contents : List ℕ → Option (List ℕ)) (begun before : List ℕ → ℕ) (names : List (List ℕ)) (first : ℕ) (chosen : Chosen p.setting.spec p.setting.bits (table_of p)) (earlier : (other : List ℕ) → before other ≤ begun other) (asked : List ℕ) (n : Moment) (h : IsSoFar (beginning (shared_of p contents) p.limits (map TapeSource.Named names) begun first) asked n) (number : length n.pool ≡ length names) where
+module _ (p : PoolSetting) (contents : List ℕ → Option (List ℕ)) (begun before : List ℕ → ℕ) (names : List (List ℕ)) (first : ℕ) (chosen : Chosen p.setting.spec p.setting.bits (table_of p)) (earlier : (other : List ℕ) → before other ≤ begun other) (asked : List ℕ) (n : Moment) (h : IsSoFar (pool_beginning (shared_of p contents) p.limits (map TapeSource.Named names) begun first) asked n) (number : length n.pool ≡ length names) where
   -- the course of a drawing; one that isn't there has none
   abbrev pub course-from : (i : ℕ) (o : Option MemberState) → slice_get n.pool i ≡ o → PoolCourse
   course-from i None at = record { course = at_start; most = 0 }
@@ -122,14 +122,14 @@ module _ (p : PoolSetting) (contents : List ℕ → Option (List ℕ)) (begun be
         (subst (λ f. IsDrawnIn p (files contents before n.counts) (get_or names i []) (record { so_far = course-from i (Some m) at; ending = f; lines = lines i })) (sym (ap end-of e.1))
         (drawn-in p contents begun n.counts before chosen earlier m (h.mosts i) (h.each i m at) (get_or names i []) (source-at n.pool names i m h.after.same_sources at) e.0 e.1 right laws sound are (lines i) its))
 
-    session-at : (i : ℕ) → i < length names → (o : Option MemberState) (at : slice_get n.pool i ≡ o) → session_line i ++ (lines i ++ closing_of_member o) ≡ session_line i ++ (lines i ++ closing_lines (table_of p) (drawing-from i o at).so_far.course (drawing-from i o at).ending)
+    session-at : (i : ℕ) → i < length names → (o : Option MemberState) (at : slice_get n.pool i ≡ o) → session_line i ++ (lines i ++ closing_of_member o) ≡ session_line i ++ (lines i ++ closing_text (table_of p) (drawing-from i o at).so_far.course (drawing-from i o at).ending)
     session-at i few None at = absurd (within-pool i few at)
     session-at i few (Some m) at =
         let e = ended-as m.drawing.ending (subst (λ o. IsSome (ending_of_member o)) at (ended i few)) in
         let right = rightly-of i m at e.0 e.1 in
         ap (λ c. session_line i ++ (lines i ++ c))
         (closing-same p contents begun n.counts before chosen earlier m (h.mosts i) (h.each i m at) (get_or names i []) (source-at n.pool names i m h.after.same_sources at) e.0 e.1 right
-        ∙ ap (closing_lines (table_of p) (course-from i (Some m) at).course) (sym (ap end-of e.1)))
+        ∙ ap (closing_text (table_of p) (course-from i (Some m) at).course) (sym (ap end-of e.1)))
 
     asks-at : (i : ℕ) → i < length names → (o : Option MemberState) (at : slice_get n.pool i ≡ o) → asks_to_end (drawing-from i o at).ending (drawing-from i o at).so_far.course.state.turns ≡ asked_of_member o
     asks-at i few None at = absurd (within-pool i few at)
@@ -157,7 +157,7 @@ module _ (p : PoolSetting) (contents : List ℕ → Option (List ℕ)) (begun be
         rose-from (failures_from name (λ i. (drawing-at i).ending) 0 names) (begun name) (before name) (n.counts name) (earlier name) (subst (λ k. RoseBy k (begun name) (n.counts name)) (sym same) (h.after.failed name))
 
     -- all have ended
-    pub ended-told : (schedule order header sessions text : List ℕ) (status : Status) → 1 ≤ length names → order ≡ ends_in (asked_by n.pool) [] (all_asked (asked_by n.pool) (named (length names) schedule) (length names)) → header ≡ drawn_header (version_line 2) p.setting p.base p.limits → sessions ≡ header ++ lines_below (λ i. told_session n.pool i (lines i)) (length names) → text ≡ sessions ++ (order_line order ++ pool_end_line) → status ≡ first_status (λ i. status_by (ending_at n.pool i)) (length names) → IsWithin (PoolDrawn p (files contents before n.counts) names schedule) status text first n.ticks
+    pub ended-told : (schedule order header sessions text : List ℕ) (status : Status) → 1 ≤ length names → order ≡ ends_in (asked_by n.pool) [] (all_asked (asked_by n.pool) (drawings_named (length names) schedule) (length names)) → header ≡ drawn_header (version_line 2) p.setting p.base p.limits → sessions ≡ header ++ lines_below (λ i. told_session n.pool i (lines i)) (length names) → text ≡ sessions ++ (order_line order ++ pool_end_line) → status ≡ first_status (λ i. status_by (ending_at n.pool i)) (length names) → IsWithin (PoolDrawn p (files contents before n.counts) names schedule) status text first n.ticks
     ended-told schedule order header sessions text status some order_is header_is sessions_are text_is status_is = record {
       ticks = raising_ticks (length names) course-at;
       is = pooled.ended drawing-at (record { each = λ i name is. drawn-in-at i name is (slice_get n.pool i) refl; failed = all-failed }) (record {

@@ -8,7 +8,7 @@ use Rattle.size_window.specs.declared.ending.Ending.{Ending}
 use Rattle.size_window.specs.Drawing.{ending_of}
 use Rattle.certificate.specs.Certificates.{closing_lines}
 use Rattle.certificate.specs.Lines.{text_of}
-use Rattle.size_window.specs.Turn.{HasLabels, entry_of}
+use Rattle.size_window.specs.Turn.{EntryHasLabels, entry_of}
 use Rattle.call_stages.specs.Lines.{lines_below}
 use Rattle.call_stages.specs.declared.status.Status.{Status}
 use Rattle.sample_command.specs.Drawn.{Lists, ending_status}
@@ -47,7 +47,7 @@ pub record AreAppended (s : Spec) (pool : List MemberState) (n : ℕ)
 -- wants them.
 pub record CanPrint (s : Spec) (m : MemberState) : Type 0 where
   pub are_of : All (λ e. IsOf s 0 e.shape.items) m.entries
-  pub labels : All (HasLabels s.mode) m.entries
+  pub labels : All (EntryHasLabels s.mode) m.entries
 
 -- Those of each drawing of a pool can.
 pub record AllCanPrint (s : Spec) (pool : List MemberState) : Type 0 where

@@ -15,7 +15,7 @@ use Rattle.session_pool.specs.Interleaving.{RoseBy}
 use Rattle.size_window.specs.RunByBits.{Limits as Window, Course, Ending}
 use Rattle.size_window.specs.Drawing.{limits_of}
 use Rattle.size_window.specs.declared.limits.Limits.{Limits}
-use Rattle.sample_command.specs.Drawn.{IsCourse, IsDrawn, Lists, closing_lines, drawn_header}
+use Rattle.sample_command.specs.Drawn.{IsCourse, IsDrawn, Lists, closing_text, drawn_header}
 use Rattle.sample_command.specs.Drawn.{ending_status}
 use Rattle.sample_command.specs.UnderWay.{met}
 use Rattle.call_stages.specs.Lines.{feed, lines_below}
@@ -131,7 +131,7 @@ abbrev pub session_lines : (table : (level node : ℕ) → Bounds) → (drawings
     → (number : ℕ) → List ℕ
 session_lines table drawings number =
     session_line number ++ ((drawings number).lines
-    ++ closing_lines table (drawings number).so_far.course (drawings number).ending)
+    ++ closing_text table (drawings number).so_far.course (drawings number).ending)
 
 -- The line of the order in which the drawings ended.
 abbrev pub order_line : (order : List ℕ) → List ℕ

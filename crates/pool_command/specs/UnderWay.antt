@@ -4,7 +4,7 @@ use Rattle.std.specs.Prelude.{map, slice_get, Option, Some, None, IsSome}
 use Rattle.std.specs.List.{All}
 use Rattle.bz_model.specs.Fraction.{Fraction}
 use Rattle.bz_model.specs.Spec.{Spec}
-use Rattle.bit_tape.specs.Tape.{TapeSource, TapeState, CountsFault, bits_of}
+use Rattle.bit_tape.specs.Tape.{TapeSource, TapeState, CountsFault, bits_of_source}
 use Rattle.choice_draw.specs.Decision.{level_for}
 use Rattle.class_system.specs.Sound.{IsSound}
 use Rattle.oracle_memo.specs.Levels.{cost_at, costs}
@@ -14,9 +14,9 @@ use Rattle.session_pool.specs.Interleaving.{Shared, IsPoolAfter}
 use Rattle.size_window.specs.declared.ending.Ending.{Ending}
 use Rattle.size_window.specs.RunByBits.{Limits}
 use Rattle.size_window.specs.Drawing.{DrawingState}
-use Rattle.size_window.specs.Turn.{HasLabels, entry_of, turns_of}
+use Rattle.size_window.specs.Turn.{EntryHasLabels, entry_of, turns_of}
 use Rattle.sample_command.specs.UnderWay.{IsCourseSoFar, has_failed}
-use Rattle.pool_command.specs.Schedule.{ends_in, all_asked, named}
+use Rattle.pool_command.specs.Schedule.{ends_in, all_asked, drawings_named}
 use Rattle.pool_command.specs.PoolCommand.{greatest_below}
 
 -- The tape over the file of a name, of which no bit is used.
@@ -59,10 +59,10 @@ pub record AreMoments (source : TapeSource) (failed : Bool)
 -- kept, each with labels as the mode wants them.
 pub record IsMemberUnderWay (w : Shared) (limits : Limits) (begun counts : List ℕ → ℕ)
     (m : MemberState) (most : ℕ) : Type 0 where
-  pub so_far : IsCourseSoFar w.spec w.x w.F w.table limits (bits_of m.tape.source w.contents)
+  pub so_far : IsCourseSoFar w.spec w.x w.F w.table limits (bits_of_source m.tape.source w.contents)
       m.drawing m.tape.used most
   pub entries : so_far.course.entries ≡ map entry_of m.entries
-  pub labels : All (HasLabels w.spec.mode) m.entries
+  pub labels : All (EntryHasLabels w.spec.mode) m.entries
   pub moments : AreMoments m.tape.source (has_failed m.drawing.ending) begun counts
 
 -- A moment of a pool: what its drawings share, the counts of failed reads, what raising a level
@@ -95,9 +95,9 @@ pub record Beginning : Type 0 where
   pub counts : List ℕ → ℕ
   pub ticks : ℕ
 
-abbrev pub beginning : (shared : Shared) (limits : Limits) (sources : List TapeSource)
+abbrev pub pool_beginning : (shared : Shared) (limits : Limits) (sources : List TapeSource)
     (counts : List ℕ → ℕ) (ticks : ℕ) → Beginning
-beginning shared limits sources counts ticks = record {
+pool_beginning shared limits sources counts ticks = record {
   shared = shared;
   limits = limits;
   sources = sources;
@@ -140,16 +140,16 @@ pub record CanAsk (s : Spec) (oracle_spec : Spec) (x : Fraction)
 
 -- Where a drawing goes on after it was asked it made one turn more; where it ended it was asked
 -- once more than it had made turns.
-abbrev pub IsCounted : (turns_before turns : ℕ) → (asked : ℕ) → Option Ending → Type 0
-IsCounted turns_before turns asked None = turns ≡ turns_before + 1
-IsCounted turns_before turns asked (Some ending) = asked ≡ turns_before + 1
+abbrev pub CountsAsked : (turns_before turns : ℕ) → (asked : ℕ) → Option Ending → Type 0
+CountsAsked turns_before turns asked None = turns ≡ turns_before + 1
+CountsAsked turns_before turns asked (Some ending) = asked ≡ turns_before + 1
 
 -- A drawing was asked for a turn: every other one is as it was, and so is this one if it had ended.
 pub record IsAsked (pool : List MemberState) (number : ℕ) (later : List MemberState) : Type 0 where
   pub others : (other : ℕ) → other ≢ number → slice_get later other ≡ slice_get pool other
   pub rests : IsSome (ending_at pool number) → later ≡ pool
   pub counted : ending_at pool number ≡ None
-      → IsCounted (turns_at pool number) (turns_at later number) (asked_by later number)
+      → CountsAsked (turns_at pool number) (turns_at later number) (asked_by later number)
       (ending_at later number)
 
 -- A drawing that hadn't ended has ended.
@@ -167,5 +167,6 @@ pub record IsFinished (pool : List MemberState) (number : ℕ)
 -- first, until each had ended.
 pub record IsEnded (b : Beginning) (schedule : List ℕ) (count : ℕ) (n : Moment)
     (order : List ℕ) : Type 0 where
-  pub under_way : IsPoolRunning b (all_asked (asked_by n.pool) (named count schedule) count) n order
+  pub under_way : IsPoolRunning b (all_asked (asked_by n.pool)
+      (drawings_named count schedule) count) n order
   pub ended : (number : ℕ) → number < count → IsSome (ending_at n.pool number)

@@ -3,7 +3,7 @@ ghost use Rattle.std.specs.Prelude.{◌≡◌, ℕ, ◌<◌, ◌≤◌, ◌++◌
 ghost use Rattle.std.specs.Prelude.{codes, IfOk, OnOk, string_bytes};
 ghost use Rattle.std.specs.List.{All};
 ghost use Rattle.object_store.specs.Tokens.{IsOf};
-ghost use Rattle.size_window.specs.Turn.{HasLabels, entry_of};
+ghost use Rattle.size_window.specs.Turn.{EntryHasLabels, entry_of};
 ghost use Rattle.session_pool.specs.Member.{counts_of};
 ghost use Rattle.session_pool.specs.Pool.{ending_at};
 ghost use Rattle.call_stages.specs.Refusals.{number_field};
@@ -98,7 +98,7 @@ fn append_entries(
     text: &mut Vec<u8>,
 ) -> Result<(), AllocError>
     requires are_of { All (λ e. IsOf founded.now 0 e.shape.items) entries.now }
-    requires labels { All (HasLabels founded.now.mode) entries.now }
+    requires labels { All (EntryHasLabels founded.now.mode) entries.now }
     ensures { OnOk result ((lines : List ℕ) × Lists founded.now (map entry_of entries.now) lines
         × (text.new.items ≡ text.old.items ++ lines)) }
 {

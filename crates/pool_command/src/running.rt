@@ -3,9 +3,9 @@
 ghost use Rattle.std.specs.Prelude.{◌≡◌, ◌≢◌, ℕ, ◌+◌, ◌-◌, ◌<◌, ◌≤◌, [], ◌∷◌, ◌++◌, List, length};
 ghost use Rattle.std.specs.Prelude.{replicate, IfOk, OnOk, OnErr, IsSome};
 ghost use Rattle.bz_model.specs.Fraction.{IsFractionBits};
-ghost use Rattle.session_pool.specs.Interleaving.{setting, times};
+ghost use Rattle.session_pool.specs.Interleaving.{shared_setting, how_often};
 ghost use Rattle.session_pool.specs.Pool.{ending_at};
-ghost use Rattle.pool_command.specs.Schedule.{all_asked, named};
+ghost use Rattle.pool_command.specs.Schedule.{all_asked, drawings_named};
 ghost use Rattle.pool_command.specs.UnderWay.{asked_by, ended_now, moment, Beginning, IsSoFar};
 ghost use Rattle.pool_command.specs.UnderWay.{IsPoolRunning, IsBrokenPool, IsEnded, CanAsk};
 ghost use Rattle.pool_command.specs.UnderWay.{IsAsked};
@@ -42,19 +42,21 @@ pub(crate) fn take_turns<const F: u32, O: Oracle<F>, S: Shelf, L: Ledger>(
     requires can { CanAsk founded.now (O.spec oracle.old) (O.x oracle.old) (S.content shelf.old)
         count pool.old }
     ensures ended { IfOk result (λ order. (b : Beginning)
-        → IsSoFar b [] (moment (setting (O.spec oracle.old) (O.x oracle.old) F (O.table oracle.old)
+        → IsSoFar b [] (moment (shared_setting (O.spec oracle.old) (O.x oracle.old) F
+        (O.table oracle.old)
         (S.content shelf.old))
         (S.faults shelf.old) (O.cost oracle.old) (O.raised oracle.old) steps.old pool.old)
         → IsEnded b schedule.now count
-        (moment (setting (O.spec oracle.new) (O.x oracle.new) F (O.table oracle.new)
+        (moment (shared_setting (O.spec oracle.new) (O.x oracle.new) F (O.table oracle.new)
         (S.content shelf.new))
         (S.faults shelf.new) (O.cost oracle.new) (O.raised oracle.new) steps.new pool.new)
         order.items) }
     ensures broken { OnErr result ((b : Beginning)
-        → IsSoFar b [] (moment (setting (O.spec oracle.old) (O.x oracle.old) F (O.table oracle.old)
+        → IsSoFar b [] (moment (shared_setting (O.spec oracle.old) (O.x oracle.old) F
+        (O.table oracle.old)
         (S.content shelf.old))
         (S.faults shelf.old) (O.cost oracle.old) (O.raised oracle.old) steps.old pool.old)
-        → IsBrokenPool b (moment (setting (O.spec oracle.new) (O.x oracle.new) F
+        → IsBrokenPool b (moment (shared_setting (O.spec oracle.new) (O.x oracle.new) F
         (O.table oracle.new)
         (S.content shelf.new))
         (S.faults shelf.new) (O.cost oracle.new) (O.raised oracle.new) steps.new pool.new)) }
@@ -88,20 +90,22 @@ fn follow<const F: u32, O: Oracle<F>, S: Shelf, L: Ledger>(
         count pool.old }
     ensures under_way { OnOk result ((b : Beginning) (asked : List ℕ)
         → IsPoolRunning b asked (moment
-        (setting (O.spec oracle.old) (O.x oracle.old) F (O.table oracle.old) (S.content shelf.old))
+        (shared_setting (O.spec oracle.old) (O.x oracle.old) F (O.table oracle.old)
+        (S.content shelf.old))
         (S.faults shelf.old) (O.cost oracle.old) (O.raised oracle.old) steps.old pool.old)
         order.old.items
-        → IsPoolRunning b (asked ++ named count schedule.now)
-        (moment (setting (O.spec oracle.new) (O.x oracle.new) F (O.table oracle.new)
+        → IsPoolRunning b (asked ++ drawings_named count schedule.now)
+        (moment (shared_setting (O.spec oracle.new) (O.x oracle.new) F (O.table oracle.new)
         (S.content shelf.new))
         (S.faults shelf.new) (O.cost oracle.new) (O.raised oracle.new) steps.new pool.new)
         order.new.items) }
     ensures broken { OnErr result ((b : Beginning) (asked : List ℕ)
         → IsPoolRunning b asked (moment
-        (setting (O.spec oracle.old) (O.x oracle.old) F (O.table oracle.old) (S.content shelf.old))
+        (shared_setting (O.spec oracle.old) (O.x oracle.old) F (O.table oracle.old)
+        (S.content shelf.old))
         (S.faults shelf.old) (O.cost oracle.old) (O.raised oracle.old) steps.old pool.old)
         order.old.items
-        → IsBrokenPool b (moment (setting (O.spec oracle.new) (O.x oracle.new) F
+        → IsBrokenPool b (moment (shared_setting (O.spec oracle.new) (O.x oracle.new) F
         (O.table oracle.new)
         (S.content shelf.new))
         (S.faults shelf.new) (O.cost oracle.new) (O.raised oracle.new) steps.new pool.new)) }
@@ -132,11 +136,12 @@ fn finish_all<const F: u32, O: Oracle<F>, S: Shelf, L: Ledger>(
         count pool.old }
     ensures under_way { OnOk result ((b : Beginning) (asked : List ℕ)
         → IsPoolRunning b asked (moment
-        (setting (O.spec oracle.old) (O.x oracle.old) F (O.table oracle.old) (S.content shelf.old))
+        (shared_setting (O.spec oracle.old) (O.x oracle.old) F (O.table oracle.old)
+        (S.content shelf.old))
         (S.faults shelf.old) (O.cost oracle.old) (O.raised oracle.old) steps.old pool.old)
         order.old.items
         → IsPoolRunning b (all_asked (asked_by pool.new) asked count)
-        (moment (setting (O.spec oracle.new) (O.x oracle.new) F (O.table oracle.new)
+        (moment (shared_setting (O.spec oracle.new) (O.x oracle.new) F (O.table oracle.new)
         (S.content shelf.new))
         (S.faults shelf.new) (O.cost oracle.new) (O.raised oracle.new) steps.new pool.new)
         order.new.items) }
@@ -144,10 +149,11 @@ fn finish_all<const F: u32, O: Oracle<F>, S: Shelf, L: Ledger>(
         → IsSome (ending_at pool.new number)) }
     ensures broken { OnErr result ((b : Beginning) (asked : List ℕ)
         → IsPoolRunning b asked (moment
-        (setting (O.spec oracle.old) (O.x oracle.old) F (O.table oracle.old) (S.content shelf.old))
+        (shared_setting (O.spec oracle.old) (O.x oracle.old) F (O.table oracle.old)
+        (S.content shelf.old))
         (S.faults shelf.old) (O.cost oracle.old) (O.raised oracle.old) steps.old pool.old)
         order.old.items
-        → IsBrokenPool b (moment (setting (O.spec oracle.new) (O.x oracle.new) F
+        → IsBrokenPool b (moment (shared_setting (O.spec oracle.new) (O.x oracle.new) F
         (O.table oracle.new)
         (S.content shelf.new))
         (S.faults shelf.new) (O.cost oracle.new) (O.raised oracle.new) steps.new pool.new)) }
@@ -179,22 +185,24 @@ fn finish<const F: u32, O: Oracle<F>, S: Shelf, L: Ledger>(
         count pool.old }
     ensures under_way { OnOk result ((b : Beginning) (asked : List ℕ)
         → IsPoolRunning b asked (moment
-        (setting (O.spec oracle.old) (O.x oracle.old) F (O.table oracle.old) (S.content shelf.old))
+        (shared_setting (O.spec oracle.old) (O.x oracle.old) F (O.table oracle.old)
+        (S.content shelf.old))
         (S.faults shelf.old) (O.cost oracle.old) (O.raised oracle.old) steps.old pool.old)
         order.old.items
         → IsPoolRunning b (asked ++ replicate
-        (asked_by pool.new number - times number asked) number)
-        (moment (setting (O.spec oracle.new) (O.x oracle.new) F (O.table oracle.new)
+        (asked_by pool.new number - how_often number asked) number)
+        (moment (shared_setting (O.spec oracle.new) (O.x oracle.new) F (O.table oracle.new)
         (S.content shelf.new))
         (S.faults shelf.new) (O.cost oracle.new) (O.raised oracle.new) steps.new pool.new)
         order.new.items) }
     ensures finished { OnOk result (IsFinished pool.old number pool.new) }
     ensures broken { OnErr result ((b : Beginning) (asked : List ℕ)
         → IsPoolRunning b asked (moment
-        (setting (O.spec oracle.old) (O.x oracle.old) F (O.table oracle.old) (S.content shelf.old))
+        (shared_setting (O.spec oracle.old) (O.x oracle.old) F (O.table oracle.old)
+        (S.content shelf.old))
         (S.faults shelf.old) (O.cost oracle.old) (O.raised oracle.old) steps.old pool.old)
         order.old.items
-        → IsBrokenPool b (moment (setting (O.spec oracle.new) (O.x oracle.new) F
+        → IsBrokenPool b (moment (shared_setting (O.spec oracle.new) (O.x oracle.new) F
         (O.table oracle.new)
         (S.content shelf.new))
         (S.faults shelf.new) (O.cost oracle.new) (O.raised oracle.new) steps.new pool.new)) }
@@ -226,21 +234,23 @@ fn ask<const F: u32, O: Oracle<F>, S: Shelf, L: Ledger>(
         count pool.old }
     ensures under_way { OnOk result ((b : Beginning) (asked : List ℕ)
         → IsPoolRunning b asked (moment
-        (setting (O.spec oracle.old) (O.x oracle.old) F (O.table oracle.old) (S.content shelf.old))
+        (shared_setting (O.spec oracle.old) (O.x oracle.old) F (O.table oracle.old)
+        (S.content shelf.old))
         (S.faults shelf.old) (O.cost oracle.old) (O.raised oracle.old) steps.old pool.old)
         order.old.items
         → IsPoolRunning b (asked ++ number ∷ [])
-        (moment (setting (O.spec oracle.new) (O.x oracle.new) F (O.table oracle.new)
+        (moment (shared_setting (O.spec oracle.new) (O.x oracle.new) F (O.table oracle.new)
         (S.content shelf.new))
         (S.faults shelf.new) (O.cost oracle.new) (O.raised oracle.new) steps.new pool.new)
         order.new.items) }
     ensures asked { OnOk result (IsAsked pool.old number pool.new) }
     ensures broken { OnErr result ((b : Beginning) (asked : List ℕ)
         → IsPoolRunning b asked (moment
-        (setting (O.spec oracle.old) (O.x oracle.old) F (O.table oracle.old) (S.content shelf.old))
+        (shared_setting (O.spec oracle.old) (O.x oracle.old) F (O.table oracle.old)
+        (S.content shelf.old))
         (S.faults shelf.old) (O.cost oracle.old) (O.raised oracle.old) steps.old pool.old)
         order.old.items
-        → IsBrokenPool b (moment (setting (O.spec oracle.new) (O.x oracle.new) F
+        → IsBrokenPool b (moment (shared_setting (O.spec oracle.new) (O.x oracle.new) F
         (O.table oracle.new)
         (S.content shelf.new))
         (S.faults shelf.new) (O.cost oracle.new) (O.raised oracle.new) steps.new pool.new)) }
@@ -271,21 +281,21 @@ fn turn_once<const F: u32, O: Oracle<F>, S: Shelf, L: Ledger>(
     requires can { CanAsk founded.now (O.spec oracle.old) (O.x oracle.old) (S.content shelf.old)
         count pool.old }
     ensures so_far { OnOk result ((b : Beginning) (asked : List ℕ)
-        → IsSoFar b asked (moment (setting (O.spec oracle.old) (O.x oracle.old) F
+        → IsSoFar b asked (moment (shared_setting (O.spec oracle.old) (O.x oracle.old) F
         (O.table oracle.old) (S.content shelf.old))
         (S.faults shelf.old) (O.cost oracle.old) (O.raised oracle.old) steps.old pool.old)
         → IsSoFar b (asked ++ number ∷ [])
-        (moment (setting (O.spec oracle.new) (O.x oracle.new) F (O.table oracle.new)
+        (moment (shared_setting (O.spec oracle.new) (O.x oracle.new) F (O.table oracle.new)
         (S.content shelf.new))
         (S.faults shelf.new) (O.cost oracle.new) (O.raised oracle.new) steps.new pool.new)) }
     ensures asked { OnOk result (IsAsked pool.old number pool.new) }
     ensures ends { IfOk result (λ ends. ends
         ≡ ended_now (ending_at pool.old number) (ending_at pool.new number)) }
     ensures no_memory { OnErr result ((b : Beginning) (asked : List ℕ)
-        → IsSoFar b asked (moment (setting (O.spec oracle.old) (O.x oracle.old) F
+        → IsSoFar b asked (moment (shared_setting (O.spec oracle.old) (O.x oracle.old) F
         (O.table oracle.old) (S.content shelf.old))
         (S.faults shelf.old) (O.cost oracle.old) (O.raised oracle.old) steps.old pool.old)
-        → IsSoFar b asked (moment (setting (O.spec oracle.new) (O.x oracle.new) F
+        → IsSoFar b asked (moment (shared_setting (O.spec oracle.new) (O.x oracle.new) F
         (O.table oracle.new) (S.content shelf.new))
         (S.faults shelf.new) (O.cost oracle.new) (O.raised oracle.new) steps.new pool.new)) }
     ensures can { CanAsk founded.now (O.spec oracle.new) (O.x oracle.new) (S.content shelf.new)

@@ -9,7 +9,7 @@ use Rattle.object_store.specs.declared.token.Token.{Token}
 use Rattle.object_store.specs.Tokens.{size_of, IsOf}
 use Rattle.rank_tables.specs.RankOrder.{IsCount, IsRanked}
 use Rattle.rank_tables.specs.Shapes.{IsRankOf}
-use Rattle.rank_tables.specs.Tables.{Table, AreCounts, IsNumberOf, told}
+use Rattle.rank_tables.specs.Tables.{Table, AreCounts, IsNumberOf, count_told}
 use Rattle.call_stages.specs.Outcomes.{Says}
 use Rattle.call_stages.specs.declared.status.Status.{Status}
 use Rattle.call_stages.specs.Lines.{feed, end_done_line, lines_below}
@@ -26,12 +26,12 @@ module _ (s : Spec) (sound : IsSound s) (most : ℕ) (t : Table) (are : AreCount
   body_has_row body is = let inside = body_in_range s sound 0 body is in let nodes = are.each_node in omega (arith, inside, nodes)
 
   -- its number is the count
-  pub count_of : (body n : ℕ) → body_of s 0 ≡ Some body → n ≤ most → IsCount s body n (told t body n)
+  pub count_of : (body n : ℕ) → body_of s 0 ≡ Some body → n ≤ most → IsCount s body n (count_told t body n)
   count_of body n is le = are.counts body n (body_in_range s sound 0 body is) le
 
   -- the counts are printed
-  pub counts_printed : (body : ℕ) (text : List ℕ) → body_of s 0 ≡ Some body → text ≡ counts_text (told t body) most → CountsPrinted s most Status.Done text 0
-  counts_printed body text is same = counts.printed (told t body) (record { body = body; is_body = is; counts = λ n le. count_of body n is le }) (record { status_is = refl; text_is = same; ticks_are = refl })
+  pub counts_printed : (body : ℕ) (text : List ℕ) → body_of s 0 ≡ Some body → text ≡ counts_text (count_told t body) most → CountsPrinted s most Status.Done text 0
+  counts_printed body text is same = counts.printed (count_told t body) (record { body = body; is_body = is; counts = λ n le. count_of body n is le }) (record { status_is = refl; text_is = same; ticks_are = refl })
 
 -- the lines of the sizes were appended to no text, and the last line to them
 pub counts_joined : (count : ℕ → ℕ) (start : List ℕ) (most : ℕ) (text page : List ℕ) → start ≡ [] → text ≡ start ++ lines_below (size_line count) (most + 1) → page ≡ text ++ end_done_line → page ≡ counts_text count most

@@ -7,7 +7,7 @@ use Rattle.object_store.specs.declared.token.Token.{Token}
 use Rattle.object_store.specs.Tokens.{IsOf, size_of}
 use Rattle.object_text.specs.Reading.{IsRead}
 use Rattle.rank_tables.specs.Refusals.{HasPlainRanges, HasSmallCounts}
-use Rattle.rank_tables.specs.Tables.{TellsFault}
+use Rattle.rank_tables.specs.Tables.{TellsRankFault}
 use Rattle.rank_tables.specs.declared.rank_tables.RankFault.{RankFault}
 use Rattle.rank_tables.specs.declared.rank_tables.RankFault.TheVariants.{Labelled, Ranged, TooMany, OutOfMemory}
 use Rattle.call_stages.specs.Outcomes.{Outcome, Never, Says}
@@ -28,14 +28,14 @@ use Rattle.rank_commands.specs.RankStages.{too_large_line, Rankable, Counted, Si
 use Rattle.rank_commands.specs.RankStages as stages
 
 -- tables are refused for labels, for a range, or for a count that is too great
-pub tables_refused : (s : Spec) (most : ℕ) (fault : RankFault) (status : Status) (text : List ℕ) → fault ≢ OutOfMemory → TellsFault s most fault → Says Status.RankRefused (fault_line fault) 0 status text 0 → Rankable s (Counted s most Never) status text 0
+pub tables_refused : (s : Spec) (most : ℕ) (fault : RankFault) (status : Status) (text : List ℕ) → fault ≢ OutOfMemory → TellsRankFault s most fault → Says Status.RankRefused (fault_line fault) 0 status text 0 → Rankable s (Counted s most Never) status text 0
 tables_refused s most Labelled status text memory tells says = stages.labelled tells says
 tables_refused s most (Ranged e) status text memory tells says = stages.ranged e.0 tells.0 tells.1 says
 tables_refused s most (TooMany e n) status text memory tells says = stages.plain tells.0 tells.1 (stages.too_many e.0 n tells.2 says)
 tables_refused s most OutOfMemory status text memory tells says = absurd (memory refl)
 
 -- what concerns no count is refused for labels or for a range
-pub form_refused : (s : Spec) (fault : RankFault) (status : Status) (text : List ℕ) → ((e n : ℕ) → ¬ (fault ≡ TooMany (record { 0 = e }) n)) → fault ≢ OutOfMemory → TellsFault s 0 fault → Says Status.RankRefused (fault_line fault) 0 status text 0 → Rankable s Never status text 0
+pub form_refused : (s : Spec) (fault : RankFault) (status : Status) (text : List ℕ) → ((e n : ℕ) → ¬ (fault ≡ TooMany (record { 0 = e }) n)) → fault ≢ OutOfMemory → TellsRankFault s 0 fault → Says Status.RankRefused (fault_line fault) 0 status text 0 → Rankable s Never status text 0
 form_refused s Labelled status text counts memory tells says = stages.labelled tells says
 form_refused s (Ranged e) status text counts memory tells says = stages.ranged e.0 tells.0 tells.1 says
 form_refused s (TooMany e n) status text counts memory tells says = absurd (counts e.0 n refl)

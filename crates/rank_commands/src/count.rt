@@ -1,6 +1,6 @@
 //! The command `count`: how many objects of each size there are.
 ghost use Rattle.std.specs.Prelude.{◌≡◌, ℕ, ◌<◌, ◌≤◌, ◌++◌, List, IfOk, IfErr, OnOk, string_bytes};
-ghost use Rattle.rank_tables.specs.Tables.{AreCounts, told};
+ghost use Rattle.rank_tables.specs.Tables.{AreCounts, count_told};
 ghost use Rattle.call_stages.specs.Ends.{EndsBy, output};
 ghost use Rattle.call_stages.specs.Lines.{lines_below};
 ghost use Rattle.call_stages.specs.Reports.{refusal_status, refusal_text};
@@ -106,7 +106,7 @@ fn append_counts(
     requires node { node.0 < tables.now.counts.nodes }
     requires sizes { sizes ≤ tables.now.counts.sizes }
     ensures { OnOk result (text.new.items
-        ≡ text.old.items ++ lines_below (size_line (told tables.now node.0)) sizes) }
+        ≡ text.old.items ++ lines_below (size_line (count_told tables.now node.0)) sizes) }
 {
     for size in 0..sizes {
         let line = line_of_size(alloc, size, tables.count(node, size))?;

@@ -2,7 +2,7 @@
 ghost use Rattle.std.specs.Prelude.{◌≡◌, ◌≤◌, IfOk, IfErr, OnOk, OnErr};
 ghost use Rattle.bz_model.specs.Spec as model;
 ghost use Rattle.rank_tables.specs.Refusals.{HasPlainRanges, HasSmallCounts};
-ghost use Rattle.rank_tables.specs.Tables.{AreCounts, TellsFault};
+ghost use Rattle.rank_tables.specs.Tables.{AreCounts, TellsRankFault};
 ghost use Rattle.call_stages.specs.Outcomes.{Never};
 ghost use Rattle.call_stages.specs.Reports.{refusal_status, refusal_text};
 ghost use Rattle.rank_commands.specs.RankStages.{Rankable, Counted};
@@ -30,7 +30,7 @@ pub(crate) fn rankable(alloc: Global, founded: &Founded) -> Result<(), Refusal>
 
 /// Refuses what a table of size 0 was refused for, but for a count.
 fn judged_form(alloc: Global, founded: &Founded, fault: RankFault) -> Result<(), Refusal>
-    requires told { TellsFault founded.now 0 fault }
+    requires told { TellsRankFault founded.now 0 fault }
     ensures unlabelled { OnOk result (founded.now.mode ≡ model.Mode.Unlabelled) }
     ensures plain { OnOk result (HasPlainRanges founded.now) }
     ensures err { IfErr result (λ e.

@@ -7,7 +7,7 @@ use Rattle.bz_laws.proofs.Lists.{all-members}
 use Rattle.bz_laws.proofs.Samples.{AllByRecursion-weaker, AllByRecursion-both}
 use Rattle.class_system.specs.Sound.{IsSound}
 use Rattle.rank_tables.specs.Capped.{Tells}
-use Rattle.rank_tables.specs.Filling.{class_number, HasTails, ChangesSize}
+use Rattle.rank_tables.specs.Filling.{count_of_class, HasTails, ChangesSize}
 use Rattle.rank_tables.specs.Grids.{Cells, cell, number_of, number_at, AreSuffixes}
 use Rattle.rank_tables.specs.TableRule.{rule}
 use Rattle.rank_tables.specs.Visits.{product_parts}
@@ -19,7 +19,7 @@ use Rattle.rank_tables.proofs.Same.{rule-same, suffixes-same, all-of}
 pub record PassedTo (s : Spec) (classes : List (Option ℕ)) (old_rows old_tails rows tails : Cells) (n e : ℕ) : Type 0 where
   pub in_rows : ChangesSize n old_rows rows
   pub in_tails : ChangesSize n old_tails tails
-  pub numbers : (d : ℕ) (node : Node) → d < e → node_at s d ≡ Some node → Tells (cell rows d n) (rule (λ c m. class_number classes c) (number_at rows) d node n)
+  pub numbers : (d : ℕ) (node : Node) → d < e → node_at s d ≡ Some node → Tells (cell rows d n) (rule (λ c m. count_of_class classes c) (number_at rows) d node n)
   pub rests : (d : ℕ) → d < e → AreSuffixes (number_at rows) tails (product_parts (node_at s d)) n
 
 -- Before the first node nothing is changed.
@@ -47,7 +47,7 @@ lesser-kept s old_rows old_tails rows tails n m in_rows in_tails fits tail_fits 
 module _ (s : Spec) (sound : IsSound s) (classes : List (Option ℕ)) (old_rows old_tails rows tails new_rows new_tails : Cells) (n e : ℕ) (v : Option ℕ)
     (fits : n < old_rows.sizes) (tail_fits : n < old_tails.sizes)
     (from : PassedTo s classes old_rows old_tails rows tails n e)
-    (number : (node : Node) → node_at s e ≡ Some node → Tells v (rule (λ c m. class_number classes c) (number_at rows) e node n))
+    (number : (node : Node) → node_at s e ≡ Some node → Tells v (rule (λ c m. count_of_class classes c) (number_at rows) e node n))
     (rest : AreSuffixes (number_at rows) new_tails (product_parts (node_at s e)) n)
     (tail_nodes : new_tails.nodes ≡ tails.nodes) (tail_sizes : new_tails.sizes ≡ tails.sizes)
     (other_tails : (d m : ℕ) → m < tails.sizes → (¬ (IsOneOf (product_parts (node_at s e)) d)) ⊎ (m ≢ n) → cell new_tails d m ≡ cell tails d m)
@@ -63,18 +63,18 @@ module _ (s : Spec) (sound : IsSound s) (classes : List (Option ℕ)) (old_rows 
   kept-number : (d m : ℕ) → m ≤ n → (d ≢ e) ⊎ (m ≢ n) → number_at rows d m ≡ number_at new_rows d m
   kept-number d m le apart = let lt = row_fits in ap number_of (sym (other_rows d m (omega arith) apart))
 
-  kept-rule : (d : ℕ) (node : Node) → d ≤ e → node_at s d ≡ Some node → rule (λ c m. class_number classes c) (number_at rows) d node n ≡ rule (λ c m. class_number classes c) (number_at new_rows) d node n
-  kept-rule d node le at = rule-same (λ c m. class_number classes c) (λ c m. class_number classes c) (number_at rows) (number_at new_rows) d n node ((laid_out s sound).below d node at)
+  kept-rule : (d : ℕ) (node : Node) → d ≤ e → node_at s d ≡ Some node → rule (λ c m. count_of_class classes c) (number_at rows) d node n ≡ rule (λ c m. count_of_class classes c) (number_at new_rows) d node n
+  kept-rule d node le at = rule-same (λ c m. count_of_class classes c) (λ c m. count_of_class classes c) (number_at rows) (number_at new_rows) d n node ((laid_out s sound).below d node at)
       (λ p m lt small. kept-number p m small (inl (λ same. let z : p ≡ e = same in omega arith)))
       (λ m lt. kept-number d m (omega arith) (inr (λ same. let z : m ≡ n = same in omega arith)))
       (λ c. refl)
 
-  numbers_below : (d : ℕ) (node : Node) → d < suc e → node_at s d ≡ Some node → Tells (cell new_rows d n) (rule (λ c m. class_number classes c) (number_at new_rows) d node n)
+  numbers_below : (d : ℕ) (node : Node) → d < suc e → node_at s d ≡ Some node → Tells (cell new_rows d n) (rule (λ c m. count_of_class classes c) (number_at new_rows) d node n)
   numbers_below d node lt at = elim (cases_lt d e) [
-    | inl less ↦ (let k = row_fits in subst (Tells (cell new_rows d n)) (kept-rule d node (omega arith) at) (subst (λ w. Tells w (rule (λ c m. class_number classes c) (number_at rows) d node n)) (sym (other_rows d n k (inl (λ same. let z : d ≡ e = same in omega arith)))) (from.numbers d node less at)))
+    | inl less ↦ (let k = row_fits in subst (Tells (cell new_rows d n)) (kept-rule d node (omega arith) at) (subst (λ w. Tells w (rule (λ c m. count_of_class classes c) (number_at rows) d node n)) (sym (other_rows d n k (inl (λ same. let z : d ≡ e = same in omega arith)))) (from.numbers d node less at)))
     | inr ge ↦ (let q : e ≡ d = omega arith in
-        subst (λ z. (node : Node) → node_at s z ≡ Some node → Tells (cell new_rows z n) (rule (λ c m. class_number classes c) (number_at new_rows) z node n)) q
-        (λ k is. subst (Tells (cell new_rows e n)) (kept-rule e k (omega arith) is) (subst (λ w. Tells w (rule (λ c m. class_number classes c) (number_at rows) e k n)) (sym here) (number k is)))
+        subst (λ z. (node : Node) → node_at s z ≡ Some node → Tells (cell new_rows z n) (rule (λ c m. count_of_class classes c) (number_at new_rows) z node n)) q
+        (λ k is. subst (Tells (cell new_rows e n)) (kept-rule e k (omega arith) is) (subst (λ w. Tells w (rule (λ c m. count_of_class classes c) (number_at rows) e k n)) (sym here) (number k is)))
         node at)
   ]
 

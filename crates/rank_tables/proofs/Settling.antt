@@ -8,9 +8,9 @@ use Rattle.bz_model.specs.Object.{Object}
 use Rattle.bz_model.specs.Totals.{IsSample}
 use Rattle.bz_laws.specs.Sound.{IsLaidOut}
 use Rattle.rank_tables.specs.Capped.{Tells, IsSameUpTo, AreRows, AreCounted, IsOfClass, IsSettled}
-use Rattle.rank_tables.specs.Filling.{class_number, IsPass, ChangesSize}
+use Rattle.rank_tables.specs.Filling.{count_of_class, IsPass, ChangesSize}
 use Rattle.rank_tables.specs.Grids.{Cells, cell, number_of, number_at}
-use Rattle.rank_tables.specs.TableRule.{rule, entry_of, entries, IsRankable}
+use Rattle.rank_tables.specs.TableRule.{rule, entry_of_body, entries, IsRankable}
 use Rattle.rank_tables.proofs.Reached.{entries-reached}
 use Rattle.rank_tables.proofs.Same.{rule-same}
 
@@ -24,15 +24,15 @@ pub record AreReachedAt (s : Spec) (n : ℕ) (numbers : ℕ → ℕ) : Type 0 wh
   pub number : (c : ℕ) → IsSameUpTo cap (length (list c)) (numbers c)
 
 -- At first no class has an object.
-none-number : (k c : ℕ) → class_number (replicate k (Some 0)) c ≡ 0
+none-number : (k c : ℕ) → count_of_class (replicate k (Some 0)) c ≡ 0
 none-number zero c = refl
 none-number (suc k) zero = refl
 none-number (suc k) (suc c) = none-number k c
 
 -- At the start, when every class has the number 0 at size n, these numbers are reached, by empty
 -- lists of objects.
-pub none-reached : (s : Spec) (n k : ℕ) (classes : List (Option ℕ)) → classes ≡ replicate k (Some 0) → AreReachedAt s n (class_number classes)
-none-reached s n k classes is = subst (λ z. AreReachedAt s n (class_number z)) (sym is) (record {
+pub none-reached : (s : Spec) (n k : ℕ) (classes : List (Option ℕ)) → classes ≡ replicate k (Some 0) → AreReachedAt s n (count_of_class classes)
+none-reached s n k classes is = subst (λ z. AreReachedAt s n (count_of_class z)) (sym is) (record {
   list = λ c. [];
   sample = λ c. record { distinct = tt; each = tt };
   number = λ c. record { same = inl (sym (none-number k c)) };
@@ -41,7 +41,7 @@ none-reached s n k classes is = subst (λ z. AreReachedAt s n (class_number z)) 
 entries-same : (s : Spec) (t u : ℕ → ℕ → ℕ) (n c : ℕ) → ((e : ℕ) → t e n ≡ u e n) → entries s t c n ≡ entries s u c n
 entries-same s t u n c same = go (body_of s c)
   where
-    go : (b : Option ℕ) → entry_of t b n ≡ entry_of u b n
+    go : (b : Option ℕ) → entry_of_body t b n ≡ entry_of_body u b n
     go None = refl
     go (Some body) = same body
 
@@ -69,10 +69,10 @@ same-tells (Some k) x h = record { same = inl (sym h) }
 
 -- One pass at size n, over settled lesser sizes and reached numbers of the classes.
 module _ (s : Spec) (laid_out : IsLaidOut s) (rankable : IsRankable s) (n : ℕ) (rows tails : Cells) (classes : List (Option ℕ))
-    (below : (m : ℕ) → m < n → IsSettled s cap m (number_at rows)) (here : AreReachedAt s n (class_number classes)) (pass : IsPass s classes rows tails n) where
+    (below : (m : ℕ) → m < n → IsSettled s cap m (number_at rows)) (here : AreReachedAt s n (count_of_class classes)) (pass : IsPass s classes rows tails n) where
   abbrev entry_by : (c m : ℕ) → (m < n) ⊎ (n ≤ m) → ℕ
   entry_by c m (inl lt) = entries s (number_at rows) c m
-  entry_by c m (inr ge) = class_number classes c
+  entry_by c m (inr ge) = count_of_class classes c
 
   abbrev list_by : (c m : ℕ) → (m < n) ⊎ (n ≤ m) → List Object
   list_by c m (inl lt) = (below m lt).reached.list c m
@@ -86,7 +86,7 @@ module _ (s : Spec) (laid_out : IsLaidOut s) (rankable : IsRankable s) (n : ℕ)
   entry-below c m lt (inl k) = refl
   entry-below c m lt (inr ge) = absurd (omega arith)
 
-  entry-here : (c : ℕ) → (d : (n < n) ⊎ (n ≤ n)) → entry_by c n d ≡ class_number classes c
+  entry-here : (c : ℕ) → (d : (n < n) ⊎ (n ≤ n)) → entry_by c n d ≡ count_of_class classes c
   entry-here c (inl k) = absurd (omega arith)
   entry-here c (inr ge) = refl
 
@@ -108,9 +108,9 @@ module _ (s : Spec) (laid_out : IsLaidOut s) (rankable : IsRankable s) (n : ℕ)
   row_by e m node le at (inr ge) =
       let q : n ≡ m = omega arith in
       subst (λ z. IsSameUpTo cap (rule entry (number_at rows) e node z) (number_at rows e z)) q
-      (same-relation (rule (λ c j. class_number classes c) (number_at rows) e node n) (number_at rows e n) (rule entry (number_at rows) e node n) (number_at rows e n)
-      (rule-same (λ c j. class_number classes c) entry (number_at rows) (number_at rows) e n node (laid_out.below e node at) (λ p j k small. refl) (λ j k. refl) (λ c. sym (entry-here c (cases_lt n n)))) refl
-      (same-tells (cell rows e n) (rule (λ c j. class_number classes c) (number_at rows) e node n) (pass.each_number e node at)))
+      (same-relation (rule (λ c j. count_of_class classes c) (number_at rows) e node n) (number_at rows e n) (rule entry (number_at rows) e node n) (number_at rows e n)
+      (rule-same (λ c j. count_of_class classes c) entry (number_at rows) (number_at rows) e n node (laid_out.below e node at) (λ p j k small. refl) (λ j k. refl) (λ c. sym (entry-here c (cases_lt n n)))) refl
+      (same-tells (cell rows e n) (rule (λ c j. count_of_class classes c) (number_at rows) e node n) (pass.each_number e node at)))
 
   are_rows : AreRows s cap n entry (number_at rows)
   are_rows = record { rows = λ e m node le at. row_by e m node le at (cases_lt m n) }
@@ -121,10 +121,10 @@ module _ (s : Spec) (laid_out : IsLaidOut s) (rankable : IsRankable s) (n : ℕ)
 
   -- the classes take the bodies' numbers
   module _ (new : List (Option ℕ)) (long : length new ≡ length s.bodies) (taken : (c body : ℕ) → body_of s c ≡ Some body → slice_get new c ≡ Some (cell rows body n)) where
-    taken-number : (c : ℕ) → entries s (number_at rows) c n ≡ class_number new c
+    taken-number : (c : ℕ) → entries s (number_at rows) c n ≡ count_of_class new c
     taken-number c = go (body_of s c) refl
       where
-        go : (b : Option ℕ) → body_of s c ≡ b → entry_of (number_at rows) b n ≡ class_number new c
+        go : (b : Option ℕ) → body_of s c ≡ b → entry_of_body (number_at rows) b n ≡ count_of_class new c
         go (Some body) at = sym (ap (λ o. number_of (unwrap_or o (Some 0))) (taken c body at))
         go None at = elim (cases_lt c (length new)) [
           | inl lt ↦ absurd (none_inside s.bodies c (omega arith) at)
@@ -136,11 +136,11 @@ module _ (s : Spec) (laid_out : IsLaidOut s) (rankable : IsRankable s) (n : ℕ)
             none_inside (x ∷ xs) zero lt is = absurd (cc)
             none_inside (x ∷ xs) (suc i) lt is = none_inside xs i (let k : length (x ∷ xs) ≡ suc (length xs) = refl in omega arith) is
 
-    pub taken-reached : AreReachedAt s n (class_number new)
+    pub taken-reached : AreReachedAt s n (count_of_class new)
     taken-reached = record {
       list = λ c. next-reached.list c n;
       sample = λ c. next-reached.sample c n (omega arith);
-      number = λ c. same-relation (length (next-reached.list c n)) (entries s (number_at rows) c n) (length (next-reached.list c n)) (class_number new c) refl (taken-number c) (next-reached.number c n (omega arith));
+      number = λ c. same-relation (length (next-reached.list c n)) (entries s (number_at rows) c n) (length (next-reached.list c n)) (count_of_class new c) refl (taken-number c) (next-reached.number c n (omega arith));
     }
 
     -- where they had them before, the size is settled
@@ -156,7 +156,7 @@ module _ (s : Spec) (laid_out : IsLaidOut s) (rankable : IsRankable s) (n : ℕ)
       where
         known : (c m : ℕ) → m ≤ n → (d : (m < n) ⊎ (n ≤ m)) → entry_by c m d ≡ entries s (number_at rows) c m
         known c m le (inl lt) = refl
-        known c m le (inr ge) = let q : n ≡ m = omega arith in subst (λ z. class_number classes c ≡ entries s (number_at rows) c z) q (ap (λ z. class_number z c) (sym same) ∙ sym (taken-number c))
+        known c m le (inr ge) = let q : n ≡ m = omega arith in subst (λ z. count_of_class classes c ≡ entries s (number_at rows) c z) q (ap (λ z. count_of_class z c) (sym same) ∙ sym (taken-number c))
 
 -- The lesser sizes stay settled where one size alone is changed.
 pub below-kept : (s : Spec) → IsLaidOut s → (n : ℕ) (old new : Cells) → n < old.sizes → ChangesSize n old new → ((m : ℕ) → m < n → IsSettled s cap m (number_at old)) → (m : ℕ) → m < n → IsSettled s cap m (number_at new)

@@ -9,7 +9,7 @@ use Rattle.rank_tables.specs.Capped.{Tells}
 use Rattle.rank_tables.specs.Grids.{Cells, cell, number_at, TellRow, AreSuffixes}
 use Rattle.rank_tables.specs.RankSteps.{IsTold, TellStack, IsJoined}
 use Rattle.rank_tables.specs.TableRule.{one_at, sum_below, tuples}
-use Rattle.rank_tables.specs.Visits.{Visit, Told, whole_size, tuple_place, list_place, union_parts, product_parts, sequence_part, visited}
+use Rattle.rank_tables.specs.Visits.{Visit, Told, whole_size, tuple_place, list_place, union_summands, product_parts, sequence_part, with_visit}
 use Rattle.rank_tables.specs.declared.places_stack.Placed.{Placed}
 use Rattle.rank_tables.specs.declared.rank_steps.Step.{Step}
 use Rattle.rank_tables.proofs.Cells.{tells-itself}
@@ -28,37 +28,37 @@ halves (x ∷ xs) ys (q ∷ told) h = let k = halves xs ys told h.1 in record { 
 
 module _ (s : Spec) (t : ℕ → ℕ → ℕ) where
   -- a leaf in front
-  pub leaf-taken : (atoms : ℕ) (p : Placed) (old new : List Placed) → p.size ≡ atoms → Tells p.place 0 → new ≡ p ∷ old → (told : List Told) → TellStack old told → TellStack new (visited s t (Visit.Leaf atoms) told)
+  pub leaf-taken : (atoms : ℕ) (p : Placed) (old new : List Placed) → p.size ≡ atoms → Tells p.place 0 → new ≡ p ∷ old → (told : List Told) → TellStack old told → TellStack new (with_visit s t (Visit.Leaf atoms) told)
   leaf-taken atoms p old new size place put told h = subst (λ z. TellStack z (record { size = atoms; place = 0 } ∷ told)) (sym put) (record { size = size; place = place }, h)
 
   -- a pick changes the first
-  pub pick-taken : (e option : ℕ) (parts : List ℕ) (part p : Placed) (old before new : List Placed) → old ≡ part ∷ before → new ≡ p ∷ before → node_at s e ≡ Some (Node.Union parts) → p.size ≡ part.size → ((y : ℕ) → Tells part.place y → Tells p.place (sum_by (λ q. t q part.size) (take option parts) + y)) → (told : List Told) → TellStack old told → TellStack new (visited s t (Visit.Picked e option) told)
+  pub pick-taken : (e option : ℕ) (parts : List ℕ) (part p : Placed) (old before new : List Placed) → old ≡ part ∷ before → new ≡ p ∷ before → node_at s e ≡ Some (Node.Union parts) → p.size ≡ part.size → ((y : ℕ) → Tells part.place y → Tells p.place (sum_by (λ q. t q part.size) (take option parts) + y)) → (told : List Told) → TellStack old told → TellStack new (with_visit s t (Visit.Picked e option) told)
   pick-taken e option parts part p old before new is put at size place told h = go told (subst (λ z. TellStack z told) is h)
     where
-      go : (told : List Told) → TellStack (part ∷ before) told → TellStack new (visited s t (Visit.Picked e option) told)
+      go : (told : List Told) → TellStack (part ∷ before) told → TellStack new (with_visit s t (Visit.Picked e option) told)
       go [] k = elim k [ ]
-      go (q ∷ qs) k = subst (λ z. TellStack z (visited s t (Visit.Picked e option) (q ∷ qs))) (sym put) (
+      go (q ∷ qs) k = subst (λ z. TellStack z (with_visit s t (Visit.Picked e option) (q ∷ qs))) (sym put) (
         record {
           size = size ∙ (k.0).size;
-          place = subst (λ n. Tells p.place (sum_by (λ z. t z n) (take option (union_parts (node_at s e))) + q.place)) (k.0).size
-              (subst (λ ps. Tells p.place (sum_by (λ z. t z part.size) (take option ps) + q.place)) (sym (ap union_parts at)) (place q.place (k.0).place));
+          place = subst (λ n. Tells p.place (sum_by (λ z. t z n) (take option (union_summands (node_at s e))) + q.place)) (k.0).size
+              (subst (λ ps. Tells p.place (sum_by (λ z. t z part.size) (take option ps) + q.place)) (sym (ap union_summands at)) (place q.place (k.0).place));
         },
         k.1,
       )
 
   -- a tuple takes its parts
-  pub tuple-taken : (e : ℕ) (parts : List ℕ) (whole : Placed) (old objects before new : List Placed) → old ≡ objects ++ before → length objects ≡ length parts → new ≡ whole ∷ before → node_at s e ≡ Some (Node.Product parts) → ((told : List Told) → TellStack objects told → IsTold whole (record { size = whole_size told; place = tuple_place t parts told })) → (told : List Told) → TellStack old told → TellStack new (visited s t (Visit.Tupled e) told)
+  pub tuple-taken : (e : ℕ) (parts : List ℕ) (whole : Placed) (old objects before new : List Placed) → old ≡ objects ++ before → length objects ≡ length parts → new ≡ whole ∷ before → node_at s e ≡ Some (Node.Product parts) → ((told : List Told) → TellStack objects told → IsTold whole (record { size = whole_size told; place = tuple_place t parts told })) → (told : List Told) → TellStack old told → TellStack new (with_visit s t (Visit.Tupled e) told)
   tuple-taken e parts whole old objects before new is long put at h told k =
       let p = halves objects before told (subst (λ z. TellStack z told) is k) in
-      subst (λ z. TellStack z (visited s t (Visit.Tupled e) told)) (sym put)
+      subst (λ z. TellStack z (with_visit s t (Visit.Tupled e) told)) (sym put)
       (subst (λ ps. TellStack (whole ∷ before) (record { size = whole_size (take (length ps) told); place = tuple_place t ps (take (length ps) told) } ∷ drop (length ps) told)) (sym (ap product_parts at))
       (subst (λ n. IsTold whole (record { size = whole_size (take n told); place = tuple_place t parts (take n told) })) long (h (take (length objects) told) p.front), subst (λ n. TellStack before (drop n told)) long p.back))
 
   -- a list takes its parts
-  pub list-taken : (e part parts : ℕ) (whole : Placed) (old objects before new : List Placed) → old ≡ objects ++ before → length objects ≡ parts → new ≡ whole ∷ before → node_at s e ≡ Some (Node.Seq part) → ((told : List Told) → TellStack objects told → IsTold whole (record { size = whole_size told; place = list_place t e part told })) → (told : List Told) → TellStack old told → TellStack new (visited s t (Visit.Listed e parts) told)
+  pub list-taken : (e part parts : ℕ) (whole : Placed) (old objects before new : List Placed) → old ≡ objects ++ before → length objects ≡ parts → new ≡ whole ∷ before → node_at s e ≡ Some (Node.Seq part) → ((told : List Told) → TellStack objects told → IsTold whole (record { size = whole_size told; place = list_place t e part told })) → (told : List Told) → TellStack old told → TellStack new (with_visit s t (Visit.Listed e parts) told)
   list-taken e part parts whole old objects before new is long put at h told k =
       let p = halves objects before told (subst (λ z. TellStack z told) is k) in
-      subst (λ z. TellStack z (visited s t (Visit.Listed e parts) told)) (sym put)
+      subst (λ z. TellStack z (with_visit s t (Visit.Listed e parts) told)) (sym put)
       (subst (λ q. TellStack (whole ∷ before) (record { size = whole_size (take parts told); place = list_place t e q (take parts told) } ∷ drop parts told)) (sym (ap sequence_part at))
       (subst (λ n. IsTold whole (record { size = whole_size (take n told); place = list_place t e part (take n told) })) long (h (take (length objects) told) p.front), subst (λ n. TellStack before (drop n told)) long p.back))
 

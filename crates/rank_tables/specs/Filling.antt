@@ -14,8 +14,8 @@ pub record IsGridOf (s : Spec) (n : ℕ) (g : Cells) : Type 0 where
   pub few : g.sizes ≤ 501
 
 -- The number of a class, from those of all classes at one size; 0 past the last class.
-abbrev pub class_number : List (Option ℕ) → ℕ → ℕ
-class_number classes c = number_of (unwrap_or (slice_get classes c) (Some 0))
+abbrev pub count_of_class : List (Option ℕ) → ℕ → ℕ
+count_of_class classes c = number_of (unwrap_or (slice_get classes c) (Some 0))
 
 -- At this size, each part of a product has the number of the lists of one object of it and of each
 -- part behind it.
@@ -27,7 +27,7 @@ HasTails s rows tails n = (e : ℕ)
 -- the other nodes' ones.
 pub record IsPass (s : Spec) (classes : List (Option ℕ)) (rows tails : Cells) (n : ℕ) : Type 0 where
   pub each_number : (e : ℕ) (node : Node) → node_at s e ≡ Some node
-      → Tells (cell rows e n) (rule (λ c m. class_number classes c) (number_at rows) e node n)
+      → Tells (cell rows e n) (rule (λ c m. count_of_class classes c) (number_at rows) e node n)
   pub each_tail : HasTails s rows tails n
 
 -- Nothing but numbers of this size was changed.

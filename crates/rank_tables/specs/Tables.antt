@@ -17,8 +17,8 @@ pub record Table : Type 0 where
   pub tails : Cells
 
 -- The number of a node at a size.
-abbrev pub told : Table → ℕ → ℕ → ℕ
-told table e n = number_at table.counts e n
+abbrev pub count_told : Table → ℕ → ℕ → ℕ
+count_told table e n = number_at table.counts e n
 
 -- No number is missing, and there are at most 501 sizes.
 pub record AreKnown (g : Cells) : Type 0 where
@@ -33,18 +33,18 @@ pub record AreCounts (s : Spec) (most : ℕ) (table : Table) : Type 0 where
   pub plain : HasPlainRanges s
   pub each_node : table.counts.nodes ≡ length s.nodes
   pub each_size : table.counts.sizes ≡ suc most
-  pub counts : (e n : ℕ) → e < length s.nodes → n ≤ most → IsCount s e n (told table e n)
-  pub each_row : IsTable s most (told table)
+  pub counts : (e n : ℕ) → e < length s.nodes → n ≤ most → IsCount s e n (count_told table e n)
+  pub each_row : IsTable s most (count_told table)
   pub each_tail : (n : ℕ) → n ≤ most → HasTails s table.counts table.tails n
 
 -- Why no table is made: the specification is labelled; else the first node whose range isn't plain;
 -- else the first size and node with too many objects.
-abbrev pub TellsFault : Spec → ℕ → RankFault → Type 0
-TellsFault s most Labelled = s.mode ≡ Mode.Labelled
-TellsFault s most (Ranged e) = (s.mode ≡ Mode.Unlabelled) × IsFirstNotPlain s e.0
-TellsFault s most (TooMany e n) = (s.mode ≡ Mode.Unlabelled) × HasPlainRanges s
+abbrev pub TellsRankFault : Spec → ℕ → RankFault → Type 0
+TellsRankFault s most Labelled = s.mode ≡ Mode.Labelled
+TellsRankFault s most (Ranged e) = (s.mode ≡ Mode.Unlabelled) × IsFirstNotPlain s e.0
+TellsRankFault s most (TooMany e n) = (s.mode ≡ Mode.Unlabelled) × HasPlainRanges s
     × IsTooMany s most e.0 n
-TellsFault s most OutOfMemory = Unit {0}
+TellsRankFault s most OutOfMemory = Unit {0}
 
 -- The number is below the count of the class's body at the size.
 pub record IsNumberOf (s : Spec) (c size number : ℕ) : Type 0 where

@@ -66,9 +66,9 @@ list_place t e part (p ∷ ps) = sum_below p.size (λ j. t part j * t e (p.size 
     + p.place * t e (whole_size ps) + list_place t e part ps
 
 -- The parts of a union, of a product and of a sequence.
-abbrev pub union_parts : Option Node → List ℕ
-union_parts (Some (Node.Union parts)) = parts
-union_parts _ = []
+abbrev pub union_summands : Option Node → List ℕ
+union_summands (Some (Node.Union parts)) = parts
+union_summands _ = []
 
 abbrev pub product_parts : Option Node → List ℕ
 product_parts (Some (Node.Product parts)) = parts
@@ -80,16 +80,16 @@ sequence_part _ = 0
 
 -- One visit after those behind it: a leaf is put in front, a pick changes the first, a tuple and a
 -- list take their parts and are put in front.
-abbrev pub visited : Spec → (ℕ → ℕ → ℕ) → Visit → List Told → List Told
-visited s t (Leaf atoms) told = record { size = atoms; place = 0 } ∷ told
-visited s t (Picked e i) [] = []
-visited s t (Picked e i) (p ∷ told) =
+abbrev pub with_visit : Spec → (ℕ → ℕ → ℕ) → Visit → List Told → List Told
+with_visit s t (Leaf atoms) told = record { size = atoms; place = 0 } ∷ told
+with_visit s t (Picked e i) [] = []
+with_visit s t (Picked e i) (p ∷ told) =
     record {
       size = p.size;
       place =
-          sum_by (λ part. t part p.size) (take i (union_parts (node_at s e))) + p.place;
+          sum_by (λ part. t part p.size) (take i (union_summands (node_at s e))) + p.place;
     } ∷ told
-visited s t (Tupled e) told =
+with_visit s t (Tupled e) told =
     record {
       size = whole_size (take (length (product_parts (node_at s e))) told);
       place =
@@ -97,7 +97,7 @@ visited s t (Tupled e) told =
           (length (product_parts (node_at s e))) told);
     }
     ∷ drop (length (product_parts (node_at s e))) told
-visited s t (Listed e k) told =
+with_visit s t (Listed e k) told =
     record {
       size = whole_size (take k told);
       place =
@@ -107,7 +107,7 @@ visited s t (Listed e k) told =
 -- What is left when all visits were taken, the last one first.
 abbrev pub all_visited : Spec → (ℕ → ℕ → ℕ) → List Visit → List Told
 all_visited s t [] = []
-all_visited s t (v ∷ vs) = visited s t v (all_visited s t vs)
+all_visited s t (v ∷ vs) = with_visit s t v (all_visited s t vs)
 
 -- For each object its size and its place are told.
 abbrev pub TellPlaces : Spec → (ℕ → ℕ → ℕ) → List ℕ → Objects → List Told → Type 0

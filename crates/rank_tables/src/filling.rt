@@ -10,7 +10,8 @@ ghost use Rattle.bz_laws.specs.Lists.{IsOneOf};
 ghost use Rattle.bz_model.specs.Spec.{Node, node_at, body_of};
 ghost use Rattle.bz_model.specs.Spec as model;
 ghost use Rattle.rank_tables.specs.Capped.{Tells, IsSettled};
-ghost use Rattle.rank_tables.specs.Filling.{IsGridOf, class_number, HasTails, IsPass, ChangesSize};
+ghost use Rattle.rank_tables.specs.Filling.{IsGridOf, count_of_class, HasTails, IsPass};
+ghost use Rattle.rank_tables.specs.Filling.{ChangesSize};
 ghost use Rattle.rank_tables.specs.Filling.{IsFilledBelow};
 ghost use Rattle.rank_tables.specs.Grids.{cell, number_at, AreSuffixes};
 ghost use Rattle.rank_tables.specs.TableRule.{rule, IsRankable};
@@ -42,7 +43,7 @@ fn number_of_node(
     requires lesser { (m : ℕ) → m < n → AreSuffixes (number_at rows.now) tails.old (product_parts
         (node_at system.now e.0)) m }
     ensures number { (node : Node) → node_at system.now e.0 ≡ Some node → Tells result (rule
-        (λ c m. class_number classes.now c) (number_at rows.now) e.0 node n) }
+        (λ c m. count_of_class classes.now c) (number_at rows.now) e.0 node n) }
     ensures tails { AreSuffixes (number_at rows.now) tails.new (product_parts (node_at system.now
         e.0)) n }
     ensures nodes { tails.new.nodes ≡ tails.old.nodes }

@@ -15,7 +15,7 @@ ghost use Rattle.rank_tables.specs.RankSteps.{IsFirstTold, IsJoined};
 ghost use Rattle.rank_tables.specs.TableRule.{sum_below};
 ghost use Rattle.rank_tables.specs.Unranking.{AreCountedGrids};
 ghost use Rattle.rank_tables.specs.Visits.{Visit as model_visit};
-ghost use Rattle.rank_tables.specs.Visits.{Told, whole_size, tuple_place, list_place, visited};
+ghost use Rattle.rank_tables.specs.Visits.{Told, whole_size, tuple_place, list_place, with_visit};
 ghost use Rattle.rank_tables.specs.Visits.{all_visited};
 
 use crate::capped::{plus, times};
@@ -110,7 +110,7 @@ fn take_step(
 ) -> Result<(), AllocError>
     requires counted { AreCountedGrids system.now counts.now tails.now }
     ensures taken { OnOk result ((told : List Told) → TellStack stack.old told → TellStack stack.new
-        (visited system.now (number_at counts.now) (visit_of step) told)) }
+        (with_visit system.now (number_at counts.now) (visit_of step) told)) }
 {
     match step {
         Step::Leaf(atoms) => {
@@ -136,7 +136,7 @@ fn take_pick(
 ) -> Result<(), AllocError>
     requires nodes { counts.now.nodes ≡ length system.now.nodes }
     ensures taken { OnOk result ((told : List Told) → TellStack stack.old told
-        → TellStack stack.new (visited system.now (number_at counts.now) (model_visit.Picked e.0
+        → TellStack stack.new (with_visit system.now (number_at counts.now) (model_visit.Picked e.0
         option) told)) }
 {
     system.known();
@@ -172,7 +172,7 @@ fn take_tuple(
 ) -> Result<(), AllocError>
     requires counted { AreCountedGrids system.now counts.now tails.now }
     ensures taken { OnOk result ((told : List Told) → TellStack stack.old told → TellStack stack.new
-        (visited system.now (number_at counts.now) (model_visit.Tupled e.0) told)) }
+        (with_visit system.now (number_at counts.now) (model_visit.Tupled e.0) told)) }
 {
     system.known();
     if e.0 >= system.node_count() {
@@ -200,7 +200,7 @@ fn take_list(
     requires nodes { counts.now.nodes ≡ length system.now.nodes }
     requires few { counts.now.sizes ≤ 501 }
     ensures taken { OnOk result ((told : List Told) → TellStack stack.old told → TellStack stack.new
-        (visited system.now (number_at counts.now) (model_visit.Listed e.0 parts) told)) }
+        (with_visit system.now (number_at counts.now) (model_visit.Listed e.0 parts) told)) }
 {
     system.known();
     if e.0 >= system.node_count() {

@@ -8,7 +8,7 @@ ghost use Rattle.object_store.specs.Tokens.{size_of, IsOf};
 ghost use Rattle.rank_tables.specs.RankOrder.{IsCount};
 ghost use Rattle.rank_tables.specs.Refusals.{IsFirstNotPlain, HasPlainRanges, HasSmallCounts};
 ghost use Rattle.rank_tables.specs.Shapes.{IsRankOf};
-ghost use Rattle.rank_tables.specs.Tables.{AreCounts, TellsFault, IsNumberOf, told};
+ghost use Rattle.rank_tables.specs.Tables.{AreCounts, TellsRankFault, IsNumberOf, count_told};
 
 use crate::filling::{first_passing, settle};
 use crate::grid::Grid;
@@ -78,7 +78,7 @@ impl RankTables {
         ensures unlabelled { OnOk result (founded.now.mode ≡ model.Mode.Unlabelled) }
         ensures plain { OnOk result (HasPlainRanges founded.now) }
         ensures fits { OnOk result (HasSmallCounts founded.now most) }
-        ensures fault { IfErr result (TellsFault founded.now most) }
+        ensures fault { IfErr result (TellsRankFault founded.now most) }
     {
         let system = founded.system();
         if let Mode::Labelled = system.mode() {
@@ -95,7 +95,7 @@ impl RankTables {
     pub fn count(&self, e: ExprId, size: u64) -> u128
         requires node { e.0 < self.now.counts.nodes }
         requires size { size < self.now.counts.sizes }
-        ensures told { result ≡ told self.now e.0 size }
+        ensures told { result ≡ count_told self.now e.0 size }
         ensures count { (s : Spec) (most : ℕ) → AreCounts s most self.now → IsCount s e.0 size
             result }
     {
@@ -173,7 +173,7 @@ fn fill(alloc: Global, system: &System, most: u64) -> Result<RankTables, RankFau
     requires plain { HasPlainRanges system.now }
     ensures counts { IfOk result (AreCounts system.now most) }
     ensures fits { OnOk result (HasSmallCounts system.now most) }
-    ensures fault { IfErr result (TellsFault system.now most) }
+    ensures fault { IfErr result (TellsRankFault system.now most) }
 {
     system.known();
     let nodes = system.node_count();

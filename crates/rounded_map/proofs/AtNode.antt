@@ -10,7 +10,7 @@ use Rattle.class_system.specs.Sound.{IsSound}
 use Rattle.class_system.proofs.Results.{zip-at}
 use Rattle.series_bounds.specs.Series.{Kind, counted_down}
 use Rattle.series_bounds.specs.Lists.{total_down, product_down, total_up, product_up}
-use Rattle.rounded_map.specs.RoundedMap.{Setting, value_at, value_down, value_up, values_down, values_up}
+use Rattle.rounded_map.specs.RoundedMap.{Setting, value_at, node_value_down, node_value_up, values_down, values_up}
 use Rattle.rounded_map.proofs.LaidOut.{parts_below}
 
 -- The results stand after those given before.
@@ -65,7 +65,7 @@ same-map xs n d [] below = refl
 same-map xs n d (p ∷ parts) below = λ i. front-at xs n p d below.0 i ∷ same-map xs n d parts below.1 i
 
 -- A node's value is the same from the values before it and from all values.
-value_down-whole : (t : Setting) (classes all : List ℕ) (k : ℕ) (n : Node) (r : Range) → EachPart (λ p. p < k) n → value_down t classes (take k all) n r ≡ value_down t classes all n r
+value_down-whole : (t : Setting) (classes all : List ℕ) (k : ℕ) (n : Node) (r : Range) → EachPart (λ p. p < k) n → node_value_down t classes (take k all) n r ≡ node_value_down t classes all n r
 value_down-whole t classes all k (Node.Empty word) r below = refl
 value_down-whole t classes all k (Node.Atom word) r below = refl
 value_down-whole t classes all k (Node.Class c) r below = refl
@@ -75,24 +75,24 @@ value_down-whole t classes all k (Node.Seq part) r below = ap (counted_down Kind
 value_down-whole t classes all k (Node.Set part) r below = ap (counted_down Kind.Set t.bits r) (front-at all k part 0 below)
 value_down-whole t classes all k (Node.Cyc part) r below = ap (counted_down Kind.Cyc t.bits r) (front-at all k part 0 below)
 
-value_up-whole : (t : Setting) (classes : List ℕ) (all : List (Option ℕ)) (k : ℕ) (n : Node) (r : Range) → EachPart (λ p. p < k) n → value_up t classes (take k all) n r ≡ value_up t classes all n r
+value_up-whole : (t : Setting) (classes : List ℕ) (all : List (Option ℕ)) (k : ℕ) (n : Node) (r : Range) → EachPart (λ p. p < k) n → node_value_up t classes (take k all) n r ≡ node_value_up t classes all n r
 value_up-whole t classes all k (Node.Empty word) r below = refl
 value_up-whole t classes all k (Node.Atom word) r below = refl
 value_up-whole t classes all k (Node.Class c) r below = refl
 value_up-whole t classes all k (Node.Union parts) r below = ap total_up (same-map all k None parts below)
 value_up-whole t classes all k (Node.Product parts) r below = ap (product_up t.bits) (same-map all k None parts below)
-value_up-whole t classes all k (Node.Seq part) r below = λ i. value_up t classes (front-at all k part None below i ∷ []) (Node.Seq 0) r
-value_up-whole t classes all k (Node.Set part) r below = λ i. value_up t classes (front-at all k part None below i ∷ []) (Node.Set 0) r
-value_up-whole t classes all k (Node.Cyc part) r below = λ i. value_up t classes (front-at all k part None below i ∷ []) (Node.Cyc 0) r
+value_up-whole t classes all k (Node.Seq part) r below = λ i. node_value_up t classes (front-at all k part None below i ∷ []) (Node.Seq 0) r
+value_up-whole t classes all k (Node.Set part) r below = λ i. node_value_up t classes (front-at all k part None below i ∷ []) (Node.Set 0) r
+value_up-whole t classes all k (Node.Cyc part) r below = λ i. node_value_up t classes (front-at all k part None below i ∷ []) (Node.Cyc 0) r
 
 -- A node's lower value, from all lower values.
-pub value_down-at : (t : Setting) (classes : List ℕ) → IsSound t.spec → (e : ℕ) (n : Node) (r : Range) → node_at t.spec e ≡ Some n → range_at t.spec e ≡ Some r → slice_index (values_down t classes) e ≡ value_down t classes (values_down t classes) n r
+pub value_down-at : (t : Setting) (classes : List ℕ) → IsSound t.spec → (e : ℕ) (n : Node) (r : Range) → node_at t.spec e ≡ Some n → range_at t.spec e ≡ Some r → slice_index (values_down t classes) e ≡ node_value_down t classes (values_down t classes) n r
 value_down-at t classes sound e n r at_n at_r =
     let all = values_down t classes in
-    get_or_from_slice_get all e (value_down t classes (take e all) n r) 0 (result-at (value_down t classes) t.spec e n r at_n at_r) ∙ value_down-whole t classes all e n r (parts_below t.spec sound e n at_n)
+    get_or_from_slice_get all e (node_value_down t classes (take e all) n r) 0 (result-at (node_value_down t classes) t.spec e n r at_n at_r) ∙ value_down-whole t classes all e n r (parts_below t.spec sound e n at_n)
 
 -- A node's upper value, from all upper values.
-pub value_up-at : (t : Setting) (classes : List ℕ) → IsSound t.spec → (e : ℕ) (n : Node) (r : Range) → node_at t.spec e ≡ Some n → range_at t.spec e ≡ Some r → value_at (values_up t classes) e ≡ value_up t classes (values_up t classes) n r
+pub value_up-at : (t : Setting) (classes : List ℕ) → IsSound t.spec → (e : ℕ) (n : Node) (r : Range) → node_at t.spec e ≡ Some n → range_at t.spec e ≡ Some r → value_at (values_up t classes) e ≡ node_value_up t classes (values_up t classes) n r
 value_up-at t classes sound e n r at_n at_r =
     let all = values_up t classes in
-    get_or_from_slice_get all e (value_up t classes (take e all) n r) None (result-at (value_up t classes) t.spec e n r at_n at_r) ∙ value_up-whole t classes all e n r (parts_below t.spec sound e n at_n)
+    get_or_from_slice_get all e (node_value_up t classes (take e all) n r) None (result-at (node_value_up t classes) t.spec e n r at_n at_r) ∙ value_up-whole t classes all e n r (parts_below t.spec sound e n at_n)

@@ -20,7 +20,7 @@ use Rattle.series_bounds.specs.ExactSums.{exact, sum_from, first_term}
 use Rattle.series_bounds.proofs.Fractions.{AtMost-trans, AtMost-refl, plus-mono, times-mono, units-mono, units-plus, units-plus', zero-least}
 use Rattle.series_bounds.proofs.Lists.{product_down-le, product_up-ge, total_down-le, total_up-is}
 use Rattle.series_bounds.proofs.Rules.{part_down-reached, range_up-above, from_down-reached, from_up-above}
-use Rattle.rounded_map.specs.RoundedMap.{setting, amount, value_at, value_down, value_up, values_down, values_up}
+use Rattle.rounded_map.specs.RoundedMap.{setting, amount, value_at, node_value_down, node_value_up, values_down, values_up}
 use Rattle.rounded_map.proofs.AtNode.{value_down-at, value_up-at}
 
 -- The sums of the laws and of the series are the same.
@@ -104,7 +104,7 @@ counted-covered x F classes vs kind node part r v same first is =
 at_least_one : (F v : ℕ) → 2 ^ F ≡ v → AtMost (whole 1) (units F v)
 at_least_one F v same = record { cross = omega arith }
 
-node-covered : (s : Spec) (x : Fraction) (F : ℕ) (classes : List ℕ) (vs : List (Option ℕ)) → IsSound s → (e : ℕ) (node : Node) (r : Range) (v : ℕ) → node_at s e ≡ Some node → range_at s e ≡ Some r → value_up (setting s x.num x.den F) classes vs node r ≡ Some v → IsCovered x F classes vs node r v
+node-covered : (s : Spec) (x : Fraction) (F : ℕ) (classes : List ℕ) (vs : List (Option ℕ)) → IsSound s → (e : ℕ) (node : Node) (r : Range) (v : ℕ) → node_at s e ≡ Some node → range_at s e ≡ Some r → node_value_up (setting s x.num x.den F) classes vs node r ≡ Some v → IsCovered x F classes vs node r v
 node-covered s x F classes vs sound e (Node.Empty word) r v at at_r is = record { parts = tt; covers = at_least_one F v (cc) }
 node-covered s x F classes vs sound e (Node.Atom word) r v at at_r is = record { parts = tt; covers = record { cross = atom_up-above F x.num x.den v x.positive is } }
 node-covered s x F classes vs sound e (Node.Class c) r v at at_r is = record { parts = tt; covers = units-mono F (let same : slice_index classes c ≡ v = cc in omega arith) }
@@ -139,7 +139,7 @@ covered-at : (s : Spec) (x : Fraction) (F : ℕ) (classes : List ℕ) → IsSoun
 covered-at s x F classes sound e node t at =
     let vs = values_up (setting s x.num x.den F) classes in
     let r = has_range s sound e node at in
-    let is : value_up (setting s x.num x.den F) classes vs node r.0 ≡ Some (amount (value_at vs e)) = sym (value_up-at (setting s x.num x.den F) classes sound e node r.0 at r.1) ∙ told-some (value_at vs e) t in
+    let is : node_value_up (setting s x.num x.den F) classes vs node r.0 ≡ Some (amount (value_at vs e)) = sym (value_up-at (setting s x.num x.den F) classes sound e node r.0 at r.1) ∙ told-some (value_at vs e) t in
     record { range = r.0; is_range = r.1; is = node-covered s x F classes vs sound e node r.0 (amount (value_at vs e)) at r.1 is }
 
 -- The upper values of the nodes cover them.
@@ -166,7 +166,7 @@ product-reached : (F : ℕ) (vs parts : List ℕ) → product_of F (map (slice_i
 product-reached F vs [] = refl
 product-reached F vs (p ∷ parts) = ap (times (down F vs p)) (product-reached F vs parts)
 
-node-reached : (s : Spec) (x : Fraction) (F : ℕ) (classes vs : List ℕ) → IsSound s → (e : ℕ) (node : Node) (r : Range) → node_at s e ≡ Some node → range_at s e ≡ Some r → IsReachedByNode x (λ c. units F (slice_index classes c)) (down F vs) node (Some r) (units F (value_down (setting s x.num x.den F) classes vs node r))
+node-reached : (s : Spec) (x : Fraction) (F : ℕ) (classes vs : List ℕ) → IsSound s → (e : ℕ) (node : Node) (r : Range) → node_at s e ≡ Some node → range_at s e ≡ Some r → IsReachedByNode x (λ c. units F (slice_index classes c)) (down F vs) node (Some r) (units F (node_value_down (setting s x.num x.den F) classes vs node r))
 node-reached s x F classes vs sound e (Node.Empty word) r at at_r = omega arith
 node-reached s x F classes vs sound e (Node.Atom word) r at at_r = record { cross = atom_down-below F x.num x.den }
 node-reached s x F classes vs sound e (Node.Class c) r at at_r = AtMost-refl _

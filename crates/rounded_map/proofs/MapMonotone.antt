@@ -12,7 +12,7 @@ use Rattle.series_bounds.specs.Series.{Kind, from_up, ranged_up, counted_up}
 use Rattle.series_bounds.specs.Lists.{added_up, total_up, multiplied_up, product_up}
 use Rattle.series_bounds.proofs.Monotone.{range_up-monotone, seq_from_up-monotone, set_from_up-monotone}
 use Rattle.series_bounds.proofs.LogarithmMonotone.{cyc_from_up-monotone}
-use Rattle.rounded_map.specs.RoundedMap.{Setting, value_at, at_each, repeated, value_up, values_up, bodies_up, lesser, sweep_up, IsPostFixed}
+use Rattle.rounded_map.specs.RoundedMap.{Setting, value_at, at_each, repeated, node_value_up, values_up, bodies_up, lesser, sweep_up, IsPostFixed}
 
 -- Where each number of a list is at most that at its place in another, so it is at any place i, 0
 -- being past the ends.
@@ -88,7 +88,7 @@ pub counted-monotone : (kind : Kind) (f : ℕ) (range : Range) (u w : Option ℕ
 counted-monotone kind f range u w bits p = and_then-monotone (counted_up kind f range) (λ a c q. ranged_up-monotone kind f a c range.low range.high bits q) u w p
 
 -- A node's value is monotone in the classes' entries and in the values of the nodes before it.
-pub value_up-monotone : (t : Setting) (v w : List ℕ) → 0 < t.bits → AreAtMost v w → (us ws : List (Option ℕ)) → AreNoGreater us ws → (node : Node) (range : Range) → IsNoGreater (value_up t v us node range) (value_up t w ws node range)
+pub value_up-monotone : (t : Setting) (v w : List ℕ) → 0 < t.bits → AreAtMost v w → (us ws : List (Option ℕ)) → AreNoGreater us ws → (node : Node) (range : Range) → IsNoGreater (node_value_up t v us node range) (node_value_up t w ws node range)
 value_up-monotone t v w bits p us ws q (Node.Empty word) range = le_refl (2 ^ t.bits)
 value_up-monotone t v w bits p us ws q (Node.Atom word) range = no_greater_refl (atom_up t.bits t.num t.den)
 value_up-monotone t v w bits p us ws q (Node.Class c) range = at_most-at v w c p
@@ -104,7 +104,7 @@ results-monotone g h mono us ws (node ∷ nodes) p = results-monotone g h mono (
 
 -- The upper values of all nodes are monotone in the class vector.
 pub values_up-monotone : (t : Setting) (v w : List ℕ) → 0 < t.bits → AreAtMost v w → AreNoGreater (values_up t v) (values_up t w)
-values_up-monotone t v w bits p = results-monotone (value_up t v) (value_up t w) (value_up-monotone t v w bits p) [] [] (ranged_nodes t.spec) tt
+values_up-monotone t v w bits p = results-monotone (node_value_up t v) (node_value_up t w) (value_up-monotone t v w bits p) [] [] (ranged_nodes t.spec) tt
 
 pub bodies_up-monotone : (t : Setting) (v w : List ℕ) → 0 < t.bits → AreAtMost v w → AreNoGreater (bodies_up t (values_up t v)) (bodies_up t (values_up t w))
 bodies_up-monotone t v w bits p = no_greater-map (values_up t v) (values_up t w) t.spec.bodies (values_up-monotone t v w bits p)

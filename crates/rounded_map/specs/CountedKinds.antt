@@ -3,7 +3,7 @@ use Rattle.rounded_map.specs.declared.counted_derivative.Counted.{Counted}
 use Rattle.rounded_map.specs.declared.counted_derivative.Counted.TheVariants.{Sequence, Set, Cycle}
 use Rattle.series_bounds.specs.Series.{Kind}
 
-abbrev pub kind_of : Counted → Kind
-kind_of Sequence = Kind.Seq
-kind_of Set = Kind.Set
-kind_of Cycle = Kind.Cyc
+abbrev pub series_of_counted : Counted → Kind
+series_of_counted Sequence = Kind.Seq
+series_of_counted Set = Kind.Set
+series_of_counted Cycle = Kind.Cyc

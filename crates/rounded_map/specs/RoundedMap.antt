@@ -46,42 +46,43 @@ repeated step zero v = v
 repeated step (suc n) v = step (repeated step n v)
 
 -- A node's lower value from the class vector and the values of the nodes before it.
-abbrev pub value_down : Setting → (classes : List ℕ) → (before : List ℕ) → Node → Range → ℕ
-value_down t classes before (Node.Empty word) range = 2 ^ t.bits
-value_down t classes before (Node.Atom word) range = atom_down t.bits t.num t.den
-value_down t classes before (Node.Class c) range = slice_index classes c
-value_down t classes before (Node.Union parts) range = total_down (map (slice_index before) parts)
-value_down t classes before (Node.Product parts) range =
+abbrev pub node_value_down : Setting → (classes : List ℕ) → (before : List ℕ) → Node → Range → ℕ
+node_value_down t classes before (Node.Empty word) range = 2 ^ t.bits
+node_value_down t classes before (Node.Atom word) range = atom_down t.bits t.num t.den
+node_value_down t classes before (Node.Class c) range = slice_index classes c
+node_value_down t classes before (Node.Union parts) range = total_down
+    (map (slice_index before) parts)
+node_value_down t classes before (Node.Product parts) range =
     product_down t.bits (map (slice_index before) parts)
-value_down t classes before (Node.Seq part) range =
+node_value_down t classes before (Node.Seq part) range =
     counted_down Kind.Seq t.bits range (slice_index before part)
-value_down t classes before (Node.Set part) range =
+node_value_down t classes before (Node.Set part) range =
     counted_down Kind.Set t.bits range (slice_index before part)
-value_down t classes before (Node.Cyc part) range =
+node_value_down t classes before (Node.Cyc part) range =
     counted_down Kind.Cyc t.bits range (slice_index before part)
 
 -- A node's upper value from the class vector and the values of the nodes before it.
-abbrev pub value_up : Setting → (classes : List ℕ) → (before : List (Option ℕ)) → Node → Range
+abbrev pub node_value_up : Setting → (classes : List ℕ) → (before : List (Option ℕ)) → Node → Range
     → Option ℕ
-value_up t classes before (Node.Empty word) range = Some (2 ^ t.bits)
-value_up t classes before (Node.Atom word) range = atom_up t.bits t.num t.den
-value_up t classes before (Node.Class c) range = Some (slice_index classes c)
-value_up t classes before (Node.Union parts) range = total_up (map (value_at before) parts)
-value_up t classes before (Node.Product parts) range =
+node_value_up t classes before (Node.Empty word) range = Some (2 ^ t.bits)
+node_value_up t classes before (Node.Atom word) range = atom_up t.bits t.num t.den
+node_value_up t classes before (Node.Class c) range = Some (slice_index classes c)
+node_value_up t classes before (Node.Union parts) range = total_up (map (value_at before) parts)
+node_value_up t classes before (Node.Product parts) range =
     product_up t.bits (map (value_at before) parts)
-value_up t classes before (Node.Seq part) range =
+node_value_up t classes before (Node.Seq part) range =
     option_and_then (counted_up Kind.Seq t.bits range) (value_at before part)
-value_up t classes before (Node.Set part) range =
+node_value_up t classes before (Node.Set part) range =
     option_and_then (counted_up Kind.Set t.bits range) (value_at before part)
-value_up t classes before (Node.Cyc part) range =
+node_value_up t classes before (Node.Cyc part) range =
     option_and_then (counted_up Kind.Cyc t.bits range) (value_at before part)
 
 -- The lower and the upper values of all nodes.
 abbrev pub values_down : Setting → (classes : List ℕ) → List ℕ
-values_down t classes = node_results (value_down t classes) [] (ranged_nodes t.spec)
+values_down t classes = node_results (node_value_down t classes) [] (ranged_nodes t.spec)
 
 abbrev pub values_up : Setting → (classes : List ℕ) → List (Option ℕ)
-values_up t classes = node_results (value_up t classes) [] (ranged_nodes t.spec)
+values_up t classes = node_results (node_value_up t classes) [] (ranged_nodes t.spec)
 
 -- The values of the classes' bodies, from the values of the nodes.
 abbrev pub bodies_down : Setting → (values : List ℕ) → List ℕ

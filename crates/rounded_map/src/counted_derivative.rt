@@ -6,7 +6,7 @@ ghost use Rattle.class_system.specs.Views.{spec_range};
 ghost use Rattle.fixed_enclosure.specs.Rounded.{Side, greatest};
 ghost use Rattle.series_bounds.specs.Series.{Kind, carried_on};
 ghost use Rattle.rounded_map.specs.Derivative.{slope_kind, slope_up};
-ghost use Rattle.rounded_map.specs.CountedKinds.{kind_of};
+ghost use Rattle.rounded_map.specs.CountedKinds.{series_of_counted};
 ghost use Rattle.rounded_map.specs.SlopeSums.{slope_kept, slope_between};
 
 use class_system::ranges::Range;
@@ -80,7 +80,7 @@ pub(crate) fn cycle_slope<const F: u32>(part: u64, range: Range) -> Option<u64>
 fn slope_sum<const F: u32>(kind: Counted, low: u64, high: u64, part: u64) -> Option<u64>
     requires fraction_bits { IsFractionBits F }
     requires few { high ≤ 64 }
-    ensures { result ≡ slope_between (kind_of kind) F low high part }
+    ensures { result ≡ slope_between (series_of_counted kind) F low high part }
 {
     let mut term = power_of_two(F);
     let mut sum = 0_u128;
@@ -95,7 +95,7 @@ fn slope_sum<const F: u32>(kind: Counted, low: u64, high: u64, part: u64) -> Opt
 /// What the derivative adds for j parts, from the term of one part less: nothing below `low`.
 fn kept(kind: Counted, low: u64, j: u64, term: u64) -> u128
     requires few { j ≤ 64 }
-    ensures exact { result ≡ slope_kept (kind_of kind) low j term }
+    ensures exact { result ≡ slope_kept (series_of_counted kind) low j term }
     ensures within { result ≤ 64 * greatest }
 {
     if j < low {
@@ -111,7 +111,8 @@ fn kept(kind: Counted, low: u64, j: u64, term: u64) -> u128
 fn next_term<const F: u32>(kind: Counted, part: u64, place: u64, term: u64) -> u128
     requires fraction_bits { IsFractionBits F }
     requires few { place ≤ 64 }
-    ensures exact { result ≡ carried_on Side.Up (slope_kind (kind_of kind)) F part place term }
+    ensures exact { result ≡ carried_on Side.Up
+        (slope_kind (series_of_counted kind)) F part place term }
 {
     let scaled = (u128::from(term) * u128::from(part) + (power_of_two(F) - 1)) >> F;
     match kind {

@@ -9,7 +9,7 @@ ghost use Rattle.class_system.specs.NodeOrder.{parts_of};
 ghost use Rattle.fixed_enclosure.specs.Rounded.{atom_down};
 ghost use Rattle.series_bounds.specs.Series.{Kind, counted_down};
 ghost use Rattle.series_bounds.specs.Lists.{total_down, product_down};
-ghost use Rattle.rounded_map.specs.RoundedMap.{setting, at_each, value_down, values_down};
+ghost use Rattle.rounded_map.specs.RoundedMap.{setting, at_each, node_value_down, values_down};
 ghost use Rattle.rounded_map.specs.RoundedMap.{sweep_down};
 ghost use Rattle.rounded_map.specs.Bounding.{AreBelow, ValuesBelow};
 
@@ -109,7 +109,8 @@ fn node_lo<const F: u32>(
     requires class { RefersBelow (length classes.now) (spec_node node.now) }
     requires range { HasTextRange (spec_node node.now) (spec_range range) }
     ensures value { (s : Spec) (num den : ℕ) → atom.entry.0 ≡ atom_down F num den
-        → result.0 ≡ value_down (setting s num den F) classes.now before.now (spec_node node.now)
+        → result.0 ≡ node_value_down (setting s num den F) classes.now before.now
+        (spec_node node.now)
         (spec_range range) }
 {
     match node {

@@ -11,7 +11,7 @@ ghost use Rattle.class_system.specs.NodeOrder.{parts_of};
 ghost use Rattle.fixed_enclosure.specs.Rounded.{atom_up, add_up, mul_up, of_both};
 ghost use Rattle.series_bounds.specs.Series.{Kind, counted_up};
 ghost use Rattle.series_bounds.specs.Lists.{total_up, product_up};
-ghost use Rattle.rounded_map.specs.RoundedMap.{setting, at_each, lesser, value_at, value_up};
+ghost use Rattle.rounded_map.specs.RoundedMap.{setting, at_each, lesser, value_at, node_value_up};
 ghost use Rattle.rounded_map.specs.RoundedMap.{values_up, bodies_up, sweep_up, IsPostFixed};
 ghost use Rattle.rounded_map.specs.RoundedMap.{IsFirstAbove, IsFirstMissing};
 ghost use Rattle.rounded_map.specs.Bounding.{AreAbove, ValuesAbove};
@@ -142,7 +142,7 @@ fn node_hi<const F: u32>(
     requires class { RefersBelow (length classes.now) (spec_node node.now) }
     requires range { HasTextRange (spec_node node.now) (spec_range range) }
     ensures value { (s : Spec) (num den : ℕ) → atom ≡ atom_up F num den
-        → result ≡ value_up (setting s num den F) classes.now before.now (spec_node node.now)
+        → result ≡ node_value_up (setting s num den F) classes.now before.now (spec_node node.now)
         (spec_range range) }
 {
     match node {

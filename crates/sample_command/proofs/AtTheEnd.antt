@@ -5,7 +5,7 @@ use Rattle.bz_model.specs.declared.cell.Bounds.{Bounds}
 use Rattle.bz_model.specs.Fraction.{Fraction}
 use Rattle.bz_model.specs.Spec.{Spec}
 use Rattle.bz_outside.specs.Outside.{Rose, Appends, AppendsFront}
-use Rattle.bit_tape.specs.Tape.{TapeState, Belongs, CountsFault, bits_of}
+use Rattle.bit_tape.specs.Tape.{TapeState, BelongsToShelf, CountsFault, bits_of_source}
 use Rattle.choice_draw.specs.Decision.{level_for}
 use Rattle.class_system.specs.Sound.{IsSound}
 use Rattle.certificate.specs.declared.closing.Closing.{Closing}
@@ -23,7 +23,7 @@ use Rattle.size_window.specs.Trace.{EndsAt, TracesStart}
 use Rattle.size_window.proofs.Turning.{if-told, attempt-used}
 use Rattle.size_window.proofs.Going.{goes-start}
 use Rattle.well_founded.specs.EmptyObjects.{has_empty}
-use Rattle.sample_command.specs.Drawn.{TapeMet, is_fault, IsCourse, IsDrawn, Drawn, Lists, closing_lines, straddle_of, closing_word, ending_status}
+use Rattle.sample_command.specs.Drawn.{TapeMet, ended_by_fault, IsCourse, IsDrawn, Drawn, Lists, closing_text, straddle_of, closing_word, ending_status}
 use Rattle.sample_command.specs.Drawn as drawn
 use Rattle.call_stages.specs.Ends.{output, EndsBy, IsHeld}
 use Rattle.call_stages.specs.Ends as ends
@@ -45,7 +45,7 @@ not-ended (Some ending) e = absurd (cc)
 
 -- A drawing in its starting state over an unread tape can make a turn, where its specification is
 -- sound and both drawing and tape are as they belong.
-pub starts : (s : Spec) (x : Fraction) → IsSound s → (contents : List ℕ → Option (List ℕ)) (limits : Limits) (d : DrawingState) (tape : TapeState) → tape.used ≡ 0 → state_of d 0 ≡ start → d.limits ≡ limits → DrawingBelongs s x d → Belongs contents tape → CanTurn s x contents limits d tape
+pub starts : (s : Spec) (x : Fraction) → IsSound s → (contents : List ℕ → Option (List ℕ)) (limits : Limits) (d : DrawingState) (tape : TapeState) → tape.used ≡ 0 → state_of d 0 ≡ start → d.limits ≡ limits → DrawingBelongs s x d → BelongsToShelf contents tape → CanTurn s x contents limits d tape
 starts s x sound contents limits d tape used at same belongs ahead = record {
   sound = sound;
   belongs = belongs;
@@ -86,7 +86,7 @@ limit-told told.TurnLimit is = refl
 limit-told told.ReadFault is = absurd (cc)
 
 -- a failed read that a course met is the one that its drawing met
-same-fault : (o : Option Told) → has_failed o ≡ is_fault (option_map ending_of o)
+same-fault : (o : Option Told) → has_failed o ≡ ended_by_fault (option_map ending_of o)
 same-fault None = refl
 same-fault (Some told.Done) = refl
 same-fault (Some told.TapeEnded) = refl
@@ -103,7 +103,7 @@ same-closing : (word : ClosingWord) (o p : Option Straddle) (k l m n u v r q : �
 same-closing word o p k l m n u v r q a b c d e =
     ap (λ z. closing word z k m u r) a ∙ ap (λ z. closing word p z m u r) b ∙ ap (λ z. closing word p l z u r) c ∙ ap (λ z. closing word p l n z r) d ∙ ap (closing word p l n v) e
 
-module _ (s : Spec) (x : Fraction) (F : ℕ) (table : (level node : ℕ) → Bounds) (limits : Limits) (t : TapeMet) (chosen : Chosen s F table) (d : DrawingState) (used most : ℕ) (h : IsCourseSoFar s x F table limits (bits_of t.source t.contents) d used most) where
+module _ (s : Spec) (x : Fraction) (F : ℕ) (table : (level node : ℕ) → Bounds) (limits : Limits) (t : TapeMet) (chosen : Chosen s F table) (d : DrawingState) (used most : ℕ) (h : IsCourseSoFar s x F table limits (bits_of_source t.source t.contents) d used most) where
   ending-is : h.course.state.ending ≡ option_map ending_of d.ending
   ending-is = ap (λ (st : RunState). st.ending) h.drawing.state
 
@@ -124,7 +124,7 @@ module _ (s : Spec) (x : Fraction) (F : ℕ) (table : (level node : ℕ) → Bou
         faults = trace.faults;
         exact = λ tape have at. trace.exact tape have at (chooser_of s F table (has_empty s)) chosen;
         disturbed = trace.disturbed;
-        reads = subst (λ b. CountsFault b t.source t.before t.now) (same-fault d.ending ∙ sym (ap is_fault ending-is)) reads;
+        reads = subst (λ b. CountsFault b t.source t.before t.now) (same-fault d.ending ∙ sym (ap ended_by_fault ending-is)) reads;
       }
 
   -- one that has come to its end is one that is drawn
@@ -141,7 +141,7 @@ module _ (s : Spec) (x : Fraction) (F : ℕ) (table : (level node : ℕ) → Bou
       }
 
   -- the lines after the last object
-  pub closing-is : (e : Told) (kept thrown bits turns : ℕ) → IsAtEnd table limits d e → kept ≡ d.kept → thrown ≡ d.thrown → bits ≡ used → turns ≡ d.turns → text_of (certificate.closing_lines (told_closing e kept thrown bits turns)) ≡ closing_lines table h.course (ending_of e)
+  pub closing-is : (e : Told) (kept thrown bits turns : ℕ) → IsAtEnd table limits d e → kept ≡ d.kept → thrown ≡ d.thrown → bits ≡ used → turns ≡ d.turns → text_of (certificate.closing_lines (told_closing e kept thrown bits turns)) ≡ closing_text table h.course (ending_of e)
   closing-is e kept thrown bits turns end is_kept is_thrown are_bits are_turns =
       let at = h.drawing.state in
       let c = h.course in
@@ -165,7 +165,7 @@ broken-off s x F table limits told d used raised header from now after page h fr
 }
 
 -- what comes of a drawing that was broken off
-module _ (cost : ℕ → ℕ) (s : Spec) (x : Fraction) (F : ℕ) (table : (level node : ℕ) → Bounds) (limits : Limits) (t : TapeMet) (chosen : Chosen s F table) (d : DrawingState) (used raised : ℕ) (header : List ℕ) (b a : Option (List ℕ)) (fb fa tb ta : ℕ) (h : IsBroken s x F table limits (bits_of t.source t.contents) d used raised header b a) (reads : CountsFault (has_failed d.ending) t.source t.before t.now) (few : ta ≤ tb + cost raised) where
+module _ (cost : ℕ → ℕ) (s : Spec) (x : Fraction) (F : ℕ) (table : (level node : ℕ) → Bounds) (limits : Limits) (t : TapeMet) (chosen : Chosen s F table) (d : DrawingState) (used raised : ℕ) (header : List ℕ) (b a : Option (List ℕ)) (fb fa tb ta : ℕ) (h : IsBroken s x F table limits (bits_of_source t.source t.contents) d used raised header b a) (reads : CountsFault (has_failed d.ending) t.source t.before t.now) (few : ta ≤ tb + cost raised) where
   broken-begun : ends.IsBegun (Drawn cost header s x F table limits t) (output b a fb fa tb ta) Status.OutOfMemory
   broken-begun = record {
     text = header ++ h.lines;
@@ -183,12 +183,12 @@ module _ (cost : ℕ → ℕ) (s : Spec) (x : Fraction) (F : ℕ) (table : (leve
 pub no-drawing : (cost : ℕ → ℕ) (s : Spec) (x : Fraction) (F : ℕ) (table : (level node : ℕ) → Bounds) (limits : Limits) (t : TapeMet) (header : List ℕ) (o : Option (List ℕ)) (fb fa ticks : ℕ) → EndsBy (Drawn cost header s x F table limits t) (output o o fb fa ticks ticks) Status.OutOfMemory
 no-drawing cost s x F table limits t header o fb fa ticks = ends.out_of_memory refl (record { text = []; ticks = 0; is = drawn.no_memory (record { status_is = refl; text_is = refl; ticks_are = refl }); front = no_front o []; few = omega arith })
 
-module _ (cost : ℕ → ℕ) (s : Spec) (x : Fraction) (F : ℕ) (table : (level node : ℕ) → Bounds) (limits : Limits) (t : TapeMet) (chosen : Chosen s F table) (d : DrawingState) (used raised : ℕ) (header : List ℕ) (b m : Option (List ℕ)) (page : List ℕ) (e : Told) (over : IsUnderWay s x F table limits (bits_of t.source t.contents) d used raised header b m page) (end : IsAtEnd table limits d e) (laws : EndLaws) (sound : IsSound s) (are : AreLimits limits) (reads : CountsFault (has_failed d.ending) t.source t.before t.now) (fb fm : ℕ) (writes : fb ≤ fm) (tb ta : ℕ) (few : ta ≤ tb + cost raised) (closing : List ℕ) (is_closing : closing ≡ closing_lines table over.so_far.course (ending_of e)) where
+module _ (cost : ℕ → ℕ) (s : Spec) (x : Fraction) (F : ℕ) (table : (level node : ℕ) → Bounds) (limits : Limits) (t : TapeMet) (chosen : Chosen s F table) (d : DrawingState) (used raised : ℕ) (header : List ℕ) (b m : Option (List ℕ)) (page : List ℕ) (e : Told) (over : IsUnderWay s x F table limits (bits_of_source t.source t.contents) d used raised header b m page) (end : IsAtEnd table limits d e) (laws : EndLaws) (sound : IsSound s) (are : AreLimits limits) (reads : CountsFault (has_failed d.ending) t.source t.before t.now) (fb fm : ℕ) (writes : fb ≤ fm) (tb ta : ℕ) (few : ta ≤ tb + cost raised) (closing : List ℕ) (is_closing : closing ≡ closing_text table over.so_far.course (ending_of e)) where
   -- the steps are those that these bits ask for
   few-given : ta ≤ tb + cost (level_for over.most)
   few-given = subst (λ n. ta ≤ tb + cost n) over.raised_is few
 
-  whole-text : over.held_is.sent ++ (page ++ closing) ≡ header ++ (over.lines ++ closing_lines table over.so_far.course (ending_of e))
+  whole-text : over.held_is.sent ++ (page ++ closing) ≡ header ++ (over.lines ++ closing_text table over.so_far.course (ending_of e))
   whole-text =
       sym (append-twice over.held_is.sent page closing)
       ∙ ap (λ z. z ++ closing) (sym over.held_is.text_is)

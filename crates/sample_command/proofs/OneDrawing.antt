@@ -5,11 +5,11 @@ use Rattle.bz_model.specs.declared.cell.Bounds.{Bounds}
 use Rattle.bz_model.specs.Fraction.{Fraction}
 use Rattle.bz_model.specs.Spec.{Spec}
 use Rattle.bit_tape.specs.Given.{HasBits}
-use Rattle.bit_tape.specs.Tape.{bits_of, CountsFault}
+use Rattle.bit_tape.specs.Tape.{bits_of_source, CountsFault}
 use Rattle.bit_tape.proofs.Leaving.{fault-rose}
 use Rattle.size_window.specs.RunByBits.{Limits, Course, Entry, Ending, after}
 use Rattle.size_window.specs.Trace.{EndsAt}
-use Rattle.sample_command.specs.Drawn.{TapeMet, HasFailed, is_fault, sampling, IsCourse, IsDrawn, AreLinesOf, Lists, Drawn, closing_lines, ending_status}
+use Rattle.sample_command.specs.Drawn.{TapeMet, HasFailed, ended_by_fault, sampling, IsCourse, IsDrawn, AreLinesOf, Lists, Drawn, closing_text, ending_status}
 use Rattle.sample_command.specs.Drawn as drawn
 use Rattle.call_stages.specs.Outcomes.{IsOne}
 use Rattle.call_stages.specs.declared.status.Status.{Status}
@@ -30,14 +30,14 @@ quiet_course s F table limits bits turns = after (sampling s F table limits bits
 told-bits : (o : Option (ℕ → Option Bool)) (bits : ℕ → Option Bool) (P : (ℕ → Option Bool) → Type 0) → o ≡ Some bits → IfSome o P → P bits
 told-bits o bits P e h = subst (λ z. IfSome z P) e h
 
-module _ (s : Spec) (x : Fraction) (F : ℕ) (table : (level node : ℕ) → Bounds) (limits : Limits) (t : TapeMet) (bits : ℕ → Option Bool) (are_known : bits_of t.source t.contents ≡ Some bits) (calm : ¬ (HasFailed t)) where
+module _ (s : Spec) (x : Fraction) (F : ℕ) (table : (level node : ℕ) → Bounds) (limits : Limits) (t : TapeMet) (bits : ℕ → Option Bool) (are_known : bits_of_source t.source t.contents ≡ Some bits) (calm : ¬ (HasFailed t)) where
   -- the course over a tape's bits is the undisturbed one
   is-quiet : (c : Course) (most : ℕ) (h : IsCourse s x F table limits t c most) → c ≡ quiet_course s F table limits bits h.turns
   is-quiet c most h =
       let sample = sampling s F table limits bits in
-      let have = told-bits (bits_of t.source t.contents) bits (λ tape. HasBits tape 0 h.given) are_known h.gave.are_told in
-      let over = h.exact bits have (told-bits (bits_of t.source t.contents) bits (EndsAt c.state.ending c.state.attempt.used) are_known h.ends) in
-      over.same ∙ unfailing sample h.faults h.turns (λ k. none-fails (h.faults k) (λ before is. calm (fault-rose t.source t.before t.now (subst (λ o. CountsFault (is_fault o) t.source t.before t.now) (h.disturbed k before is) h.reads))))
+      let have = told-bits (bits_of_source t.source t.contents) bits (λ tape. HasBits tape 0 h.given) are_known h.gave.are_told in
+      let over = h.exact bits have (told-bits (bits_of_source t.source t.contents) bits (EndsAt c.state.ending c.state.attempt.used) are_known h.ends) in
+      over.same ∙ unfailing sample h.faults h.turns (λ k. none-fails (h.faults k) (λ before is. calm (fault-rose t.source t.before t.now (subst (λ o. CountsFault (ended_by_fault o) t.source t.before t.now) (h.disturbed k before is) h.reads))))
 
   -- a drawing that came to its end is the undisturbed one
   pub same-course : (c : Course) (most : ℕ) (d : Ending) → IsDrawn s x F table limits t c most d → (turns : ℕ) (e : Ending) → (quiet_course s F table limits bits turns).state.ending ≡ Some e → (c ≡ quiet_course s F table limits bits turns) × (d ≡ e)
@@ -86,7 +86,7 @@ one-list s es fs l m same (drawn.one_more before last front lines h of is text) 
     let ends = one-entry s last last_too lines lines_too parts.1 of of_too in
     text ∙ ap (λ z. z ++ lines) fronts ∙ ap (λ z. front_too ++ z) ends ∙ sym text_too
 
-module _ (cost : ℕ → ℕ) (header : List ℕ) (s : Spec) (x : Fraction) (F : ℕ) (table : (level node : ℕ) → Bounds) (limits : Limits) (t : TapeMet) (bits : ℕ → Option Bool) (are_known : bits_of t.source t.contents ≡ Some bits) (calm : ¬ (HasFailed t)) (status other : Status) (text others : List ℕ) (ticks more : ℕ) (m : status ≢ Status.OutOfMemory) (n : other ≢ Status.OutOfMemory) where
+module _ (cost : ℕ → ℕ) (header : List ℕ) (s : Spec) (x : Fraction) (F : ℕ) (table : (level node : ℕ) → Bounds) (limits : Limits) (t : TapeMet) (bits : ℕ → Option Bool) (are_known : bits_of_source t.source t.contents ≡ Some bits) (calm : ¬ (HasFailed t)) (status other : Status) (text others : List ℕ) (ticks more : ℕ) (m : status ≢ Status.OutOfMemory) (n : other ≢ Status.OutOfMemory) where
   drawn-twice : Drawn cost header s x F table limits t status text ticks → Drawn cost header s x F table limits t other others more → (status ≡ other) × (text ≡ others)
   drawn-twice (drawn.so_far course given first rest lines h e l says) q = absurd (m says.status_is)
   drawn-twice (drawn.no_memory says) q = absurd (m says.status_is)
@@ -96,10 +96,10 @@ module _ (cost : ℕ → ℕ) (header : List ℕ) (s : Spec) (x : Fraction) (F :
       let same = one-course s x F table limits t bits are_known calm c e given given_too d f h k in
       let entries = one-list s c.entries e.entries lines lines_too (ap (λ (z : Course). z.entries) same.0) l l_too in (
         says.status_is ∙ ap ending_status same.1 ∙ sym says_too.status_is,
-        says.text_is ∙ ap (λ z. header ++ (z ++ closing_lines table c d)) entries ∙ ap (λ (z : Course). header ++ (lines_too ++ closing_lines table z d)) same.0 ∙ ap (λ z. header ++ (lines_too ++ closing_lines table e z)) same.1 ∙ sym says_too.text_is,
+        says.text_is ∙ ap (λ z. header ++ (z ++ closing_text table c d)) entries ∙ ap (λ (z : Course). header ++ (lines_too ++ closing_text table z d)) same.0 ∙ ap (λ z. header ++ (lines_too ++ closing_text table e z)) same.1 ∙ sym says_too.text_is,
       )
 
 -- A drawing over a tape whose bits are known, and of which no read failed in the call, has one
 -- outcome, but for want of memory.
-pub one-drawn : (cost : ℕ → ℕ) (header : List ℕ) (s : Spec) (x : Fraction) (F : ℕ) (table : (level node : ℕ) → Bounds) (limits : Limits) (t : TapeMet) (bits : ℕ → Option Bool) → bits_of t.source t.contents ≡ Some bits → ¬ (HasFailed t) → IsOne (Drawn cost header s x F table limits t)
+pub one-drawn : (cost : ℕ → ℕ) (header : List ℕ) (s : Spec) (x : Fraction) (F : ℕ) (table : (level node : ℕ) → Bounds) (limits : Limits) (t : TapeMet) (bits : ℕ → Option Bool) → bits_of_source t.source t.contents ≡ Some bits → ¬ (HasFailed t) → IsOne (Drawn cost header s x F table limits t)
 one-drawn cost header s x F table limits t bits are_known calm = record { one = λ status other text others ticks more m n p q. drawn-twice cost header s x F table limits t bits are_known calm status other text others ticks more m n p q }

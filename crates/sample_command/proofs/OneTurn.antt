@@ -5,7 +5,7 @@ use Rattle.bz_model.specs.declared.cell.Bounds.{Bounds}
 use Rattle.bz_model.specs.declared.cell.Cell.{Cell}
 use Rattle.bz_model.specs.Fraction.{Fraction}
 use Rattle.bz_model.specs.Spec.{Spec}
-use Rattle.bit_tape.specs.Tape.{TapeState, Belongs}
+use Rattle.bit_tape.specs.Tape.{TapeState, BelongsToShelf}
 use Rattle.class_system.specs.declared.ids.ExprId.{ExprId}
 use Rattle.class_system.specs.Sound.{IsSound}
 use Rattle.object_store.specs.Tokens.{IsOf}
@@ -19,7 +19,7 @@ use Rattle.size_window.specs.RunByBits.{Limits, Entry, Course, followed_by}
 use Rattle.size_window.specs.Drawing.{MadeShape, DrawingState, DrawingBelongs, Waits, state_of, ending_of}
 use Rattle.size_window.specs.Follows.{GoesIdeally}
 use Rattle.size_window.specs.Trace.{TurnsContinue}
-use Rattle.size_window.specs.Turn.{IsTurn, IsCounted, told_entry, turns_by, turns_of, ending_by, TellsOpen, is_fault, node_bits, most_bits}
+use Rattle.size_window.specs.Turn.{IsTurn, IsCountedTurn, told_entry, turns_by, turns_of, ending_by, TellsOpen, is_turn_fault, node_bits, most_bits}
 use Rattle.size_window.proofs.Going.{ideal-fits}
 use Rattle.sample_command.specs.Drawn.{AreLinesOf, Lists, straddle_of}
 use Rattle.sample_command.specs.Drawn as drawn
@@ -37,7 +37,7 @@ pub record TellsTurn (s : Spec) (x : Fraction) (F : ℕ) (table : (level node : 
   pub sound : IsSound s
   pub within : d.limits ≡ limits
   pub turn : IsTurn s x F table told d start a now used
-  pub counted : IsCounted d a now
+  pub counted : IsCountedTurn d a now
 
 -- the lists of entries and of their lines grow together
 lists-on : (s : Spec) (entries : List Entry) (lines more : List ℕ) (o : Option Entry) → Lists s entries lines → Appended s o more → Lists s (entries ++ option_to_list o) (lines ++ more)
@@ -99,7 +99,7 @@ turns-one : (ending : Option Told) (a : Answer) → ending ≡ None → turns_by
 turns-one ending a none one = ap (λ o. turns_by o a) none ∙ one
 
 -- a drawing that ended in this turn has come to its end
-pub at-end : (s : Spec) (x : Fraction) (contents : List ℕ → Option (List ℕ)) (table : (level node : ℕ) → Bounds) (limits : Limits) (d now : DrawingState) (tape : TapeState) (e : Told) → CanTurn s x contents limits d tape → IsCounted d (answer.Finished e) now → ((answer.Finished e ≡ answer.Finished told.Done) → d.kept ≡ d.limits.count) → ((answer.Finished e ≡ answer.Finished told.TurnLimit) → d.turns ≡ d.limits.turns) → TellsOpen table (answer.Finished e) → IsAtEnd table limits now e
+pub at-end : (s : Spec) (x : Fraction) (contents : List ℕ → Option (List ℕ)) (table : (level node : ℕ) → Bounds) (limits : Limits) (d now : DrawingState) (tape : TapeState) (e : Told) → CanTurn s x contents limits d tape → IsCountedTurn d (answer.Finished e) now → ((answer.Finished e ≡ answer.Finished told.Done) → d.kept ≡ d.limits.count) → ((answer.Finished e ≡ answer.Finished told.TurnLimit) → d.turns ≡ d.limits.turns) → TellsOpen table (answer.Finished e) → IsAtEnd table limits now e
 at-end s x contents table limits d now tape e can counted done turn_limit tells_open = record {
   ended = counted.ending;
   kept = λ is. let all = done (ap answer.Finished is) in let one = count-same d.limits limits can.within in let same = counted.kept in omega (arith, all, one, same);
@@ -108,7 +108,7 @@ at-end s x contents table limits d now tape e can counted done turn_limit tells_
 }
 
 -- a drawing that goes on can make another turn
-pub can-turn-on : (s : Spec) (x : Fraction) (F : ℕ) (table : (level node : ℕ) → Bounds) (limits : Limits) (told : Option (ℕ → Option Bool)) (contents : List ℕ → Option (List ℕ)) (d now : DrawingState) (before_tape tape : TapeState) (a : Answer) → TellsTurn s x F table limits told d now before_tape.used tape.used a → CanTurn s x contents limits d before_tape → turns_by None a ≡ 1 → ending_by d.ending a ≡ d.ending → DrawingBelongs s x now → Belongs contents tape → CanTurn s x contents limits now tape × (now.turns ≡ d.turns + 1)
+pub can-turn-on : (s : Spec) (x : Fraction) (F : ℕ) (table : (level node : ℕ) → Bounds) (limits : Limits) (told : Option (ℕ → Option Bool)) (contents : List ℕ → Option (List ℕ)) (d now : DrawingState) (before_tape tape : TapeState) (a : Answer) → TellsTurn s x F table limits told d now before_tape.used tape.used a → CanTurn s x contents limits d before_tape → turns_by None a ≡ 1 → ending_by d.ending a ≡ d.ending → DrawingBelongs s x now → BelongsToShelf contents tape → CanTurn s x contents limits now tape × (now.turns ≡ d.turns + 1)
 can-turn-on s x F table limits told contents d now before_tape tape a h can one same belongs ahead = (
   record {
     sound = can.sound;
@@ -122,10 +122,10 @@ can-turn-on s x F table limits told contents d now before_tape tape a h can one 
 )
 
 -- a read failed in the turn exactly where the drawing ended with a failed read
-pub same-fault : (before now : Option Told) (a : Answer) → before ≡ None → now ≡ ending_by before a → is_fault a before ≡ has_failed now
-same-fault before now a none is = ap (is_fault a) none ∙ by a ∙ sym (ap has_failed (is ∙ ap (λ o. ending_by o a) none))
+pub same-fault : (before now : Option Told) (a : Answer) → before ≡ None → now ≡ ending_by before a → is_turn_fault a before ≡ has_failed now
+same-fault before now a none is = ap (is_turn_fault a) none ∙ by a ∙ sym (ap has_failed (is ∙ ap (λ o. ending_by o a) none))
   where
-    by : (a : Answer) → is_fault a None ≡ has_failed (ending_by None a)
+    by : (a : Answer) → is_turn_fault a None ≡ has_failed (ending_by None a)
     by answer.Going = refl
     by (answer.Kept e) = refl
     by answer.OutOfMemory = refl

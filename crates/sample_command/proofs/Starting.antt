@@ -2,7 +2,7 @@
 use Rattle.std.proofs.Common.{◌≡◌, ◌≢◌, ℕ, ◌+◌, ◌≤◌, List, [], arith, refl, sym, subst, ◌∙◌}
 use Rattle.std.specs.Prelude.{Bool, Option, Some, None}
 use Rattle.bz_model.specs.Fraction.{ratio}
-use Rattle.bit_tape.specs.Tape.{bits_of}
+use Rattle.bit_tape.specs.Tape.{bits_of_source}
 use Rattle.oracle_memo.specs.Levels.{level_bounds_from, cost_at}
 use Rattle.oracle_memo.specs.Memos.{Memory}
 use Rattle.rounded_map.specs.RoundedMap.{Setting, setting}
@@ -71,5 +71,5 @@ pub one-started : (fast : Bool) (t : Setting) (base : List ℕ) (next : List ℕ
 one-started fast t base next ones = record { one = λ status other text others ticks more m n p q. started-twice fast t base next ones status other text others ticks more m n p q }
 
 -- a drawing over a base and a tape that is known, of which no read failed, has one outcome
-pub one-drawn-over : (fast : Bool) (t : Setting) (limits : Limits) (tape : TapeMet) (bits : ℕ → Option Bool) → bits_of tape.source tape.contents ≡ Some bits → ¬ (HasFailed tape) → (base : List ℕ) → IsOne (DrawnOver fast t limits tape base)
+pub one-drawn-over : (fast : Bool) (t : Setting) (limits : Limits) (tape : TapeMet) (bits : ℕ → Option Bool) → bits_of_source tape.source tape.contents ≡ Some bits → ¬ (HasFailed tape) → (base : List ℕ) → IsOne (DrawnOver fast t limits tape base)
 one-drawn-over fast t limits tape bits are_known calm base = one-started fast t base (DrawnFrom fast t limits tape base) (λ start. one-drawn cost_at (drawn_header (format_of fast) t base limits) t.spec (ratio t.num t.den) t.bits (level_bounds_from t start base) limits tape bits are_known calm)

@@ -6,7 +6,7 @@ use Rattle.bz_model.specs.declared.cell.Bounds.{Bounds}
 use Rattle.bz_model.specs.Fraction.{Fraction}
 use Rattle.bz_model.specs.Spec.{Spec}
 use Rattle.bit_tape.specs.Bits.{file_bit}
-use Rattle.bit_tape.specs.Tape.{TapeSource, bits_of}
+use Rattle.bit_tape.specs.Tape.{TapeSource, bits_of_source}
 use Rattle.class_system.specs.Sound.{IsSound}
 use Rattle.shape_sampler.specs.Answer.{ChoosesBy}
 use Rattle.well_founded.specs.EmptyObjects.{has_empty}
@@ -46,6 +46,6 @@ module _ (laws : EndLaws) (s : Spec) (x : Fraction) (F : ℕ) (table : (level no
       let all : c.state.attempt.used ≡ min (8 * length bytes) (2 ^ 63) = laws.files s x F table limits bytes turns most c p is in
       omega (arith, below, all)
 
-  pub all-used : (source : TapeSource) (contents : List ℕ → Option (List ℕ)) → IsTrace s x F table limits (bits_of source contents) turns most c → AreAll source contents c.state.attempt.used
+  pub all-used : (source : TapeSource) (contents : List ℕ → Option (List ℕ)) → IsTrace s x F table limits (bits_of_source source contents) turns most c → AreAll source contents c.state.attempt.used
   all-used (TapeSource.Named name) contents p = of-file (contents name) p
   all-used (TapeSource.Seeded seed) contents p = laws.seeds s x F table limits seed turns most c sound are p is

@@ -6,7 +6,7 @@ use Rattle.bz_model.specs.Spec.{Spec}
 use Rattle.bz_model.specs.ObjectText.{object_text}
 use Rattle.bz_model.specs.declared.cell.Bounds.{Bounds}
 use Rattle.bit_tape.specs.Given.{HasBits, Gave}
-use Rattle.bit_tape.specs.Tape.{TapeSource, bits_of, CountsFault, HasFault}
+use Rattle.bit_tape.specs.Tape.{TapeSource, bits_of_source, CountsFault, HasFault}
 use Rattle.object_store.specs.Tokens.{IsOf}
 use Rattle.size_window.specs.declared.ending.Straddle.{Straddle}
 use Rattle.size_window.specs.declared.ending.Straddle.TheVariants as straddle
@@ -52,9 +52,9 @@ abbrev pub HasFailed : TapeMet → Type 0
 HasFailed t = HasFault t.source t.before t.now
 
 -- A course ended with a failed read.
-abbrev pub is_fault : Option Ending → Bool
-is_fault (Some Ending.ReadFault) = true
-is_fault ending = false
+abbrev pub ended_by_fault : Option Ending → Bool
+ended_by_fault (Some Ending.ReadFault) = true
+ended_by_fault ending = false
 
 -- A course so far. It follows the ideal run: for all numbers in its cells that run keeps the
 -- objects of its entries. It was given as many bits as it used: the tape's first ones where its
@@ -68,8 +68,9 @@ pub record IsCourse (s : Spec) (x : Fraction) (F : ℕ) (table : (level node : �
     → Bounds) (limits : Limits) (t : TapeMet) (c : Course) (most : ℕ) : Type 0 where
   pub follows : Follows s x limits c
   pub given : List Bool
-  pub gave : Gave (bits_of t.source t.contents) 0 c.state.attempt.used given
-  pub ends : IfSome (bits_of t.source t.contents) (EndsAt c.state.ending c.state.attempt.used)
+  pub gave : Gave (bits_of_source t.source t.contents) 0 c.state.attempt.used given
+  pub ends : IfSome (bits_of_source t.source t.contents)
+      (EndsAt c.state.ending c.state.attempt.used)
   pub spells : Spells c given
   pub turns : ℕ
   pub faults : ℕ → Option ℕ
@@ -78,7 +79,7 @@ pub record IsCourse (s : Spec) (x : Fraction) (F : ℕ) (table : (level node : �
       → IsCourseOver (sampling s F table limits tape) faults turns c most
   pub disturbed : (turn before : ℕ) → faults turn ≡ Some before
       → c.state.ending ≡ Some Ending.ReadFault
-  pub reads : CountsFault (is_fault c.state.ending) t.source t.before t.now
+  pub reads : CountsFault (ended_by_fault c.state.ending) t.source t.before t.now
 
 -- So many bits are all that a tape has: eight for each byte of its file, where the file's content
 -- is known. A seed's bits don't end.
@@ -162,8 +163,8 @@ closing_of table c ending =
     }
 
 -- The lines after the last object are those of a certificate's closing.
-abbrev pub closing_lines : (table : (level node : ℕ) → Bounds) → Course → Ending → List ℕ
-closing_lines table c ending = text_of (certificate.closing_lines (closing_of table c ending))
+abbrev pub closing_text : (table : (level node : ℕ) → Bounds) → Course → Ending → List ℕ
+closing_text table c ending = text_of (certificate.closing_lines (closing_of table c ending))
 
 -- The lines before the first object: the format, and below it the lines of a certificate's header,
 -- which state the specification, x, the fraction bits, the window of sizes, and the base.
@@ -181,7 +182,7 @@ pub data Drawn (cost : (level : ℕ) → ℕ) (header : List ℕ) (s : Spec) (x 
     (text : List ℕ) (ticks : ℕ) : Type 0 where
   ended : (course : Course) (most : ℕ) (ending : Ending) (lines : List ℕ)
       → IsDrawn s x F table limits t course most ending → Lists s course.entries lines
-      → Says (ending_status ending) (header ++ (lines ++ closing_lines table course ending))
+      → Says (ending_status ending) (header ++ (lines ++ closing_text table course ending))
       (cost (level_for most)) status text ticks
       → Drawn cost header s x F table limits t status text ticks
   so_far : (course : Course) (most : ℕ) (first others : List Entry) (lines : List ℕ)

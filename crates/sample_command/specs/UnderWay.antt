@@ -4,7 +4,7 @@ use Rattle.bz_model.specs.Fraction.{Fraction}
 use Rattle.bz_model.specs.Spec.{Spec}
 use Rattle.bz_model.specs.declared.cell.Bounds.{Bounds}
 use Rattle.bz_outside.specs.Outside.{AppendsFront}
-use Rattle.bit_tape.specs.Tape.{TapeState, TapeSource, Belongs}
+use Rattle.bit_tape.specs.Tape.{TapeState, TapeSource, BelongsToShelf}
 use Rattle.choice_draw.specs.Decision.{level_for}
 use Rattle.class_system.specs.Sound.{IsSound}
 use Rattle.size_window.specs.declared.ending.Ending.{Ending}
@@ -57,7 +57,7 @@ pub record CanTurn (s : Spec) (x : Fraction) (contents : List ℕ
   pub belongs : DrawingBelongs s x d
   pub within : d.limits ≡ limits
   pub goes_on : d.ending ≡ None
-  pub ahead : Belongs contents tape
+  pub ahead : BelongsToShelf contents tape
   pub so_far : HasCourse s x limits d tape.used
 
 -- The number that was left open, if one was, with the bounds that the ending states of a node.
@@ -114,9 +114,10 @@ pub record IsBroken (s : Spec) (x : Fraction) (F : ℕ) (table : (level node : �
 
 -- Where a drawing goes on it can make another turn, and has made one more; else it has come to its
 -- end.
-abbrev pub GoesOn : (s : Spec) (x : Fraction) (table : (level node : ℕ) → Bounds) (contents : List ℕ
-    → Option (List ℕ)) (limits : Limits) (before d : DrawingState) (tape : TapeState)
+abbrev pub DrawingGoesOn : (s : Spec) (x : Fraction) (table : (level node : ℕ) → Bounds)
+    (contents : List ℕ → Option (List ℕ)) (limits : Limits) (before d : DrawingState)
+    (tape : TapeState)
     → Option Ending → Type 0
-GoesOn s x table contents limits before d tape None = CanTurn s x contents limits d tape
+DrawingGoesOn s x table contents limits before d tape None = CanTurn s x contents limits d tape
     × (d.turns ≡ before.turns + 1)
-GoesOn s x table contents limits before d tape (Some ending) = IsAtEnd table limits d ending
+DrawingGoesOn s x table contents limits before d tape (Some ending) = IsAtEnd table limits d ending

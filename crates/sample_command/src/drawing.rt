@@ -4,7 +4,7 @@ ghost use Rattle.std.specs.Prelude.{None, Some, IfOk, IfErr, OnErr, IfSome, IfNo
 ghost use Rattle.bz_model.specs.Fraction.{IsFractionBits};
 ghost use Rattle.bz_model.specs.Oracle.{AreCosts, LeavesOracle};
 ghost use Rattle.bz_outside.specs.Outside.{Rose};
-ghost use Rattle.bit_tape.specs.Tape.{Belongs, LeavesTape, bits_of};
+ghost use Rattle.bit_tape.specs.Tape.{BelongsToShelf, LeavesTape, bits_of_source};
 ghost use Rattle.certificate.specs.Certificates.{closing_lines};
 ghost use Rattle.certificate.specs.Lines.{text_of};
 ghost use Rattle.oracle_memo.specs.Levels.{cost_at, costs};
@@ -13,7 +13,7 @@ ghost use Rattle.sample_command.specs.Drawn.{Drawn, ending_status};
 ghost use Rattle.call_stages.specs.Ends.{EndsBy, output};
 ghost use Rattle.call_stages.specs.Outcomes.{MaySay};
 ghost use Rattle.sample_command.specs.UnderWay.{met, has_failed, CanTurn, IsAtEnd, IsUnderWay};
-ghost use Rattle.sample_command.specs.UnderWay.{IsBroken, GoesOn, told_closing};
+ghost use Rattle.sample_command.specs.UnderWay.{IsBroken, DrawingGoesOn, told_closing};
 ghost use Rattle.call_stages.specs.declared.report.Stop.TheVariants as stop;
 
 use crate::entries::{append_entry, closing_of, status_of};
@@ -60,7 +60,7 @@ pub fn drawn<const F: u32, O: Oracle<F>, S: Shelf, K: Sink, L: Ledger>(
     requires none_raised { O.raised oracle.old ≡ 0 }
     requires limits { AreLimits (limits_of limits) }
     requires unused { tape.used ≡ 0 }
-    requires ahead { Belongs (S.content shelf.old) tape }
+    requires ahead { BelongsToShelf (S.content shelf.old) tape }
     ensures ends { EndsBy (Drawn cost_at header.items founded.now (O.x oracle.old) F
         (O.table oracle.old) (limits_of limits)
         (met tape.source (S.content shelf.old) (S.faults shelf.old) (S.faults shelf.new)))
@@ -138,18 +138,18 @@ fn draw_to_the_end<const F: u32, O: Oracle<F>, S: Shelf, K: Sink, L: Ledger>(
         drawing.old.limits drawing.old tape.old }
     ensures under_way { IfOk result (λ _. (header : List ℕ) (start : Option (List ℕ))
         → IsUnderWay founded.now (O.x oracle.old) F (O.table oracle.old) drawing.old.limits
-        (bits_of tape.old.source (S.content shelf.old)) drawing.old tape.old.used
+        (bits_of_source tape.old.source (S.content shelf.old)) drawing.old tape.old.used
         (O.raised oracle.old) header start (K.written out.old) page.old.items
         → IsUnderWay founded.now (O.x oracle.old) F (O.table oracle.old) drawing.old.limits
-        (bits_of tape.old.source (S.content shelf.old)) drawing.new tape.new.used
+        (bits_of_source tape.old.source (S.content shelf.old)) drawing.new tape.new.used
         (O.raised oracle.new) header start (K.written out.new) page.new.items) }
     ensures ended { IfOk result (IsAtEnd (O.table oracle.old) drawing.old.limits drawing.new) }
     ensures broken { IfErr result (λ _. (header : List ℕ) (start : Option (List ℕ))
         → IsUnderWay founded.now (O.x oracle.old) F (O.table oracle.old) drawing.old.limits
-        (bits_of tape.old.source (S.content shelf.old)) drawing.old tape.old.used
+        (bits_of_source tape.old.source (S.content shelf.old)) drawing.old tape.old.used
         (O.raised oracle.old) header start (K.written out.old) page.old.items
         → IsBroken founded.now (O.x oracle.old) F (O.table oracle.old) drawing.old.limits
-        (bits_of tape.old.source (S.content shelf.old)) drawing.new tape.new.used
+        (bits_of_source tape.old.source (S.content shelf.old)) drawing.new tape.new.used
         (O.raised oracle.new) header start (K.written out.new)) }
     ensures cause { IfErr result (λ broken. broken ≡ stop.WriteFault
         → Rose (K.faults out.old) (K.faults out.new)) }
@@ -190,19 +190,19 @@ fn turn_once<const F: u32, O: Oracle<F>, S: Shelf, L: Ledger>(
         drawing.old.limits drawing.old tape.old }
     ensures under_way { IfOk result (λ _. (header : List ℕ) (start now : Option (List ℕ))
         → IsUnderWay founded.now (O.x oracle.old) F (O.table oracle.old) drawing.old.limits
-        (bits_of tape.old.source (S.content shelf.old)) drawing.old tape.old.used
+        (bits_of_source tape.old.source (S.content shelf.old)) drawing.old tape.old.used
         (O.raised oracle.old) header start now page.old.items
         → IsUnderWay founded.now (O.x oracle.old) F (O.table oracle.old) drawing.old.limits
-        (bits_of tape.old.source (S.content shelf.old)) drawing.new tape.new.used
+        (bits_of_source tape.old.source (S.content shelf.old)) drawing.new tape.new.used
         (O.raised oracle.new) header start now page.new.items) }
     ensures broken { OnErr result ((header : List ℕ) (start now : Option (List ℕ))
         → IsUnderWay founded.now (O.x oracle.old) F (O.table oracle.old) drawing.old.limits
-        (bits_of tape.old.source (S.content shelf.old)) drawing.old tape.old.used
+        (bits_of_source tape.old.source (S.content shelf.old)) drawing.old tape.old.used
         (O.raised oracle.old) header start now page.old.items
         → IsBroken founded.now (O.x oracle.old) F (O.table oracle.old) drawing.old.limits
-        (bits_of tape.old.source (S.content shelf.old)) drawing.new tape.new.used
+        (bits_of_source tape.old.source (S.content shelf.old)) drawing.new tape.new.used
         (O.raised oracle.new) header start now) }
-    ensures goes_on { IfOk result (GoesOn founded.now (O.x oracle.old) (O.table oracle.old)
+    ensures goes_on { IfOk result (DrawingGoesOn founded.now (O.x oracle.old) (O.table oracle.old)
         (S.content shelf.old) drawing.old.limits drawing.old drawing.new tape.new) }
     ensures oracle { LeavesOracle O.spec O.x O.table O.cost O.raised
         oracle.old oracle.new steps.old steps.new }

@@ -9,7 +9,7 @@ ghost use Rattle.certificate.specs.Lines.{version_line};
 ghost use Rattle.object_store.specs.Tokens.{IsOf};
 ghost use Rattle.rounded_map.specs.RoundedMap.{setting};
 ghost use Rattle.size_window.specs.Drawing.{ending_of, limits_of};
-ghost use Rattle.size_window.specs.Turn.{entry_of, HasLabels, labels_of as labels_told};
+ghost use Rattle.size_window.specs.Turn.{entry_of, EntryHasLabels, labels_told};
 ghost use Rattle.call_stages.specs.Lines.{fast_format};
 ghost use Rattle.sample_command.specs.Drawn.{closing_word as word_told, ending_word, ending_status};
 ghost use Rattle.sample_command.specs.Drawn.{drawn_header, AreLinesOf};
@@ -92,7 +92,7 @@ pub fn append_entry(
     page: &mut Vec<u8>,
 ) -> Result<(), AllocError>
     requires is_of { IsOf founded.now 0 kept.now.shape.items }
-    requires labels { HasLabels founded.now.mode kept.now }
+    requires labels { EntryHasLabels founded.now.mode kept.now }
     ensures ok { IfOk result (λ _. (more : List ℕ) × AreLinesOf founded.now (entry_of kept.now) more
         × (page.new.items ≡ page.old.items ++ more)) }
     ensures err { OnErr result (page.new.items ≡ page.old.items) }

@@ -1,7 +1,7 @@
 //! The command `sample`: objects drawn with the bits of a tape.
 ghost use Rattle.std.specs.Prelude.{◌≡◌, ℕ, ◌≤◌, List, Option, IfOk};
 ghost use Rattle.bz_model.specs.Fraction.{IsFractionBits};
-ghost use Rattle.bit_tape.specs.Tape.{Belongs};
+ghost use Rattle.bit_tape.specs.Tape.{BelongsToShelf};
 ghost use Rattle.command_words.specs.Fractions.{fraction_bits};
 ghost use Rattle.rounded_map.specs.RoundedMap.{setting};
 ghost use Rattle.size_window.specs.Drawing.{AreLimits, limits_of};
@@ -129,7 +129,7 @@ fn tape_of(alloc: Global, word: &TapeWord) -> Result<Tape, AllocError>
     ensures source { IfOk result (λ tape. tape.source ≡ source_of word.now) }
     ensures unused { IfOk result (λ tape. tape.used ≡ 0) }
     ensures belongs { IfOk result (λ tape. (contents : List ℕ → Option (List ℕ))
-        → Belongs contents tape) }
+        → BelongsToShelf contents tape) }
 {
     match word {
         TapeWord::File(name) => Ok(Tape::over(Word::from_bytes(alloc, name.bytes())?)),

@@ -1,7 +1,7 @@
 //! Drawings over a base: the lower sweeps start from zero, or from the base's fast vector.
 ghost use Rattle.std.specs.Prelude.{◌≡◌, ◌+◌, ◌≤◌, true, false, ℕ, List, Option, Some, length};
 ghost use Rattle.std.specs.Prelude.{IfOk, IfErr};
-ghost use Rattle.bit_tape.specs.Tape.{Belongs};
+ghost use Rattle.bit_tape.specs.Tape.{BelongsToShelf};
 ghost use Rattle.bz_model.specs.Fraction.{ratio, IsFractionBits};
 ghost use Rattle.oracle_memo.specs.Memos.{Memory};
 ghost use Rattle.rounded_map.specs.Bounding.{AreBelow};
@@ -50,7 +50,7 @@ pub(crate) fn drawn_over<const F: u32, S: Shelf, K: Sink, L: Ledger>(
     requires post_fixed { IsPostFixed (setting founded.now x.num x.den F) base }
     requires limits { AreLimits (limits_of limits) }
     requires unused { tape.used ≡ 0 }
-    requires ahead { Belongs (S.content shelf.old) tape }
+    requires ahead { BelongsToShelf (S.content shelf.old) tape }
     ensures ends { EndsBy (DrawnOver fast (setting founded.now x.num x.den F) (limits_of limits)
         (met tape.source (S.content shelf.old) (S.faults shelf.old) (S.faults shelf.new))
         base.entry)
@@ -83,7 +83,7 @@ fn drawn_from_zero<const F: u32, S: Shelf, K: Sink, L: Ledger>(
     requires post_fixed { IsPostFixed (setting founded.now x.num x.den F) base }
     requires limits { AreLimits (limits_of limits) }
     requires unused { tape.used ≡ 0 }
-    requires ahead { Belongs (S.content shelf.old) tape }
+    requires ahead { BelongsToShelf (S.content shelf.old) tape }
     ensures ends { EndsBy (DrawnOver false (setting founded.now x.num x.den F) (limits_of limits)
         (met tape.source (S.content shelf.old) (S.faults shelf.old) (S.faults shelf.new))
         base.entry)
@@ -123,7 +123,7 @@ fn drawn_fast<const F: u32, S: Shelf, K: Sink, L: Ledger>(
     requires post_fixed { IsPostFixed (setting founded.now x.num x.den F) base }
     requires limits { AreLimits (limits_of limits) }
     requires unused { tape.used ≡ 0 }
-    requires ahead { Belongs (S.content shelf.old) tape }
+    requires ahead { BelongsToShelf (S.content shelf.old) tape }
     ensures ends { EndsBy (DrawnOver true (setting founded.now x.num x.den F) (limits_of limits)
         (met tape.source (S.content shelf.old) (S.faults shelf.old) (S.faults shelf.new))
         base.entry)
@@ -186,7 +186,7 @@ fn drawn_from<const F: u32, S: Shelf, K: Sink, L: Ledger>(
     requires one_per_class { length start ≡ length founded.now.bodies }
     requires limits { AreLimits (limits_of limits) }
     requires unused { tape.used ≡ 0 }
-    requires ahead { Belongs (S.content shelf.old) tape }
+    requires ahead { BelongsToShelf (S.content shelf.old) tape }
     ensures ends { EndsBy (DrawnFrom true (setting founded.now x.num x.den F) (limits_of limits)
         (met tape.source (S.content shelf.old) (S.faults shelf.old) (S.faults shelf.new)) base.entry
         start.entry)

@@ -2,7 +2,7 @@
 use Rattle.std.proofs.Common.{◌≡◌, ◌≢◌, ℕ, Bool, true, List, map, refl, sym, ◌∙◌, ap, subst}
 use Rattle.std.specs.Prelude.{Option, Some, None, IsSome, is_some, option_map, slice_get}
 use Rattle.std.proofs.lemmas.Option.{slice_get-map, same_Some}
-use Rattle.bit_tape.specs.Tape.{TapeSource, bits_of}
+use Rattle.bit_tape.specs.Tape.{TapeSource, bits_of_source}
 use Rattle.shape_sampler.specs.Answer.{ChoosesBy}
 use Rattle.shape_sampler.specs.Visit.{Chooser}
 use Rattle.size_window.specs.declared.ending.Ending.{Ending as Told}
@@ -10,10 +10,10 @@ use Rattle.size_window.specs.declared.ending.Ending.TheVariants as told
 use Rattle.size_window.specs.RunByBits as run
 use Rattle.size_window.specs.RunByBits.{Limits, RunState, Course, after}
 use Rattle.size_window.specs.Drawing.{ending_of}
-use Rattle.size_window.specs.Trace.{atoms_in, IsTrace, HasEnded, ToldTracesAreCourses, EndedTracesAreOne}
+use Rattle.size_window.specs.Trace.{atoms_in, IsTrace, CourseHasEnded, ToldTracesAreCourses, EndedTracesAreOne}
 use Rattle.session_pool.specs.Member.{MemberState}
 use Rattle.session_pool.specs.Pool.{sources_of}
-use Rattle.session_pool.specs.Interleaving.{Shared, IsMemberAfter, AreAlikeWhere, times, AreAlikeMembers}
+use Rattle.session_pool.specs.Interleaving.{Shared, IsMemberAfter, AreAlikeWhere, how_often, AreAlikeMembers}
 
 -- sources in one list of sources are the same
 same-source : (sources : List TapeSource) (pool other : List MemberState) → sources_of pool ≡ sources → sources_of other ≡ sources → (number : ℕ) (m n : MemberState) → slice_get pool number ≡ Some m → slice_get other number ≡ Some n → m.tape.source ≡ n.tape.source
@@ -46,7 +46,7 @@ record IsUndisturbed (w : Shared) (limits : Limits) (tape : ℕ → Option Bool)
   pub never : c.state.ending ≢ Some run.Ending.ReadFault
   pub ending : c.state.ending ≡ option_map ending_of m.drawing.ending
 
-undisturbed : (w : Shared) (limits : Limits) (begun counts : List ℕ → ℕ) (turns : ℕ) (m : MemberState) (p : IsMemberAfter w limits begun counts turns m) → m.drawing.ending ≢ Some told.ReadFault → (tape : ℕ → Option Bool) → bits_of m.tape.source w.contents ≡ Some tape → IsUndisturbed w limits tape turns m p.most p.course
+undisturbed : (w : Shared) (limits : Limits) (begun counts : List ℕ → ℕ) (turns : ℕ) (m : MemberState) (p : IsMemberAfter w limits begun counts turns m) → m.drawing.ending ≢ Some told.ReadFault → (tape : ℕ → Option Bool) → bits_of_source m.tape.source w.contents ≡ Some tape → IsUndisturbed w limits tape turns m p.most p.course
 undisturbed w limits begun counts turns m p never tape is =
     let ending : p.course.state.ending ≡ option_map ending_of m.drawing.ending = ap (λ (st : RunState). st.ending) p.trace.state in
     record {
@@ -60,7 +60,7 @@ ended-some : (o : Option Told) → is_some o ≡ true → is_some (option_map en
 ended-some None e = e
 ended-some (Some ending) e = refl
 
-has-ended : (w : Shared) (limits : Limits) (tape : ℕ → Option Bool) (turns : ℕ) (m : MemberState) (most : ℕ) (c : Course) → IsUndisturbed w limits tape turns m most c → IsSome m.drawing.ending → HasEnded c
+has-ended : (w : Shared) (limits : Limits) (tape : ℕ → Option Bool) (turns : ℕ) (m : MemberState) (most : ℕ) (c : Course) → IsUndisturbed w limits tape turns m most c → IsSome m.drawing.ending → CourseHasEnded c
 has-ended w limits tape turns m most c h some = record { ended = ap (λ (o : Option run.Ending). is_some o) h.ending ∙ ended-some m.drawing.ending some; undisturbed = h.never }
 
 -- What makes the courses of two such drawings the same.
@@ -68,19 +68,19 @@ abbrev Suffices : ((times other_times : ℕ) → MemberState → MemberState →
 Suffices Premise = (w : Shared) (limits : Limits) (tape : ℕ → Option Bool) (k : Chooser) → ChoosesBy w.spec w.F w.table k → (i j : ℕ) (m n : MemberState) (most other_most : ℕ) (c d : Course) → IsUndisturbed w limits tape i m most c → IsUndisturbed w limits tape j n other_most d → Premise i j m n → c ≡ d
 
 alike-where : (Premise : (times other_times : ℕ) → MemberState → MemberState → Type 0) → Suffices Premise → AreAlikeWhere Premise
-alike-where Premise suffices w limits sources c chooses begun counts turns pool p begun_then counts_then others other q number m n at at_other told never never_then premise = go (bits_of m.tape.source w.contents) refl told
+alike-where Premise suffices w limits sources c chooses begun counts turns pool p begun_then counts_then others other q number m n at at_other told never never_then premise = go (bits_of_source m.tape.source w.contents) refl told
   where
-    go : (o : Option (ℕ → Option Bool)) → bits_of m.tape.source w.contents ≡ o → is_some o ≡ true → AreAlikeMembers m n
+    go : (o : Option (ℕ → Option Bool)) → bits_of_source m.tape.source w.contents ≡ o → is_some o ≡ true → AreAlikeMembers m n
     go None is e = absurd (cc)
     go (Some tape) is e =
         let one = p.each number m at in
         let two = q.each number n at_other in
         let from = same-source sources pool other p.same_sources q.same_sources number m n at at_other in
-        let is-other : bits_of n.tape.source w.contents ≡ Some tape = ap (λ s. bits_of s w.contents) (sym from) ∙ is in
-        alike-by w limits begun counts begun_then counts_then (times number turns) (times number others) m n one two
-        (suffices w limits tape c chooses (times number turns) (times number others) m n one.most two.most one.course two.course
-        (undisturbed w limits begun counts (times number turns) m one never tape is)
-        (undisturbed w limits begun_then counts_then (times number others) n two never_then tape is-other)
+        let is-other : bits_of_source n.tape.source w.contents ≡ Some tape = ap (λ s. bits_of_source s w.contents) (sym from) ∙ is in
+        alike-by w limits begun counts begun_then counts_then (how_often number turns) (how_often number others) m n one two
+        (suffices w limits tape c chooses (how_often number turns) (how_often number others) m n one.most two.most one.course two.course
+        (undisturbed w limits begun counts (how_often number turns) m one never tape is)
+        (undisturbed w limits begun_then counts_then (how_often number others) n two never_then tape is-other)
         premise)
 
 -- If traces over told bits are courses, two drawings over such a tape named equally often, without

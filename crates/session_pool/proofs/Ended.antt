@@ -5,7 +5,7 @@ use Rattle.bz_model.specs.declared.cell.Bounds.{Bounds}
 use Rattle.bz_model.specs.Fraction.{Fraction}
 use Rattle.bz_model.specs.Spec.{Spec}
 use Rattle.std.proofs.lemmas.Option.{same_Some}
-use Rattle.bit_tape.specs.Tape.{CountsFault, bits_of}
+use Rattle.bit_tape.specs.Tape.{CountsFault, bits_of_source}
 use Rattle.bit_tape.proofs.GivenBits.{gave-none}
 use Rattle.choice_draw.proofs.ToldDraws.{on_any}
 use Rattle.size_window.specs.declared.ending.Ending.{Ending as Told}
@@ -15,26 +15,26 @@ use Rattle.size_window.specs.RunByBits.{quiet, turn_unless}
 use Rattle.size_window.specs.Drawing.{DrawingState, state_of, ending_of}
 use Rattle.size_window.specs.Follows.{GoesIdeally}
 use Rattle.size_window.proofs.ToldTraces.{quiet-on}
-use Rattle.size_window.specs.Turn.{IsTurn, IsCounted, is_fault, EndsThere, turns_by, told_fault}
+use Rattle.size_window.specs.Turn.{IsTurn, IsCountedTurn, is_turn_fault, TurnEndsThere, turns_by, told_fault}
 use Rattle.session_pool.specs.declared.pooled.Pooled.TheVariants as pooled
 use Rattle.session_pool.specs.Member.{MemberState}
-use Rattle.session_pool.specs.Turn.{IsMemberTurn, answer_of}
+use Rattle.session_pool.specs.Turn.{IsMemberTurn, pool_answer}
 
 -- it meets no end of its tape
-ended-ends : (o : Option Told) (ending : Told) (used : ℕ) (tape : ℕ → Option Bool) → o ≡ Some ending → EndsThere (turned.Finished ending) o used tape
+ended-ends : (o : Option Told) (ending : Told) (used : ℕ) (tape : ℕ → Option Bool) → o ≡ Some ending → TurnEndsThere (turned.Finished ending) o used tape
 ended-ends o told.Done used tape is = tt
-ended-ends o told.TapeEnded used tape is = subst (λ p. EndsThere (turned.Finished told.TapeEnded) p used tape) (sym is) tt
+ended-ends o told.TapeEnded used tape is = subst (λ p. TurnEndsThere (turned.Finished told.TapeEnded) p used tape) (sym is) tt
 ended-ends o (told.Undecided straddle) used tape is = tt
 ended-ends o told.TurnLimit used tape is = tt
 ended-ends o told.ReadFault used tape is = tt
 
 -- and fails at no read
-pub ended-no_fault : (o : Option Told) (ending : Told) → o ≡ Some ending → false ≡ is_fault (turned.Finished ending) o
+pub ended-no_fault : (o : Option Told) (ending : Told) → o ≡ Some ending → false ≡ is_turn_fault (turned.Finished ending) o
 ended-no_fault o told.Done is = refl
 ended-no_fault o told.TapeEnded is = refl
 ended-no_fault o (told.Undecided straddle) is = refl
 ended-no_fault o told.TurnLimit is = refl
-ended-no_fault o told.ReadFault is = ap (is_fault (turned.Finished told.ReadFault)) (sym is)
+ended-no_fault o told.ReadFault is = ap (is_turn_fault (turned.Finished told.ReadFault)) (sym is)
 
 -- an ended drawing answers its ending, and stays as it was
 pub ended-turn : (s : Spec) (x : Fraction) (F : ℕ) (table : (level node : ℕ) → Bounds) (bits : Option (ℕ → Option Bool)) (d : DrawingState) (used : ℕ) (ending : Told) → d.ending ≡ Some ending → IsTurn s x F table bits d used (turned.Finished ending) d used
@@ -51,7 +51,7 @@ ended-turn s x F table bits d used ending is = record {
 }
 
 -- it counts nothing
-pub ended-counted : (d : DrawingState) (ending : Told) → d.ending ≡ Some ending → IsCounted d (turned.Finished ending) d
+pub ended-counted : (d : DrawingState) (ending : Told) → d.ending ≡ Some ending → IsCountedTurn d (turned.Finished ending) d
 ended-counted d ending is = record {
   limits = refl;
   kept = omega arith;
@@ -66,7 +66,7 @@ ended-member : (s : Spec) (x : Fraction) (F : ℕ) (table : (level node : ℕ) �
 ended-member s x F table contents counts m ending is = record {
   told = turned.Finished ending;
   made = λ e. absurd (cc);
-  turn = ended-turn s x F table (bits_of m.tape.source contents) m.drawing m.tape.used ending is;
+  turn = ended-turn s x F table (bits_of_source m.tape.source contents) m.drawing m.tape.used ending is;
   again = subst (λ o. IfSome o (λ e. (turned.Finished ending ≡ turned.Finished e) × (m ≡ m))) (sym is) (refl, refl);
   counted = ended-counted m.drawing ending is;
   next = tt;
@@ -76,7 +76,7 @@ ended-member s x F table contents counts m ending is = record {
   faults = subst (λ b. CountsFault b m.tape.source counts counts) (ended-no_fault m.drawing.ending ending is) refl;
   entries = sym (append-nil m.entries);
   source = refl;
-  answers = sym (ap answer_of is);
+  answers = sym (ap pool_answer is);
 }
 
 -- A drawing of a pool that has ended makes a turn that answers that it finished, and stays as it

@@ -12,12 +12,12 @@ use Rattle.size_window.specs.declared.ending.Ending.{Ending as Told}
 use Rattle.size_window.specs.declared.ending.Ending.TheVariants as told
 use Rattle.size_window.specs.declared.turned.Turned.{Turned as Answer}
 use Rattle.size_window.specs.declared.turned.Turned.TheVariants as turned
-use Rattle.size_window.specs.Turn.{is_fault, ending_by}
+use Rattle.size_window.specs.Turn.{is_turn_fault, ending_by}
 use Rattle.session_pool.specs.declared.pooled.Pooled.{Pooled}
 use Rattle.session_pool.specs.Member.{MemberState}
 use Rattle.session_pool.specs.Turn.{IsMemberTurn}
 use Rattle.session_pool.proofs.Ended.{ended-no_fault}
-use Rattle.session_pool.specs.Interleaving.{Shared, has_failed, failures, ended_failing, all_failures, RoseBy}
+use Rattle.session_pool.specs.Interleaving.{Shared, failed_on_tape, failures, ended_failing, all_failures, RoseBy}
 
 -- 1 where a test passes
 abbrev pub one-if : Bool → ℕ
@@ -25,7 +25,7 @@ one-if b = cond b 1 0
 
 -- 1 where a drawing over the tape of this name ended with a failed read
 abbrev pub mark : (name : List ℕ) → TapeSource → Option Told → ℕ
-mark name source ending = one-if (has_failed name source ending)
+mark name source ending = one-if (failed_on_tape name source ending)
 
 -- a drawing that goes on ended with no failed read
 pub going-mark : (name : List ℕ) (source : TapeSource) → mark name source None ≡ 0
@@ -73,8 +73,8 @@ answer-marks name source before now (turned.Finished told.TurnLimit) h = unmarke
 answer-marks name source before now (turned.Finished told.ReadFault) h = marked-or-not (before name) (now name) (mark name source None) (mark name source (Some told.ReadFault)) (going-mark name source) (failed-mark name source before now (h refl))
 
 -- where a drawing that went on answers a failed read, a read of its tape failed
-pub fault-counted : (source : TapeSource) (before now : List ℕ → ℕ) (o : Option Told) (a : Answer) → o ≡ None → CountsFault (is_fault a o) source before now → a ≡ turned.Finished told.ReadFault → HasFault source before now
-fault-counted source before now o a is counts failed = fault-rose source before now (subst (λ b. CountsFault b source before now) (ap (is_fault a) is ∙ ap (λ e. is_fault e None) failed) counts)
+pub fault-counted : (source : TapeSource) (before now : List ℕ → ℕ) (o : Option Told) (a : Answer) → o ≡ None → CountsFault (is_turn_fault a o) source before now → a ≡ turned.Finished told.ReadFault → HasFault source before now
+fault-counted source before now o a is counts failed = fault-rose source before now (subst (λ b. CountsFault b source before now) (ap (is_turn_fault a) is ∙ ap (λ e. is_turn_fault e None) failed) counts)
 
 -- a count that rose once more
 rises : (begun before now old new most : ℕ) → before ≤ now → min (begun + old) most ≤ before → (new ≡ old) ⊎ ((new ≡ old + 1) × (min (before + 1) most ≤ now)) → min (begun + new) most ≤ now
@@ -122,7 +122,7 @@ count-stays : (source : TapeSource) (before now : List ℕ → ℕ) (name : List
 count-stays source before now name same = let e : now name ≡ before name = ap (λ f. f name) same in omega (arith, e)
 
 -- After an answer of a drawing that went on: its mark stays and no count rises, or it is marked and a count rises once.
-answer-ends : (source : TapeSource) (before now : List ℕ → ℕ) (name : List ℕ) (a : Answer) → CountsFault (is_fault a None) source before now → now name + end_mark None ≤ before name + end_mark (ending_by None a)
+answer-ends : (source : TapeSource) (before now : List ℕ → ℕ) (name : List ℕ) (a : Answer) → CountsFault (is_turn_fault a None) source before now → now name + end_mark None ≤ before name + end_mark (ending_by None a)
 answer-ends source before now name turned.Going h = let c = count-stays source before now name h in omega (arith, c)
 answer-ends source before now name (turned.Kept entry) h = let c = count-stays source before now name h in omega (arith, c)
 answer-ends source before now name turned.OutOfMemory h = let c = count-stays source before now name h in omega (arith, c)
@@ -137,10 +137,10 @@ module _ (w : Shared) (before now : List ℕ → ℕ) (m later : MemberState) (a
   ends-then None is =
       subst (λ o. now name + end_mark o ≤ before name + end_mark later.drawing.ending) (sym is)
       (subst (λ o. now name + end_mark None ≤ before name + end_mark o) (sym (h.counted.ending ∙ ap (λ o. ending_by o h.told) is))
-      (answer-ends m.tape.source before now name h.told (subst (λ o. CountsFault (is_fault h.told o) m.tape.source before now) is h.faults)))
+      (answer-ends m.tape.source before now name h.told (subst (λ o. CountsFault (is_turn_fault h.told o) m.tape.source before now) is h.faults)))
   ends-then (Some ending) is =
       let (told-is, same) = subst (λ o. IfSome o (λ ending. (h.told ≡ turned.Finished ending) × (later ≡ m))) is h.again in
-      let none : is_fault h.told m.drawing.ending ≡ false = ap (λ a. is_fault a m.drawing.ending) told-is ∙ sym (ended-no_fault m.drawing.ending ending is) in
+      let none : is_turn_fault h.told m.drawing.ending ≡ false = ap (λ a. is_turn_fault a m.drawing.ending) told-is ∙ sym (ended-no_fault m.drawing.ending ending is) in
       let stays = count-stays m.tape.source before now name (subst (λ b. CountsFault b m.tape.source before now) none h.faults) in
       let mark : end_mark later.drawing.ending ≡ end_mark m.drawing.ending = ap (λ (k : MemberState). end_mark k.drawing.ending) same in
       omega (arith, stays, mark)

@@ -8,7 +8,7 @@ use Rattle.std.proofs.Math.Seq.{map-set_same}
 use Rattle.bz_model.specs.declared.cell.Bounds.{Bounds}
 use Rattle.bz_model.specs.Fraction.{Fraction}
 use Rattle.bz_model.specs.Spec.{Spec}
-use Rattle.bit_tape.specs.Tape.{Belongs, LeavesTape}
+use Rattle.bit_tape.specs.Tape.{BelongsToShelf, LeavesTape}
 use Rattle.size_window.specs.Drawing.{DrawingBelongs}
 use Rattle.session_pool.specs.declared.pooled.Pooled.{Pooled}
 use Rattle.session_pool.specs.Member.{MemberState, bits_to_nodes, read_failed}
@@ -17,10 +17,10 @@ use Rattle.session_pool.specs.Pool.{tapes_of, sources_of, PoolBelongs, TapesBelo
 use Rattle.session_pool.proofs.Replaced.{replaced-here}
 
 -- the tape that was lent belongs as all do
-pub lent-tape : (contents : List ℕ → Option (List ℕ)) (pool : List MemberState) (number : ℕ) (m : MemberState) → slice_get pool number ≡ Some m → TapesBelong contents (tapes_of pool) → Belongs contents m.tape
+pub lent-tape : (contents : List ℕ → Option (List ℕ)) (pool : List MemberState) (number : ℕ) (m : MemberState) → slice_get pool number ≡ Some m → TapesBelong contents (tapes_of pool) → BelongsToShelf contents m.tape
 lent-tape contents pool number m at belong =
     let tape-at : slice_get (tapes_of pool) number ≡ Some m.tape = slice_get-map (λ (k : MemberState). k.tape) pool number ∙ ap (option_map (λ (k : MemberState). k.tape)) at in
-    subst (Belongs contents) (get_or_from_slice_get (tapes_of pool) number m.tape m.tape tape-at) (belong.each number m.tape (slice_get_within (tapes_of pool) number m.tape tape-at))
+    subst (BelongsToShelf contents) (get_or_from_slice_get (tapes_of pool) number m.tape m.tape tape-at) (belong.each number m.tape (slice_get_within (tapes_of pool) number m.tape tape-at))
 
 -- Pools of which one was lent: what is read of the other, a member is read at the number.
 pub record IsLent (items pool : List MemberState) (number : ℕ) (m : MemberState) : Type 0 where
@@ -62,8 +62,8 @@ module _ (items pool : List MemberState) (number : ℕ) (m later : MemberState) 
   pub drawings-back : (s : Spec) (x : Fraction) → PoolBelongs s x pool → DrawingBelongs s x later.drawing → PoolBelongs s x (slice_set items number later)
   drawings-back s x belong one = subst (PoolBelongs s x) (sym written-back) (record { each = All-set (λ k. DrawingBelongs s x k.drawing) pool number later one belong.each })
 
-  pub tapes-back : (contents : List ℕ → Option (List ℕ)) → TapesBelong contents (tapes_of pool) → Belongs contents later.tape → TapesBelong contents (tapes_of (slice_set items number later))
-  tapes-back contents belong one = subst (λ ms. TapesBelong contents (tapes_of ms)) (sym written-back) (subst (TapesBelong contents) (sym (map-set (λ (k : MemberState). k.tape) pool number later)) (record { each = All-set (Belongs contents) (tapes_of pool) number later.tape one belong.each }))
+  pub tapes-back : (contents : List ℕ → Option (List ℕ)) → TapesBelong contents (tapes_of pool) → BelongsToShelf contents later.tape → TapesBelong contents (tapes_of (slice_set items number later))
+  tapes-back contents belong one = subst (λ ms. TapesBelong contents (tapes_of ms)) (sym written-back) (subst (TapesBelong contents) (sym (map-set (λ (k : MemberState). k.tape) pool number later)) (record { each = All-set (BelongsToShelf contents) (tapes_of pool) number later.tape one belong.each }))
 
   pub sources-back : later.tape.source ≡ m.tape.source → sources_of (slice_set items number later) ≡ sources_of pool
   sources-back e = ap sources_of written-back ∙ map-set_same (λ (k : MemberState). k.tape.source) pool number later m (e ∙ ap (λ (k : MemberState). k.tape.source) (sym (get_or_from_slice_get pool number m m h.at)))

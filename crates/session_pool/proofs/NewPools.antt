@@ -6,7 +6,7 @@ use Rattle.std.proofs.lemmas.List.{map-append}
 use Rattle.std.proofs.lemmas.List.Elements.{All-push}
 use Rattle.std.proofs.lemmas.List.Sums.{sum_by-le}
 use Rattle.std.proofs.lemmas.Option.{slice_get_within, get_or_from_slice_get, slice_get-map}
-use Rattle.bit_tape.specs.Tape.{TapeState, bits_of}
+use Rattle.bit_tape.specs.Tape.{TapeState, bits_of_source}
 use Rattle.size_window.specs.declared.ending.Ending.{Ending as Told}
 use Rattle.size_window.specs.RunByBits.{Limits, RunState, at_start}
 use Rattle.size_window.specs.Drawing.{ending_of}
@@ -41,7 +41,7 @@ new-member starts w limits counts m new unused =
     record {
       most = 0;
       course = at_start;
-      trace = subst (λ used. HasTrace w.spec w.x w.F w.table limits (bits_of m.tape.source w.contents) 0 m.drawing used 0 at_start) (sym unused) (starts w.spec w.x w.F w.table limits (bits_of m.tape.source w.contents) m.drawing new.state new.same_limits new.atoms);
+      trace = subst (λ used. HasTrace w.spec w.x w.F w.table limits (bits_of_source m.tape.source w.contents) 0 m.drawing used 0 at_start) (sym unused) (starts w.spec w.x w.F w.table limits (bits_of_source m.tape.source w.contents) m.drawing new.state new.same_limits new.atoms);
       entries = sym (ap (map entry_of) new.entries);
       asked = subst (WasAsked 0 m.drawing) (sym going) (ap (λ (st : RunState). st.turns) new.state);
       ended = subst (λ o. IfSome o (EndedRightly w limits m.tape.source counts counts m.drawing)) (sym going) tt;

@@ -2,7 +2,7 @@
 use Rattle.std.proofs.Common.{◌≡◌, ◌≢◌, ℕ, suc, ◌+◌, ◌-◌, ◌≤◌, max, arith, List, ◌++◌, refl, sym, ◌∙◌, ap, subst}
 use Rattle.std.specs.Prelude.{Option, Some, None, IfSome, map, option_to_list}
 use Rattle.std.proofs.lemmas.List.{map-append}
-use Rattle.bit_tape.specs.Tape.{TapeSource, bits_of, HasFault}
+use Rattle.bit_tape.specs.Tape.{TapeSource, bits_of_source, HasFault}
 use Rattle.size_window.specs.declared.ending.Ending.{Ending as Told}
 use Rattle.size_window.specs.declared.ending.Ending.TheVariants as told
 use Rattle.size_window.specs.declared.turned.Turned.{Turned as Answer}
@@ -114,8 +114,8 @@ module _ (w : Shared) (limits : Limits) (begun before now : List ℕ → ℕ) (r
       record {
         most = max p.most (node_bits d.waiting (later.tape.used - m.tape.used));
         course = followed_by p.course h.turn.turned;
-        trace = subst (λ source. HasTrace w.spec w.x w.F w.table limits (bits_of source w.contents) (suc n) later.drawing later.tape.used (max p.most (node_bits d.waiting (later.tape.used - m.tape.used))) (followed_by p.course h.turn.turned)) (sym h.source)
-            (continues w.x w.F w.table limits (bits_of m.tape.source w.contents) n d m.tape.used p.most p.course p.trace h.told later.drawing later.tape.used h.turn h.counted);
+        trace = subst (λ source. HasTrace w.spec w.x w.F w.table limits (bits_of_source source w.contents) (suc n) later.drawing later.tape.used (max p.most (node_bits d.waiting (later.tape.used - m.tape.used))) (followed_by p.course h.turn.turned)) (sym h.source)
+            (continues w.x w.F w.table limits (bits_of_source m.tape.source w.contents) n d m.tape.used p.most p.course p.trace h.told later.drawing later.tape.used h.turn h.counted);
         entries = entries-now;
         asked = asked-then m.drawing.ending refl p.asked;
         ended = subst (λ source. IfSome later.drawing.ending (EndedRightly w limits source begun now later.drawing)) (sym h.source) (ended-then m.drawing.ending refl p.ended);

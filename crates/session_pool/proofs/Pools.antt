@@ -12,7 +12,7 @@ use Rattle.session_pool.specs.declared.pooled.Pooled.{Pooled}
 use Rattle.session_pool.specs.Member.{MemberState}
 use Rattle.session_pool.specs.Pool.{sources_of}
 use Rattle.session_pool.specs.Turn.{IsPoolTurn}
-use Rattle.session_pool.specs.Interleaving.{Shared, IsMemberAfter, IsPoolAfter, times}
+use Rattle.session_pool.specs.Interleaving.{Shared, IsMemberAfter, IsPoolAfter, how_often}
 use Rattle.session_pool.proofs.Replaced.{replaced-here, replaced-elsewhere}
 use Rattle.session_pool.proofs.OneTurn.{member-rests, member-turns}
 use Rattle.session_pool.proofs.Failures.{failures-on, only-on}
@@ -22,13 +22,13 @@ abbrev one-if : Bool → ℕ
 one-if b = cond b 1 0
 
 -- a number stands once more in a list that ends with it, and as often where it ends with another
-times-on : (number : ℕ) (turns : List ℕ) (t : ℕ) → times number (turns ++ t ∷ []) ≡ times number turns + one-if (nat_eq number t)
+times-on : (number : ℕ) (turns : List ℕ) (t : ℕ) → how_often number (turns ++ t ∷ []) ≡ how_often number turns + one-if (nat_eq number t)
 times-on number turns t = fold_push (λ (a x : ℕ). a + one-if (nat_eq number x)) 0 turns t
 
-once-more : (number : ℕ) (turns : List ℕ) (t : ℕ) → nat_eq number t ≡ true → times number (turns ++ t ∷ []) ≡ suc (times number turns)
+once-more : (number : ℕ) (turns : List ℕ) (t : ℕ) → nat_eq number t ≡ true → how_often number (turns ++ t ∷ []) ≡ suc (how_often number turns)
 once-more number turns t is = let more = times-on number turns t in let one : one-if (nat_eq number t) ≡ 1 = ap one-if is in omega (arith, more, one)
 
-as-often : (number : ℕ) (turns : List ℕ) (t : ℕ) → nat_eq number t ≡ false → times number (turns ++ t ∷ []) ≡ times number turns
+as-often : (number : ℕ) (turns : List ℕ) (t : ℕ) → nat_eq number t ≡ false → how_often number (turns ++ t ∷ []) ≡ how_often number turns
 as-often number turns t is = let more = times-on number turns t in let none : one-if (nat_eq number t) ≡ 0 = ap one-if is in omega (arith, more, none)
 
 module _ (w : Shared) (limits : Limits) (sources : List TapeSource) (begun before now : List ℕ → ℕ) (grew : (name : List ℕ) → before name ≤ now name) (pool later : List MemberState) (number : ℕ) (answer : Pooled) (h : IsPoolTurn w.spec w.x w.F w.table w.contents before now pool number answer later) (turns : List ℕ) (p : IsPoolAfter w limits sources begun before turns pool) (continues : TurnsContinueOf w.spec) where
@@ -36,26 +36,26 @@ module _ (w : Shared) (limits : Limits) (sources : List TapeSource) (begun befor
   replaced = slice_set pool number h.new_member
 
   -- the drawing whose turn it was, and every other one
-  each-then : (j : ℕ) (m : MemberState) → slice_get replaced j ≡ Some m → IsMemberAfter w limits begun now (times j (turns ++ number ∷ [])) m
+  each-then : (j : ℕ) (m : MemberState) → slice_get replaced j ≡ Some m → IsMemberAfter w limits begun now (how_often j (turns ++ number ∷ [])) m
   unfolding replaced
   each-then j m at = go (eqb_tells j number)
     where
-      here : nat_eq j number ≡ true → j ≡ number → IsMemberAfter w limits begun now (times j (turns ++ number ∷ [])) m
+      here : nat_eq j number ≡ true → j ≡ number → IsMemberAfter w limits begun now (how_often j (turns ++ number ∷ [])) m
       here is same =
           let new-at : slice_get (slice_set pool number h.new_member) j ≡ Some h.new_member = subst (λ i. slice_get (slice_set pool number h.new_member) i ≡ Some h.new_member) (sym same) (replaced-here pool number h.old_member h.new_member h.at) in
           let is-new : h.new_member ≡ m = same_Some h.new_member m (sym new-at ∙ at) in
           let old-at : slice_get pool j ≡ Some h.old_member = subst (λ i. slice_get pool i ≡ Some h.old_member) (sym same) h.at in
           subst (λ n. IsMemberAfter w limits begun now n m) (sym (once-more j turns number is))
-          (subst (IsMemberAfter w limits begun now (suc (times j turns))) is-new
-          (member-turns w limits begun before now p.rose grew h.old_member h.new_member answer h.turn (times j turns) (p.each j h.old_member old-at) continues))
+          (subst (IsMemberAfter w limits begun now (suc (how_often j turns))) is-new
+          (member-turns w limits begun before now p.rose grew h.old_member h.new_member answer h.turn (how_often j turns) (p.each j h.old_member old-at) continues))
 
-      elsewhere : nat_eq j number ≡ false → j ≢ number → IsMemberAfter w limits begun now (times j (turns ++ number ∷ [])) m
+      elsewhere : nat_eq j number ≡ false → j ≢ number → IsMemberAfter w limits begun now (how_often j (turns ++ number ∷ [])) m
       elsewhere is other =
           let old-at : slice_get pool j ≡ Some m = sym (replaced-elsewhere pool number j h.new_member other) ∙ at in
           subst (λ n. IsMemberAfter w limits begun now n m) (sym (as-often j turns number is))
-          (member-rests w limits begun before now p.rose grew (times j turns) m (p.each j m old-at))
+          (member-rests w limits begun before now p.rose grew (how_often j turns) m (p.each j m old-at))
 
-      go : ((nat_eq j number ≡ true) × (j ≡ number)) ⊎ ((nat_eq j number ≡ false) × (j ≢ number)) → IsMemberAfter w limits begun now (times j (turns ++ number ∷ [])) m
+      go : ((nat_eq j number ≡ true) × (j ≡ number)) ⊎ ((nat_eq j number ≡ false) × (j ≢ number)) → IsMemberAfter w limits begun now (how_often j (turns ++ number ∷ [])) m
       go (inl same) = here same.0 same.1
       go (inr other) = elsewhere other.0 other.1
 

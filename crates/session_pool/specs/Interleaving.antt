@@ -6,7 +6,7 @@ use Rattle.std.specs.Str.{bytes_eq}
 use Rattle.bz_model.specs.declared.cell.Bounds.{Bounds}
 use Rattle.bz_model.specs.Fraction.{Fraction}
 use Rattle.bz_model.specs.Spec.{Spec}
-use Rattle.bit_tape.specs.Tape.{TapeSource, bits_of, HasFault}
+use Rattle.bit_tape.specs.Tape.{TapeSource, bits_of_source, HasFault}
 use Rattle.shape_sampler.specs.Visit.{Chooser}
 use Rattle.shape_sampler.specs.Answer.{ChoosesBy}
 use Rattle.size_window.specs.declared.ending.Ending.{Ending}
@@ -29,13 +29,19 @@ pub record Shared : Type 0 where
   pub contents : List ℕ → Option (List ℕ)
 
 -- The setting of these.
-abbrev pub setting : Spec → Fraction → (F : ℕ) → (table : (level node : ℕ) → Bounds)
+abbrev pub shared_setting : Spec → Fraction → (F : ℕ) → (table : (level node : ℕ) → Bounds)
     → (contents : List ℕ → Option (List ℕ)) → Shared
-setting s x F table contents = record { spec = s; x = x; F = F; table = table; contents = contents }
+shared_setting s x F table contents = record {
+  spec = s;
+  x = x;
+  F = F;
+  table = table;
+  contents = contents;
+}
 
 -- How often a drawing's number stands in a list of turns.
-abbrev pub times : (number : ℕ) → (turns : List ℕ) → ℕ
-times number turns = count_by (nat_eq number) turns
+abbrev pub how_often : (number : ℕ) → (turns : List ℕ) → ℕ
+how_often number turns = count_by (nat_eq number) turns
 
 -- A drawing was asked for so many turns. While it goes on all of them were counted. One that ended
 -- was asked for those that it counted at least, and for one more where its ending cost no turn.
@@ -61,20 +67,20 @@ pub record IsMemberAfter (w : Shared) (limits : Limits) (begun counts : List ℕ
     (m : MemberState) : Type 0 where
   pub most : ℕ
   pub course : Course
-  pub trace : HasTrace w.spec w.x w.F w.table limits (bits_of m.tape.source w.contents) turns
+  pub trace : HasTrace w.spec w.x w.F w.table limits (bits_of_source m.tape.source w.contents) turns
       m.drawing m.tape.used most course
   pub entries : course.entries ≡ map entry_of m.entries
   pub asked : WasAsked turns m.drawing m.drawing.ending
   pub ended : IfSome m.drawing.ending (EndedRightly w limits m.tape.source begun counts m.drawing)
 
 -- A drawing over the tape of this name ended with a failed read.
-abbrev pub has_failed : (name : List ℕ) → TapeSource → Option Ending → Bool
-has_failed name (TapeSource.Named other) (Some ReadFault) = bytes_eq name other
-has_failed name source ending = false
+abbrev pub failed_on_tape : (name : List ℕ) → TapeSource → Option Ending → Bool
+failed_on_tape name (TapeSource.Named other) (Some ReadFault) = bytes_eq name other
+failed_on_tape name source ending = false
 
 -- How many drawings over the tape of this name ended with a failed read.
 abbrev pub failures : (name : List ℕ) → List MemberState → ℕ
-failures name pool = count_by (λ m. has_failed name m.tape.source m.drawing.ending) pool
+failures name pool = count_by (λ m. failed_on_tape name m.tape.source m.drawing.ending) pool
 
 -- A drawing ended with a failed read.
 abbrev pub ended_failing : Option Ending → Bool
@@ -97,7 +103,7 @@ pub record IsPoolAfter (w : Shared) (limits : Limits) (sources : List TapeSource
     (begun counts : List ℕ → ℕ) (turns : List ℕ) (pool : List MemberState) : Type 0 where
   pub same_sources : sources_of pool ≡ sources
   pub each : (number : ℕ) (m : MemberState) → slice_get pool number ≡ Some m
-      → IsMemberAfter w limits begun counts (times number turns) m
+      → IsMemberAfter w limits begun counts (how_often number turns) m
   pub rose : (name : List ℕ) → begun name ≤ counts name
   pub failed : (name : List ℕ) → RoseBy (failures name pool) (begun name) (counts name)
   pub only : (name : List ℕ) → counts name ≤ begun name + all_failures pool
@@ -122,6 +128,6 @@ AreAlikeWhere Premise =
     → (begun_then counts_then : List ℕ → ℕ) (others : List ℕ) (other : List MemberState)
     → IsPoolAfter w limits sources begun_then counts_then others other
     → (number : ℕ) (m n : MemberState) → slice_get pool number ≡ Some m
-    → slice_get other number ≡ Some n → IsSome (bits_of m.tape.source w.contents)
+    → slice_get other number ≡ Some n → IsSome (bits_of_source m.tape.source w.contents)
     → m.drawing.ending ≢ Some ReadFault → n.drawing.ending ≢ Some ReadFault
-    → Premise (times number turns) (times number others) m n → AreAlikeMembers m n
+    → Premise (how_often number turns) (how_often number others) m n → AreAlikeMembers m n

@@ -3,7 +3,7 @@ use Rattle.std.specs.Prelude.{◌≡◌, ℕ, List, map, slice_get, Option, Some
 use Rattle.std.specs.List.{All}
 use Rattle.bz_model.specs.Fraction.{Fraction}
 use Rattle.bz_model.specs.Spec.{Spec}
-use Rattle.bit_tape.specs.Tape.{TapeState, TapeSource, Belongs, LeavesTape}
+use Rattle.bit_tape.specs.Tape.{TapeState, TapeSource, BelongsToShelf, LeavesTape}
 use Rattle.size_window.specs.declared.ending.Ending.{Ending}
 use Rattle.size_window.specs.RunByBits.{Limits}
 use Rattle.size_window.specs.Drawing.{DrawingBelongs}
@@ -23,7 +23,7 @@ pub record PoolBelongs (s : Spec) (x : Fraction) (pool : List MemberState) : Typ
 
 -- Tapes belong to a shelf with these contents where each of them does.
 pub record TapesBelong (contents : List ℕ → Option (List ℕ)) (tapes : List TapeState) : Type 0 where
-  pub each : All (Belongs contents) tapes
+  pub each : All (BelongsToShelf contents) tapes
 
 -- A pool before its first turn: it has one drawing per tape, in order, and each is a new one over
 -- its tape.

@@ -4,13 +4,14 @@ use Rattle.std.specs.Prelude.{Option, Some, None, IfSome}
 use Rattle.bz_model.specs.declared.cell.Bounds.{Bounds}
 use Rattle.bz_model.specs.Fraction.{Fraction}
 use Rattle.bz_model.specs.Spec.{Spec}
-use Rattle.bit_tape.specs.Tape.{bits_of, CountsFault}
+use Rattle.bit_tape.specs.Tape.{bits_of_source, CountsFault}
 use Rattle.size_window.specs.declared.ending.Ending.{Ending}
 use Rattle.size_window.specs.declared.ending.Ending.TheVariants.{Done, TurnLimit}
 use Rattle.size_window.specs.declared.turned.Entry.{Entry}
 use Rattle.size_window.specs.declared.turned.Turned.{Turned}
 use Rattle.size_window.specs.declared.turned.Turned.TheVariants as turned
-use Rattle.size_window.specs.Turn.{IsTurn, IsCounted, is_fault, IfKept, IsNextKept, HasLabels}
+use Rattle.size_window.specs.Turn.{IsTurn, IsCountedTurn, is_turn_fault, IfKept, IsNextKept}
+use Rattle.size_window.specs.Turn.{EntryHasLabels}
 use Rattle.size_window.specs.Turn.{most_bits, TellsOpen}
 use Rattle.session_pool.specs.declared.pooled.Pooled.{Pooled}
 use Rattle.session_pool.specs.declared.pooled.Pooled.TheVariants.{Going, Finished}
@@ -22,9 +23,9 @@ kept_in (turned.Kept entry) = entry ∷ []
 kept_in _ = []
 
 -- What a pool answers of a drawing with this ending: it goes on, or it has ended.
-abbrev pub answer_of : Option Ending → Pooled
-answer_of None = Going
-answer_of (Some ending) = Finished
+abbrev pub pool_answer : Option Ending → Pooled
+pool_answer None = Going
+pool_answer (Some ending) = Finished
 
 -- A drawing that hadn't ended answers Done exactly where as many objects as wanted are kept, and
 -- else TurnLimit exactly where as many turns as the limit were counted. It tells the bounds of
@@ -45,19 +46,19 @@ pub record IsMemberTurn (s : Spec) (x : Fraction) (F : ℕ) (table : (level node
     (answer : Pooled) (later : MemberState) : Type 0 where
   pub told : Turned
   pub made : told ≢ turned.OutOfMemory
-  pub turn : IsTurn s x F table (bits_of m.tape.source contents) m.drawing m.tape.used told
+  pub turn : IsTurn s x F table (bits_of_source m.tape.source contents) m.drawing m.tape.used told
       later.drawing later.tape.used
   pub again : IfSome m.drawing.ending (λ ending. (told ≡ turned.Finished ending) × (later ≡ m))
-  pub counted : IsCounted m.drawing told later.drawing
+  pub counted : IsCountedTurn m.drawing told later.drawing
   pub next : IfKept told (IsNextKept m.drawing.limits m.drawing.kept later.tape.used)
   pub rightly : m.drawing.ending ≡ None → AnswersRightly table m told
-  pub labels : IfKept told (HasLabels s.mode)
+  pub labels : IfKept told (EntryHasLabels s.mode)
   pub entries : later.entries ≡ m.entries ++ kept_in told
   pub used : (m.tape.used ≤ later.tape.used)
       × (later.tape.used ≤ m.tape.used + most_bits m.drawing.waiting)
   pub source : later.tape.source ≡ m.tape.source
-  pub faults : CountsFault (is_fault told m.drawing.ending) m.tape.source before now
-  pub answers : answer ≡ answer_of later.drawing.ending
+  pub faults : CountsFault (is_turn_fault told m.drawing.ending) m.tape.source before now
+  pub answers : answer ≡ pool_answer later.drawing.ending
 
 -- A turn of a pool: the drawing of this number makes its turn, and every other one is as it was,
 -- with its tape and its entries.

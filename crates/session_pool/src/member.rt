@@ -2,7 +2,7 @@
 ghost use Rattle.std.specs.Prelude.{◌≡◌, ◌≢◌, ◌≤◌, max, IfOk, IsSome};
 ghost use Rattle.bz_model.specs.Fraction.{Fraction, IsFractionBits};
 ghost use Rattle.bz_model.specs.Oracle.{LeavesOracle};
-ghost use Rattle.bit_tape.specs.Tape.{Belongs, LeavesTape};
+ghost use Rattle.bit_tape.specs.Tape.{BelongsToShelf, LeavesTape};
 ghost use Rattle.choice_draw.specs.Decision.{level_for};
 ghost use Rattle.size_window.specs.Drawing.{limits_of, AreLimits, DrawingBelongs};
 ghost use Rattle.session_pool.specs.Member.{IsNewMember, counts_of, bits_to_nodes, read_failed};
@@ -72,7 +72,7 @@ impl Member {
         requires fraction_bits { IsFractionBits F }
         requires spec { O.spec oracle.old ≡ founded.now }
         requires drawing { DrawingBelongs founded.now (O.x oracle.old) self.old.drawing }
-        requires tape { Belongs (S.content shelf.old) self.old.tape }
+        requires tape { BelongsToShelf (S.content shelf.old) self.old.tape }
 
         ensures no_memory { result ≡ Pooled.OutOfMemory
             → (self.new ≡ self.old) × (oracle.new ≡ oracle.old) × (shelf.new ≡ shelf.old) }

@@ -11,8 +11,8 @@ ghost use Rattle.bit_tape.specs.Tape.{TapeSource};
 ghost use Rattle.session_pool.specs.Member.{counts_of};
 ghost use Rattle.session_pool.specs.Pool.{IsNewPool, PoolBelongs, TapesBelong, LeavesTapeOf};
 ghost use Rattle.session_pool.specs.Pool.{tapes_of, sources_of, bits_to_nodes_at, ending_at};
-ghost use Rattle.session_pool.specs.Turn.{IsPoolTurn, answer_of};
-ghost use Rattle.session_pool.specs.Interleaving.{Shared, setting, IsPoolAfter};
+ghost use Rattle.session_pool.specs.Turn.{IsPoolTurn, pool_answer};
+ghost use Rattle.session_pool.specs.Interleaving.{Shared, shared_setting, IsPoolAfter};
 
 use crate::member::Member;
 use crate::pooled::{Pooled, Pooling};
@@ -101,15 +101,15 @@ impl Pool {
             → (result ≡ Pooled.Finished) × (self.new ≡ self.old)
             × (oracle.new ≡ oracle.old) × (shelf.new ≡ shelf.old) }
         ensures answers { result ≢ Pooled.OutOfMemory
-            → result ≡ answer_of (ending_at self.new number) }
+            → result ≡ pool_answer (ending_at self.new number) }
         ensures turned { result ≢ Pooled.OutOfMemory
             → IsPoolTurn founded.now (O.x oracle.old) F (O.table oracle.old) (S.content shelf.old)
             (S.faults shelf.old) (S.faults shelf.new) self.old number result self.new }
         ensures alone { result ≢ Pooled.OutOfMemory → (limits : run.Limits)
             (sources : List TapeSource) (begun : List ℕ → ℕ) (turns : List ℕ)
-            → IsPoolAfter (setting founded.now (O.x oracle.old) F (O.table oracle.old)
+            → IsPoolAfter (shared_setting founded.now (O.x oracle.old) F (O.table oracle.old)
             (S.content shelf.old)) limits sources begun (S.faults shelf.old) turns self.old
-            → IsPoolAfter (setting founded.now (O.x oracle.old) F (O.table oracle.old)
+            → IsPoolAfter (shared_setting founded.now (O.x oracle.old) F (O.table oracle.old)
             (S.content shelf.old)) limits sources begun (S.faults shelf.new)
             (turns ++ number ∷ []) self.new }
         ensures number { length self.new ≡ length self.old }

@@ -16,8 +16,8 @@ use Rattle.choice_draw.specs.Decision.{Choice}
 use Rattle.choice_draw.specs.Draw.{Bit, bit_of, draw}
 use Rattle.choice_draw.specs.IdealOfCell.{IsIdealOfCell, IsOverOfCell}
 use Rattle.series_bounds.specs.Series.{Kind}
-use Rattle.count_draw.specs.declared.drawn.CountDrawn.{CountDrawn}
-use Rattle.count_draw.specs.declared.drawn.CountDrawn.TheVariants as counted
+use Rattle.count_draw.specs.declared.drawn_count.CountDrawn.{CountDrawn}
+use Rattle.count_draw.specs.declared.drawn_count.CountDrawn.TheVariants as counted
 use Rattle.count_draw.specs.Kinds.{counted_node}
 use Rattle.count_draw.specs.Decision.{count_decision}
 use Rattle.choice_draw.specs.Answer.{HasCell, UsesBits, IsDraw, fault_of}
@@ -30,9 +30,9 @@ use Rattle.object_store.specs.declared.token.Token.{Token}
 use Rattle.object_store.specs.declared.token.Token.TheVariants as token
 use Rattle.shape_sampler.specs.declared.stepped.Stepped.{Stepped}
 use Rattle.shape_sampler.specs.declared.stepped.Stepped.TheVariants.{Overshot, Straddles, Ended, ReadFault}
-use Rattle.shape_sampler.specs.Visit.{Chooser, Attempt, Visited, after_draw, counted_answered, counted_visited, room_for, node_visited, visit_among, visit, with_pending, with_token, with_cell, given_up}
+use Rattle.shape_sampler.specs.Visit.{Chooser, Attempt, Visited, after_draw, counted_answered, counted_visited, room_for, node_visited, visit_among, visit, with_pending, attempt_with_token, with_cell, given_up}
 use Rattle.shape_sampler.specs.State.{SessionState, SessionBelongs, HasCountedPart, Runs, Leaves, attempt_of, answer_for, count_answer, stop_after, count_tokens, count_cells, PutsParts}
-use Rattle.shape_sampler.specs.Answer.{told_visit, fault_place, is_fault, EndsThere, ChoosesBy, IsVisit, IsVisitByBits, IsIdealAnswer, Extends, Draws}
+use Rattle.shape_sampler.specs.Answer.{told_visit, visit_fault_place, is_visit_fault, EndsThere, ChoosesBy, IsVisit, IsVisitByBits, IsIdealAnswer, Extends, Draws}
 use Rattle.shape_sampler.proofs.Ideal.{IsIdealVisit, ideal-counted, ideal-over}
 use Rattle.shape_sampler.proofs.Sessions.{still-belongs}
 use Rattle.shape_sampler.proofs.Plain.{Front, front}
@@ -82,7 +82,7 @@ stop-for : (pending : List ℕ) → stop_after (answer_for pending) ≡ None
 stop-for [] = refl
 stop-for (e ∷ es) = refl
 
-fault-for : (pending : List ℕ) (used : ℕ) → None ≡ fault_place (answer_for pending) used
+fault-for : (pending : List ℕ) (used : ℕ) → None ≡ visit_fault_place (answer_for pending) used
 fault-for [] used = refl
 fault-for (e ∷ es) used = refl
 
@@ -113,19 +113,19 @@ ends-for : (pending : List ℕ) (used : ℕ) (bits : ℕ → Option Bool) → En
 ends-for [] used bits = tt
 ends-for (e ∷ es) used bits = tt
 
-no-fault : (pending : List ℕ) → false ≡ is_fault (answer_for pending) None
+no-fault : (pending : List ℕ) → false ≡ is_visit_fault (answer_for pending) None
 no-fault [] = refl
 no-fault (e ∷ es) = refl
 
 -- where the tape's end stopped the draw, it stopped the visit
-to-visit : (node : ExprId) (pending : List ℕ) (d : CountDrawn) (used : ℕ) (bits : ℕ → Option Bool) → drew.EndsThere (told_count d used) bits → EndsThere (count_answer node d pending) used bits
+to-visit : (node : ExprId) (pending : List ℕ) (d : CountDrawn) (used : ℕ) (bits : ℕ → Option Bool) → drew.DrawEndsThere (told_count d used) bits → EndsThere (count_answer node d pending) used bits
 to-visit node pending (counted.Count value cell) used bits h = ends-for pending used bits
 to-visit node pending (counted.Over cell) used bits h = tt
 to-visit node pending (counted.Straddles cell) used bits h = tt
 to-visit node pending counted.Ended used bits h = h
 to-visit node pending counted.ReadFault used bits h = tt
 
-to-draw : (node : ExprId) (pending : List ℕ) (d : CountDrawn) (used : ℕ) (bits : ℕ → Option Bool) → EndsThere (count_answer node d pending) used bits → drew.EndsThere (told_count d used) bits
+to-draw : (node : ExprId) (pending : List ℕ) (d : CountDrawn) (used : ℕ) (bits : ℕ → Option Bool) → EndsThere (count_answer node d pending) used bits → drew.DrawEndsThere (told_count d used) bits
 to-draw node pending (counted.Count value cell) used bits h = tt
 to-draw node pending (counted.Over cell) used bits h = tt
 to-draw node pending (counted.Straddles cell) used bits h = tt
@@ -133,10 +133,10 @@ to-draw node pending counted.Ended used bits h = h
 to-draw node pending counted.ReadFault used bits h = tt
 
 -- a visit fails exactly where its draw does
-pub count-fault : (node : ExprId) (pending : List ℕ) (d : CountDrawn) (answer : Stepped) (stopped : Option Stepped) → stopped ≡ None → answer ≡ count_answer node d pending → counting.is_fault d ≡ is_fault answer stopped
-count-fault node pending d answer stopped running answered = by d ∙ ap (λ a. is_fault a None) (sym answered) ∙ ap (is_fault answer) (sym running)
+pub count-fault : (node : ExprId) (pending : List ℕ) (d : CountDrawn) (answer : Stepped) (stopped : Option Stepped) → stopped ≡ None → answer ≡ count_answer node d pending → counting.is_count_fault d ≡ is_visit_fault answer stopped
+count-fault node pending d answer stopped running answered = by d ∙ ap (λ a. is_visit_fault a None) (sym answered) ∙ ap (is_visit_fault answer) (sym running)
   where
-    by : (d : CountDrawn) → counting.is_fault d ≡ is_fault (count_answer node d pending) None
+    by : (d : CountDrawn) → counting.is_count_fault d ≡ is_visit_fault (count_answer node d pending) None
     by (counted.Count value cell) = no-fault pending
     by (counted.Over cell) = refl
     by (counted.Straddles cell) = refl
@@ -163,8 +163,8 @@ module _ (node : ExprId) (part : ℕ) (before now : SessionState) (first : slice
   count-draws counted.ReadFault start used t bits h = tt
 
   -- the session's attempt after a number of parts was drawn
-  repeats : (value : ℕ) (cell : Cell) (start used : ℕ) → CountSettled node part (counted.Count value cell) before now → used ≡ start + cell.b → attempt_of now used ≡ with_pending (with_token (with_cell (attempt_of before start) cell) (token.Count value)) (replicate value part ++ f.rest)
-  repeats value cell start used t bits = same-attempt (attempt_of now used) (with_pending (with_token (with_cell (attempt_of before start) cell) (token.Count value)) (replicate value part ++ f.rest)) (t.pending node.0 f.rest f.whole) t.tokens t.cells t.room bits
+  repeats : (value : ℕ) (cell : Cell) (start used : ℕ) → CountSettled node part (counted.Count value cell) before now → used ≡ start + cell.b → attempt_of now used ≡ with_pending (attempt_with_token (with_cell (attempt_of before start) cell) (token.Count value)) (replicate value part ++ f.rest)
+  repeats value cell start used t bits = same-attempt (attempt_of now used) (with_pending (attempt_with_token (with_cell (attempt_of before start) cell) (token.Count value)) (replicate value part ++ f.rest)) (t.pending node.0 f.rest f.whole) t.tokens t.cells t.room bits
 
   -- and after every number up to the room was passed over
   gives-up : (cell : Cell) (start used : ℕ) → CountSettled node part (counted.Over cell) before now → used ≡ start + cell.b → attempt_of now used ≡ given_up (with_cell (attempt_of before start) cell)
@@ -178,7 +178,7 @@ module _ (node : ExprId) (part : ℕ) (before now : SessionState) (first : slice
   told counted.Ended start used t bits = refl
   told counted.ReadFault start used t bits = refl
 
-  same-fault : (d : CountDrawn) (used : ℕ) → fault_of (told_count d used) ≡ fault_place (count_answer node d now.pending) used
+  same-fault : (d : CountDrawn) (used : ℕ) → fault_of (told_count d used) ≡ visit_fault_place (count_answer node d now.pending) used
   same-fault (counted.Count value cell) used = fault-for now.pending used
   same-fault (counted.Over cell) used = refl
   same-fault (counted.Straddles cell) used = refl
@@ -192,9 +192,9 @@ module _ (node : ExprId) (part : ℕ) (before now : SessionState) (first : slice
         a : Attempt
         a = attempt_of before start
 
-        same : told_visit (count_answer node d now.pending) now used ≡ visit c (bit_of bits (fault_place (count_answer node d now.pending) used)) (attempt_of before start)
+        same : told_visit (count_answer node d now.pending) now used ≡ visit c (bit_of bits (visit_fault_place (count_answer node d now.pending) used)) (attempt_of before start)
         same =
-            let bit = bit_of bits (fault_place (count_answer node d now.pending) used) in
+            let bit = bit_of bits (visit_fault_place (count_answer node d now.pending) used) in
             let here : node_at c.spec node.0 ≡ Some (counted_node at.kind part) = ap (λ (z : Spec). node_at z node.0) by.same_spec ∙ at.here in
             let decide : c.decide node.0 (room_for c part before.room) ≡ count_decision s F table node.0 room = ap (c.decide node.0) (room-is s c part before.room room (by.frees part) room_at) ∙ by.at_counted node.0 room (record { kind = at.kind; part = part; here = at.here }) in
             let drew : told_count d used ≡ draw (c.decide node.0 (room_for c part before.room)) bit start = drew_so ∙ ap (λ p. draw (count_decision s F table node.0 room) (bit_of bits p) start) (same-fault d used) ∙ ap (λ (choose : Cell → Option Choice). draw choose bit start) (sym decide) in

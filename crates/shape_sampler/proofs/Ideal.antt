@@ -15,7 +15,7 @@ use Rattle.object_store.specs.declared.token.Token.TheVariants as token
 use Rattle.object_store.specs.Walk.{AllBelow}
 use Rattle.object_store.proofs.InRange.{body-below, union-parts, product-parts, replicate-below}
 use Rattle.choice_draw.specs.IdealOfCell.{IsIdealOfCell, IsOverOfCell}
-use Rattle.shape_sampler.specs.Visit.{Attempt, Visited, leaf_visited, atom_visited, with_pending, with_token, with_cell, given_up}
+use Rattle.shape_sampler.specs.Visit.{Attempt, Visited, leaf_visited, atom_visited, with_pending, attempt_with_token, with_cell, given_up}
 use Rattle.shape_sampler.specs.Belonging.{Belonging, Continues, IsIdealShape, IsIdealOver}
 use Rattle.shape_sampler.proofs.Visits.{goes-on, is-over, empty-turns, atom-turns, atom-over, class-turns, product-turns, union-turns, counted-turns, counted-over}
 use Rattle.shape_sampler.proofs.Shapes.{ideal-shape}
@@ -50,11 +50,11 @@ module _ (s : Spec) (x : Fraction) (whole : ℕ) where
     no-token es room g = subst (λ ts. Continues s x whole ts a.cells room es) (append-nil a.tokens) (no-cell (a.tokens ++ []) es room g)
 
     pub ideal-leaf : (word : List ℕ) → node_at s e ≡ Some (Node.Empty word) → IsIdealVisit s x whole (leaf_visited a rest)
-    ideal-leaf word at = went (with_pending (with_token a token.Unit) rest) range.1 (no-cell (a.tokens ++ token.Unit ∷ []) rest a.room (goes-on s x now (empty-turns s x e a.room rest word at)))
+    ideal-leaf word at = went (with_pending (attempt_with_token a token.Unit) rest) range.1 (no-cell (a.tokens ++ token.Unit ∷ []) rest a.room (goes-on s x now (empty-turns s x e a.room rest word at)))
 
     pub ideal-atom : (word : List ℕ) → node_at s e ≡ Some (Node.Atom word) → (room : ℕ) → a.room ≡ room → IsIdealVisit s x whole (atom_visited a rest room)
     ideal-atom word at zero same = subst (IsIdealOver s x whole) (append-nil a.cells) (is-over s x (subst (λ r. Continues s x whole a.tokens a.cells r (e ∷ rest)) same now) (atom-over s x e rest word at))
-    ideal-atom word at (suc room) same = went (record (with_pending (with_token a token.Dot) rest) { room = room }) range.1 (no-cell (a.tokens ++ token.Dot ∷ []) rest room (goes-on s x (subst (λ r. Continues s x whole a.tokens a.cells r (e ∷ rest)) same now) (atom-turns s x e room rest word at)))
+    ideal-atom word at (suc room) same = went (record (with_pending (attempt_with_token a token.Dot) rest) { room = room }) range.1 (no-cell (a.tokens ++ token.Dot ∷ []) rest room (goes-on s x (subst (λ r. Continues s x whole a.tokens a.cells r (e ∷ rest)) same now) (atom-turns s x e room rest word at)))
 
     module _ (sound : IsSound s) where
       pub ideal-class : (c body : ℕ) → node_at s e ≡ Some (Node.Class c) → body_of s c ≡ Some body → IsIdealVisit s x whole (Visited.Went (with_pending a (body ∷ rest)))
@@ -63,11 +63,11 @@ module _ (s : Spec) (x : Fraction) (whole : ℕ) where
       pub ideal-product : (parts : List ℕ) → node_at s e ≡ Some (Node.Product parts) → IsIdealVisit s x whole (Visited.Went (with_pending a (parts ++ rest)))
       ideal-product parts at = went (with_pending a (parts ++ rest)) (AllByRecursion-append (λ n. n < length s.nodes) parts rest (product-parts s sound e parts at) range.1) (no-token (parts ++ rest) a.room (goes-on s x now (product-turns s x e a.room parts rest at)))
 
-      pub ideal-union : (parts : List ℕ) (i part : ℕ) (cell : Cell) → node_at s e ≡ Some (Node.Union parts) → slice_get parts i ≡ Some part → ((u : Fraction) → IsInCell cell.k cell.b u → IsIdealOption s x u e i) → IsIdealVisit s x whole (Visited.Went (with_pending (with_token (with_cell a cell) (token.Pick i)) (part ∷ rest)))
-      ideal-union parts i part cell at is_part ideal = went (with_pending (with_token (with_cell a cell) (token.Pick i)) (part ∷ rest)) (union-parts s sound e parts at i part is_part, range.1) (goes-on s x now (union-turns s x e i part a.room parts rest cell at is_part ideal))
+      pub ideal-union : (parts : List ℕ) (i part : ℕ) (cell : Cell) → node_at s e ≡ Some (Node.Union parts) → slice_get parts i ≡ Some part → ((u : Fraction) → IsInCell cell.k cell.b u → IsIdealOption s x u e i) → IsIdealVisit s x whole (Visited.Went (with_pending (attempt_with_token (with_cell a cell) (token.Pick i)) (part ∷ rest)))
+      ideal-union parts i part cell at is_part ideal = went (with_pending (attempt_with_token (with_cell a cell) (token.Pick i)) (part ∷ rest)) (union-parts s sound e parts at i part is_part, range.1) (goes-on s x now (union-turns s x e i part a.room parts rest cell at is_part ideal))
 
-    pub ideal-counted : (i part : ℕ) (node : Node) (form : Objects → Object) (cell : Cell) → node_at s e ≡ Some node → IsCounted node part form → part < length s.nodes → (i ≤ a.room) ⊎ HasZero s part → IsIdealOfCell s x e cell i → IsIdealVisit s x whole (Visited.Went (with_pending (with_token (with_cell a cell) (token.Count i)) (replicate i part ++ rest)))
-    ideal-counted i part node form cell at is part_in small ideal = went (with_pending (with_token (with_cell a cell) (token.Count i)) (replicate i part ++ rest)) (AllByRecursion-append (λ n. n < length s.nodes) (replicate i part) rest (replicate-below (length s.nodes) i part part_in) range.1) (goes-on s x now (counted-turns s x e i part a.room node form rest cell at is small ideal))
+    pub ideal-counted : (i part : ℕ) (node : Node) (form : Objects → Object) (cell : Cell) → node_at s e ≡ Some node → IsCounted node part form → part < length s.nodes → (i ≤ a.room) ⊎ HasZero s part → IsIdealOfCell s x e cell i → IsIdealVisit s x whole (Visited.Went (with_pending (attempt_with_token (with_cell a cell) (token.Count i)) (replicate i part ++ rest)))
+    ideal-counted i part node form cell at is part_in small ideal = went (with_pending (attempt_with_token (with_cell a cell) (token.Count i)) (replicate i part ++ rest)) (AllByRecursion-append (λ n. n < length s.nodes) (replicate i part) rest (replicate-below (length s.nodes) i part part_in) range.1) (goes-on s x now (counted-turns s x e i part a.room node form rest cell at is small ideal))
 
     pub ideal-over : (part : ℕ) (node : Node) (form : Objects → Object) (cell : Cell) → node_at s e ≡ Some node → IsCounted node part form → ¬ (HasZero s part) → IsOverOfCell s x e cell a.room → IsIdealVisit s x whole (Visited.Over (given_up (with_cell a cell)))
     ideal-over part node form cell at is no_zero never = is-over s x now (counted-over s x e part a.room node form rest cell at is no_zero never)

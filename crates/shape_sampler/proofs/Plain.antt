@@ -5,7 +5,7 @@ use Rattle.std.proofs.lemmas.Option.{get_or_from_slice_get}
 use Rattle.bz_model.specs.Fraction.{Fraction}
 use Rattle.bz_model.specs.Spec.{Spec, Node, node_at, body_of}
 use Rattle.bz_model.specs.Cell.{AreCells}
-use Rattle.bit_tape.specs.Tape.{TapeState, Belongs, LeavesTape}
+use Rattle.bit_tape.specs.Tape.{TapeState, BelongsToShelf, LeavesTape}
 use Rattle.bit_tape.proofs.GivenBits.{gave-none}
 use Rattle.bit_tape.proofs.Leaving.{leaves-none}
 use Rattle.choice_draw.proofs.ToldDraws.{on_any}
@@ -21,7 +21,7 @@ use Rattle.shape_sampler.specs.declared.stepped.Stepped.{Stepped}
 use Rattle.shape_sampler.specs.declared.stepped.Stepped.TheVariants.{Moved, Made, Overshot, Straddles, Ended, ReadFault, OutOfMemory}
 use Rattle.shape_sampler.specs.Visit.{Chooser, Attempt, Visited, node_visited, visit_among, visit, with_pending}
 use Rattle.shape_sampler.specs.State.{SessionState, SessionBelongs, attempt_of}
-use Rattle.shape_sampler.specs.Answer.{told_visit, fault_place, is_fault, EndsThere, IsVisitByBits, IsPlainVisit, IsVisitOfAll, IsIdealAnswer, IsPlainAnswer, Draws, replaced_by}
+use Rattle.shape_sampler.specs.Answer.{told_visit, visit_fault_place, is_visit_fault, EndsThere, IsVisitByBits, IsPlainVisit, IsVisitOfAll, IsIdealAnswer, IsPlainAnswer, Draws, replaced_by}
 use Rattle.shape_sampler.proofs.Ideal.{IsIdealVisit}
 use Rattle.shape_sampler.proofs.Sessions.{still-belongs}
 
@@ -69,7 +69,7 @@ plain-ends (Straddles node cell) used bits plain = tt
 plain-ends Ended used bits plain = absurd plain
 plain-ends ReadFault used bits plain = tt
 
-plain-no_fault : (answer : Stepped) (stopped : Option Stepped) → IsPlainAnswer answer → false ≡ is_fault answer stopped
+plain-no_fault : (answer : Stepped) (stopped : Option Stepped) → IsPlainAnswer answer → false ≡ is_visit_fault answer stopped
 plain-no_fault Moved stopped plain = refl
 plain-no_fault Made stopped plain = refl
 plain-no_fault Overshot stopped plain = refl
@@ -79,20 +79,20 @@ plain-no_fault Ended stopped plain = refl
 plain-no_fault ReadFault stopped plain = absurd plain
 
 -- it leaves tape and shelf as they were
-pub plain-tape : {S : Type 0} (contents : S → List ℕ → Option (List ℕ)) (counts : S → List ℕ → ℕ) (shelf : S) (tape : TapeState) (answer : Stepped) (stopped : Option Stepped) → IsPlainAnswer answer → Belongs (contents shelf) tape → LeavesTape contents counts (is_fault answer stopped) shelf shelf tape tape
+pub plain-tape : {S : Type 0} (contents : S → List ℕ → Option (List ℕ)) (counts : S → List ℕ → ℕ) (shelf : S) (tape : TapeState) (answer : Stepped) (stopped : Option Stepped) → IsPlainAnswer answer → BelongsToShelf (contents shelf) tape → LeavesTape contents counts (is_visit_fault answer stopped) shelf shelf tape tape
 plain-tape contents counts shelf tape answer stopped plain belongs = subst (λ b. LeavesTape contents counts b shelf shelf tape tape) (plain-no_fault answer stopped plain) (leaves-none contents counts shelf tape belongs)
 
 -- so does an answer that is given again
-fault-again : (stop : Stepped) (stopped : Option Stepped) → stopped ≡ Some stop → false ≡ is_fault stop stopped
+fault-again : (stop : Stepped) (stopped : Option Stepped) → stopped ≡ Some stop → false ≡ is_visit_fault stop stopped
 fault-again Moved stopped is = refl
 fault-again Made stopped is = refl
 fault-again Overshot stopped is = refl
 fault-again OutOfMemory stopped is = refl
 fault-again (Straddles node cell) stopped is = refl
 fault-again Ended stopped is = refl
-fault-again ReadFault stopped is = ap (is_fault ReadFault) (sym is)
+fault-again ReadFault stopped is = ap (is_visit_fault ReadFault) (sym is)
 
-pub again-tape : {S : Type 0} (contents : S → List ℕ → Option (List ℕ)) (counts : S → List ℕ → ℕ) (shelf : S) (tape : TapeState) (stop : Stepped) (stopped : Option Stepped) → stopped ≡ Some stop → Belongs (contents shelf) tape → LeavesTape contents counts (is_fault stop stopped) shelf shelf tape tape
+pub again-tape : {S : Type 0} (contents : S → List ℕ → Option (List ℕ)) (counts : S → List ℕ → ℕ) (shelf : S) (tape : TapeState) (stop : Stepped) (stopped : Option Stepped) → stopped ≡ Some stop → BelongsToShelf (contents shelf) tape → LeavesTape contents counts (is_visit_fault stop stopped) shelf shelf tape tape
 again-tape contents counts shelf tape stop stopped is belongs = subst (λ b. LeavesTape contents counts b shelf shelf tape tape) (fault-again stop stopped is) (leaves-none contents counts shelf tape belongs)
 
 -- a visit by every chooser that takes no number was given no bit, and is the one over any bits
@@ -101,7 +101,7 @@ plain-by-bits s F table told before now answer start plain h = record {
   given = [];
   gave = gave-none told start;
   ended = on_any told (λ bits. plain-ends answer start bits plain);
-  exact = λ bits have ends c by. record { same = λ ne. (h ne).same c (bit_of bits (fault_place answer start)) start by.same_spec };
+  exact = λ bits have ends c by. record { same = λ ne. (h ne).same c (bit_of bits (visit_fault_place answer start)) start by.same_spec };
 }
 
 -- out of memory nothing was given

@@ -22,9 +22,9 @@ use Rattle.object_store.specs.declared.token.Token.{Token}
 use Rattle.object_store.specs.declared.token.Token.TheVariants as token
 use Rattle.shape_sampler.specs.declared.stepped.Stepped.{Stepped}
 use Rattle.shape_sampler.specs.declared.stepped.Stepped.TheVariants.{Moved, Straddles, Ended, ReadFault}
-use Rattle.shape_sampler.specs.Visit.{Chooser, Attempt, Visited, after_draw, union_answered, node_visited, visit_among, visit, with_pending, with_token, with_cell}
+use Rattle.shape_sampler.specs.Visit.{Chooser, Attempt, Visited, after_draw, union_answered, node_visited, visit_among, visit, with_pending, attempt_with_token, with_cell}
 use Rattle.shape_sampler.specs.State.{SessionState, SessionBelongs, Leaves, attempt_of, stopped_by, union_answer, stop_after, drawn_tokens, drawn_cells, PutsPart}
-use Rattle.shape_sampler.specs.Answer.{told_visit, fault_place, is_fault, EndsThere, ChoosesBy, IsVisit, IsVisitByBits, IsIdealAnswer, Draws}
+use Rattle.shape_sampler.specs.Answer.{told_visit, visit_fault_place, is_visit_fault, EndsThere, ChoosesBy, IsVisit, IsVisitByBits, IsIdealAnswer, Draws}
 use Rattle.shape_sampler.proofs.Ideal.{IsIdealVisit, ideal-union}
 use Rattle.shape_sampler.proofs.Sessions.{still-belongs}
 use Rattle.shape_sampler.proofs.Plain.{Front, front}
@@ -83,23 +83,23 @@ drawn-are drawn.Ended h = tt
 drawn-are drawn.ReadFault h = tt
 
 -- where the tape's end stopped the draw, it stopped the visit
-to-visit : (node : ExprId) (d : Drawn) (used : ℕ) (bits : ℕ → Option Bool) → drew.EndsThere (told_draw Choice.Take d used) bits → EndsThere (union_answer node d) used bits
+to-visit : (node : ExprId) (d : Drawn) (used : ℕ) (bits : ℕ → Option Bool) → drew.DrawEndsThere (told_draw Choice.Take d used) bits → EndsThere (union_answer node d) used bits
 to-visit node (drawn.Value value cell) used bits h = tt
 to-visit node (drawn.Straddles cell) used bits h = tt
 to-visit node drawn.Ended used bits h = h
 to-visit node drawn.ReadFault used bits h = tt
 
-to-draw : (node : ExprId) (d : Drawn) (used : ℕ) (bits : ℕ → Option Bool) → EndsThere (union_answer node d) used bits → drew.EndsThere (told_draw Choice.Take d used) bits
+to-draw : (node : ExprId) (d : Drawn) (used : ℕ) (bits : ℕ → Option Bool) → EndsThere (union_answer node d) used bits → drew.DrawEndsThere (told_draw Choice.Take d used) bits
 to-draw node (drawn.Value value cell) used bits h = tt
 to-draw node (drawn.Straddles cell) used bits h = tt
 to-draw node drawn.Ended used bits h = h
 to-draw node drawn.ReadFault used bits h = tt
 
 -- a visit fails exactly where its draw does
-pub draw-fault : (node : ExprId) (d : Drawn) (answer : Stepped) (stopped : Option Stepped) → stopped ≡ None → answer ≡ union_answer node d → drew.is_fault d ≡ is_fault answer stopped
-draw-fault node d answer stopped running answered = by d ∙ ap (λ a. is_fault a None) (sym answered) ∙ ap (is_fault answer) (sym running)
+pub draw-fault : (node : ExprId) (d : Drawn) (answer : Stepped) (stopped : Option Stepped) → stopped ≡ None → answer ≡ union_answer node d → drew.is_draw_fault d ≡ is_visit_fault answer stopped
+draw-fault node d answer stopped running answered = by d ∙ ap (λ a. is_visit_fault a None) (sym answered) ∙ ap (is_visit_fault answer) (sym running)
   where
-    by : (d : Drawn) → drew.is_fault d ≡ is_fault (union_answer node d) None
+    by : (d : Drawn) → drew.is_draw_fault d ≡ is_visit_fault (union_answer node d) None
     by (drawn.Value value cell) = refl
     by (drawn.Straddles cell) = refl
     by drawn.Ended = refl
@@ -123,8 +123,8 @@ module _ (node : ExprId) (parts : List ℕ) (before now : SessionState) (first :
   union-draws drawn.ReadFault start used t bits h = tt
 
   -- the session's attempt after a part was drawn
-  picked : (value : ℕ) (cell : Cell) (start used : ℕ) → Settled node parts (drawn.Value value cell) before now → used ≡ start + cell.b → attempt_of now used ≡ with_pending (with_token (with_cell (attempt_of before start) cell) (token.Pick value)) (slice_index parts value ∷ f.rest)
-  picked value cell start used t bits = same-attempt (attempt_of now used) (with_pending (with_token (with_cell (attempt_of before start) cell) (token.Pick value)) (slice_index parts value ∷ f.rest)) (t.pending node.0 f.rest f.whole) t.tokens t.cells t.room bits
+  picked : (value : ℕ) (cell : Cell) (start used : ℕ) → Settled node parts (drawn.Value value cell) before now → used ≡ start + cell.b → attempt_of now used ≡ with_pending (attempt_with_token (with_cell (attempt_of before start) cell) (token.Pick value)) (slice_index parts value ∷ f.rest)
+  picked value cell start used t bits = same-attempt (attempt_of now used) (with_pending (attempt_with_token (with_cell (attempt_of before start) cell) (token.Pick value)) (slice_index parts value ∷ f.rest)) (t.pending node.0 f.rest f.whole) t.tokens t.cells t.room bits
 
   -- what is told is what the draw's end means
   told : (d : Drawn) (start used : ℕ) → Settled node parts d before now → UsesBits (told_draw Choice.Take d used) start used → told_visit (union_answer node d) now used ≡ after_draw node.0 (union_answered (attempt_of before start) parts f.rest) (told_draw Choice.Take d used)
@@ -133,7 +133,7 @@ module _ (node : ExprId) (parts : List ℕ) (before now : SessionState) (first :
   told drawn.Ended start used t bits = refl
   told drawn.ReadFault start used t bits = refl
 
-  same-fault : (d : Drawn) (used : ℕ) → fault_of (told_draw Choice.Take d used) ≡ fault_place (union_answer node d) used
+  same-fault : (d : Drawn) (used : ℕ) → fault_of (told_draw Choice.Take d used) ≡ visit_fault_place (union_answer node d) used
   same-fault (drawn.Value value cell) used = refl
   same-fault (drawn.Straddles cell) used = refl
   same-fault drawn.Ended used = refl
@@ -146,9 +146,9 @@ module _ (node : ExprId) (parts : List ℕ) (before now : SessionState) (first :
         a : Attempt
         a = attempt_of before start
 
-        same : told_visit (union_answer node d) now used ≡ visit c (bit_of bits (fault_place (union_answer node d) used)) (attempt_of before start)
+        same : told_visit (union_answer node d) now used ≡ visit c (bit_of bits (visit_fault_place (union_answer node d) used)) (attempt_of before start)
         same =
-            let bit = bit_of bits (fault_place (union_answer node d) used) in
+            let bit = bit_of bits (visit_fault_place (union_answer node d) used) in
             let here : node_at c.spec node.0 ≡ Some (Node.Union parts) = ap (λ (z : Spec). node_at z node.0) by.same_spec ∙ at in
             let decide : c.decide node.0 before.room ≡ union_decision s table node.0 = by.at_unions node.0 before.room (record { parts = parts; here = at }) in
             let drew : told_draw Choice.Take d used ≡ draw (c.decide node.0 before.room) bit start = drew_so ∙ ap (λ p. draw (union_decision s table node.0) (bit_of bits p) start) (same-fault d used) ∙ ap (λ (choose : Cell → Option Choice). draw choose bit start) (sym decide) in
@@ -166,7 +166,7 @@ module _ (node : ExprId) (parts : List ℕ) (before now : SessionState) (first :
         let there = part_there parts value within in
         let index : slice_index parts value ≡ there.0 = get_or_from_slice_get parts value there.0 0 there.1 in
         let visit = ideal-union s x before.whole (attempt_of before 0) b.attempt node.0 f.rest f.whole sound parts value there.0 cell at there.1 ideal in
-        let attempt = picked value cell 0 cell.b t (sym (zero-add cell.b)) ∙ ap (λ p. with_pending (with_token (with_cell (attempt_of before 0) cell) (token.Pick value)) (p ∷ f.rest)) index in
+        let attempt = picked value cell 0 cell.b t (sym (zero-add cell.b)) ∙ ap (λ p. with_pending (attempt_with_token (with_cell (attempt_of before 0) cell) (token.Pick value)) (p ∷ f.rest)) index in
         still-belongs s x before now Moved cell.b b (union-leaves (drawn.Value value cell) t) (cells-now (drawn.Value value cell) t is_cell b.cells) (λ ne. subst (λ q. IsIdealVisit s x before.whole (Visited.Went q)) (sym attempt) visit)
     union-session x sound (drawn.Straddles cell) t is_cell ideal within b = still-belongs s x before now (Straddles node cell) 0 b (union-leaves (drawn.Straddles cell) t) (cells-now (drawn.Straddles cell) t is_cell b.cells) (λ ne. tt)
     union-session x sound drawn.Ended t is_cell ideal within b = still-belongs s x before now Ended 0 b (union-leaves drawn.Ended t) (cells-now drawn.Ended t is_cell b.cells) (λ ne. tt)

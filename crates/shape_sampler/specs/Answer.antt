@@ -33,14 +33,14 @@ told_visit ReadFault now used = Visited.Failed used
 told_visit OutOfMemory now used = Visited.Went (attempt_of now used)
 
 -- The place at which the shelf failed, where the answer is that it did.
-abbrev pub fault_place : Stepped → (used : ℕ) → Option ℕ
-fault_place ReadFault used = Some used
-fault_place _ used = None
+abbrev pub visit_fault_place : Stepped → (used : ℕ) → Option ℕ
+visit_fault_place ReadFault used = Some used
+visit_fault_place _ used = None
 
 -- The answer is that the shelf failed, in this visit: nothing had stopped the session before.
-abbrev pub is_fault : Stepped → (stopped : Option Stepped) → Bool
-is_fault ReadFault None = true
-is_fault _ stopped = false
+abbrev pub is_visit_fault : Stepped → (stopped : Option Stepped) → Bool
+is_visit_fault ReadFault None = true
+is_visit_fault _ stopped = false
 
 -- Where the tape's end stopped the visit, these bits end at the place used.
 abbrev pub EndsThere : Stepped → (used : ℕ) → (bits : ℕ → Option Bool) → Type 0
@@ -62,7 +62,7 @@ pub record ChoosesBy (s : Spec) (f : ℕ) (table : (level node : ℕ) → Bounds
 pub record IsVisit (c : Chooser) (bits : ℕ → Option Bool) (before : SessionState) (start : ℕ)
     (answer : Stepped) (now : SessionState) (used : ℕ) : Type 0 where
   pub same : answer ≢ OutOfMemory
-      → told_visit answer now used ≡ visit c (bit_of bits (fault_place answer used))
+      → told_visit answer now used ≡ visit c (bit_of bits (visit_fault_place answer used))
       (attempt_of before start)
 
 -- An answer is that of the visit over the bits that it was given: it was given as many bits as were
@@ -97,7 +97,7 @@ pub record Extends (before now : List Cell) : Type 0 where
   pub whole : now ≡ before ++ more
 
 -- A cell that straddles is one of 60 bits, at the first pending node; so many bits were used.
-pub record StraddlesAt (node : ExprId) (cell : Cell) (before : SessionState)
+pub record StraddlesAtNode (node : ExprId) (cell : Cell) (before : SessionState)
     (start used : ℕ) : Type 0 where
   pub first : slice_get before.pending 0 ≡ Some node.0
   pub is_cell : IsCell cell.k cell.b
@@ -107,7 +107,7 @@ pub record StraddlesAt (node : ExprId) (cell : Cell) (before : SessionState)
 -- What a visit draws, from so many bits used before to so many now. Where it isn't stopped, its
 -- cells stand after those before.
 abbrev pub Draws : Stepped → (before now : SessionState) → (start used : ℕ) → Type 0
-Draws (Straddles node cell) before now start used = StraddlesAt node cell before start used
+Draws (Straddles node cell) before now start used = StraddlesAtNode node cell before start used
 Draws Ended before now start used = Unit {0}
 Draws ReadFault before now start used = Unit {0}
 Draws _ before now start used = Extends before.cells now.cells

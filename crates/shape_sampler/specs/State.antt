@@ -10,8 +10,8 @@ use Rattle.choice_draw.specs.declared.drawn.Drawn.{Drawn}
 use Rattle.choice_draw.specs.declared.drawn.Drawn.TheVariants as drawn
 use Rattle.series_bounds.specs.Series.{Kind}
 use Rattle.count_draw.specs.Kinds.{counted_node}
-use Rattle.count_draw.specs.declared.drawn.CountDrawn.{CountDrawn}
-use Rattle.count_draw.specs.declared.drawn.CountDrawn.TheVariants as counted
+use Rattle.count_draw.specs.declared.drawn_count.CountDrawn.{CountDrawn}
+use Rattle.count_draw.specs.declared.drawn_count.CountDrawn.TheVariants as counted
 use Rattle.object_store.specs.declared.token.Token.{Token}
 use Rattle.object_store.specs.declared.token.Token.TheVariants as token
 use Rattle.shape_sampler.specs.declared.stepped.Stepped.{Stepped}
@@ -90,12 +90,12 @@ answer_for [] = Made
 answer_for (e ∷ es) = Moved
 
 -- What stops a session is a cell that straddles, the tape's end or a failed read.
-abbrev pub IsStop : Option Stepped → Type 0
-IsStop None = Unit {0}
-IsStop (Some (Straddles node cell)) = Unit {0}
-IsStop (Some Ended) = Unit {0}
-IsStop (Some ReadFault) = Unit {0}
-IsStop _ = ⊥
+abbrev pub StopsSession : Option Stepped → Type 0
+StopsSession None = Unit {0}
+StopsSession (Some (Straddles node cell)) = Unit {0}
+StopsSession (Some Ended) = Unit {0}
+StopsSession (Some ReadFault) = Unit {0}
+StopsSession _ = ⊥
 
 -- The node of this number is a sequence, a set or a cycle of this part.
 pub record HasCountedPart (s : Spec) (e part : ℕ) : Type 0 where

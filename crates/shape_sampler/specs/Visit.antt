@@ -38,8 +38,8 @@ abbrev pub with_pending : Attempt → List ℕ → Attempt
 with_pending a pending = record a { pending = pending }
 
 -- The attempt with one more token.
-abbrev pub with_token : Attempt → Token → Attempt
-with_token a t = record a { tokens = a.tokens ++ t ∷ [] }
+abbrev pub attempt_with_token : Attempt → Token → Attempt
+attempt_with_token a t = record a { tokens = a.tokens ++ t ∷ [] }
 
 -- The attempt with one more number drawn: its cell, whose bits were used.
 abbrev pub with_cell : Attempt → Cell → Attempt
@@ -51,13 +51,13 @@ given_up a = with_pending a []
 
 -- A neutral leaf adds its token.
 abbrev pub leaf_visited : Attempt → (rest : List ℕ) → Visited
-leaf_visited a rest = Visited.Went (with_pending (with_token a token.Unit) rest)
+leaf_visited a rest = Visited.Went (with_pending (attempt_with_token a token.Unit) rest)
 
 -- An atom adds its token and lowers the room by one, and is over where there is none.
 abbrev pub atom_visited : Attempt → (rest : List ℕ) → (room : ℕ) → Visited
 atom_visited a rest zero = Visited.Over (given_up a)
 atom_visited a rest (suc room) =
-    Visited.Went (record (with_pending (with_token a token.Dot) rest) { room = room })
+    Visited.Went (record (with_pending (attempt_with_token a token.Dot) rest) { room = room })
 
 -- What a draw's end means for an attempt, from what its answer means.
 abbrev pub after_draw : (node : ℕ) → (Choice → Cell → Visited) → Draw Choice → Visited
@@ -69,7 +69,7 @@ after_draw node answered (Draw.Failed place) = Visited.Failed place
 -- At a union the drawn part is pending in its place, after the token of its option.
 abbrev pub union_answered : Attempt → (parts rest : List ℕ) → Choice → Cell → Visited
 union_answered a parts rest (Choice.Take i) cell =
-    Visited.Went (with_pending (with_token (with_cell a cell)
+    Visited.Went (with_pending (attempt_with_token (with_cell a cell)
     (token.Pick i)) (slice_index parts i ∷ rest))
 union_answered a parts rest Choice.Over cell = Visited.Over (given_up (with_cell a cell))
 
@@ -77,7 +77,7 @@ union_answered a parts rest Choice.Over cell = Visited.Over (given_up (with_cell
 -- parts.
 abbrev pub counted_answered : Attempt → (part : ℕ) → (rest : List ℕ) → Choice → Cell → Visited
 counted_answered a part rest (Choice.Take i) cell =
-    Visited.Went (with_pending (with_token (with_cell a cell)
+    Visited.Went (with_pending (attempt_with_token (with_cell a cell)
     (token.Count i)) (replicate i part ++ rest))
 counted_answered a part rest Choice.Over cell = Visited.Over (given_up (with_cell a cell))
 

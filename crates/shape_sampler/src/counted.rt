@@ -15,7 +15,7 @@ use bz_model::cells::Cells;
 use class_system::expr::Expr;
 use class_system::ids::ExprId;
 use class_system::system::System;
-use count_draw::drawn::CountDrawn;
+use count_draw::drawn_count::CountDrawn;
 use object_store::pending::Pending;
 use object_store::shape::Shape;
 use object_store::token::Token;

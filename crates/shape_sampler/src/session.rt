@@ -6,7 +6,7 @@ ghost use Rattle.bz_model.specs.Fraction.{Fraction, IsFractionBits};
 ghost use Rattle.bz_model.specs.Spec.{Spec, Node, node_at, body_of};
 ghost use Rattle.bz_model.specs.Oracle.{LeavesOracle};
 ghost use Rattle.class_system.specs.Views.{number};
-ghost use Rattle.bit_tape.specs.Tape.{Belongs, LeavesTape, bits_of};
+ghost use Rattle.bit_tape.specs.Tape.{BelongsToShelf, LeavesTape, bits_of_source};
 ghost use Rattle.choice_draw.specs.Decision.{IsUnion, level_for};
 ghost use Rattle.count_draw.specs.Kinds.{IsCountedNode};
 ghost use Rattle.shape_sampler.specs.Visit.{leaf_visited};
@@ -14,7 +14,7 @@ ghost use Rattle.shape_sampler.specs.State.{SessionState, SessionBelongs, HasCou
 ghost use Rattle.shape_sampler.specs.State.{begun_state, emptied, Leaves};
 ghost use Rattle.shape_sampler.specs.Answer.{IsVisitByBits, IsIdealAnswer, IsVisitOfAll};
 ghost use Rattle.shape_sampler.specs.Answer.{IsPlainAnswer, IsPlainVisit, room_atom_visited};
-ghost use Rattle.shape_sampler.specs.Answer.{replaced_by, Draws, is_fault};
+ghost use Rattle.shape_sampler.specs.Answer.{replaced_by, Draws, is_visit_fault};
 
 use crate::counted::{answer_to_count, counted_part, put_counted, room_for};
 use crate::placing::{
@@ -60,7 +60,7 @@ pub struct Session {
 
 impl Model for Session {
     ghost use Rattle.std.specs.Prelude.{◌≤◌};
-    ghost use Rattle.shape_sampler.specs.State.{SessionState, IsStop};
+    ghost use Rattle.shape_sampler.specs.State.{SessionState, StopsSession};
 
     ghost Value = { SessionState };
 
@@ -75,7 +75,7 @@ impl Model for Session {
       stopped = s.stopped;
     } };
 
-    ghost invariant = { λ s. IsStop s.stopped × (s.whole ≤ 1000000) × (s.room ≤ 1000000) };
+    ghost invariant = { λ s. StopsSession s.stopped × (s.whole ≤ 1000000) × (s.room ≤ 1000000) };
 }
 
 impl Session {
@@ -185,7 +185,7 @@ impl Session {
         requires spec { O.spec oracle.old ≡ founded.now }
         requires session { SessionBelongs founded.now (O.x oracle.old) self.old }
         requires pending { self.old.pending ≢ [] }
-        requires tape { Belongs (S.content shelf.old) tape.old }
+        requires tape { BelongsToShelf (S.content shelf.old) tape.old }
 
         ensures again { IfSome self.old.stopped (λ stop. (result ≡ stop) × (self.new ≡ self.old)) }
         ensures stopped { IsSome self.old.stopped
@@ -197,7 +197,7 @@ impl Session {
             → Draws result self.old self.new tape.old.used tape.new.used }
         ensures exact { self.old.stopped ≡ None
             → IsVisitByBits founded.now F (O.table oracle.old)
-            (bits_of tape.old.source (S.content shelf.old))
+            (bits_of_source tape.old.source (S.content shelf.old))
             self.old tape.old.used result self.new tape.new.used }
         ensures ideal { IsIdealAnswer founded.now (O.x oracle.old) result self.new }
         ensures session { SessionBelongs founded.now (O.x oracle.old) self.new }
@@ -207,7 +207,7 @@ impl Session {
         ensures used { (tape.old.used ≤ tape.new.used) × (tape.new.used ≤ tape.old.used + 60) }
         ensures oracle { LeavesOracle O.spec O.x O.table O.cost O.raised
             oracle.old oracle.new steps.old steps.new }
-        ensures tape { LeavesTape S.content S.faults (is_fault result self.old.stopped)
+        ensures tape { LeavesTape S.content S.faults (is_visit_fault result self.old.stopped)
             shelf.old shelf.new tape.old tape.new }
     {
         if let Some(stop) = self.stopped {
@@ -329,14 +329,14 @@ impl Session {
         requires few { length parts.now ≤ 64 }
         requires running { self.old.stopped ≡ None }
         requires first { slice_get self.old.pending 0 ≡ Some node.0 }
-        requires tape { Belongs (S.content shelf.old) tape.old }
+        requires tape { BelongsToShelf (S.content shelf.old) tape.old }
 
         ensures no_memory { result ≡ Stepped.OutOfMemory → (self.new ≡ self.old)
             × (tape.new ≡ tape.old) × (oracle.new ≡ oracle.old) × (shelf.new ≡ shelf.old) }
         ensures leaves { Leaves result self.old self.new }
         ensures draws { Draws result self.old self.new tape.old.used tape.new.used }
         ensures exact { IsVisitByBits system.now F (O.table oracle.old)
-            (bits_of tape.old.source (S.content shelf.old))
+            (bits_of_source tape.old.source (S.content shelf.old))
             self.old tape.old.used result self.new tape.new.used }
         ensures session { SessionBelongs system.now (O.x oracle.old) self.old
             → SessionBelongs system.now (O.x oracle.old) self.new
@@ -347,7 +347,7 @@ impl Session {
         ensures used { (tape.old.used ≤ tape.new.used) × (tape.new.used ≤ tape.old.used + 60) }
         ensures oracle { LeavesOracle O.spec O.x O.table O.cost O.raised
             oracle.old oracle.new steps.old steps.new }
-        ensures tape { LeavesTape S.content S.faults (is_fault result self.old.stopped)
+        ensures tape { LeavesTape S.content S.faults (is_visit_fault result self.old.stopped)
             shelf.old shelf.new tape.old tape.new }
     {
         if reserve_drawn(&mut self.pending, &mut self.shape, &mut self.cells).is_err() {
@@ -383,14 +383,14 @@ impl Session {
         requires counted { HasCountedPart founded.now node.0 part.0 }
         requires running { self.old.stopped ≡ None }
         requires first { slice_get self.old.pending 0 ≡ Some node.0 }
-        requires tape { Belongs (S.content shelf.old) tape.old }
+        requires tape { BelongsToShelf (S.content shelf.old) tape.old }
 
         ensures no_memory { result ≡ Stepped.OutOfMemory → (self.new ≡ self.old)
             × (tape.new ≡ tape.old) × (oracle.new ≡ oracle.old) × (shelf.new ≡ shelf.old) }
         ensures leaves { Leaves result self.old self.new }
         ensures draws { Draws result self.old self.new tape.old.used tape.new.used }
         ensures exact { IsVisitByBits founded.now F (O.table oracle.old)
-            (bits_of tape.old.source (S.content shelf.old))
+            (bits_of_source tape.old.source (S.content shelf.old))
             self.old tape.old.used result self.new tape.new.used }
         ensures session { SessionBelongs founded.now (O.x oracle.old) self.old
             → SessionBelongs founded.now (O.x oracle.old) self.new
@@ -401,7 +401,7 @@ impl Session {
         ensures used { (tape.old.used ≤ tape.new.used) × (tape.new.used ≤ tape.old.used + 60) }
         ensures oracle { LeavesOracle O.spec O.x O.table O.cost O.raised
             oracle.old oracle.new steps.old steps.new }
-        ensures tape { LeavesTape S.content S.faults (is_fault result self.old.stopped)
+        ensures tape { LeavesTape S.content S.faults (is_visit_fault result self.old.stopped)
             shelf.old shelf.new tape.old tape.new }
     {
         founded.known();

@@ -22,7 +22,7 @@ use Rattle.labelling.specs.LabelsByBits.{bits_in}
 use Rattle.size_window.specs.declared.turned.Entry.{Entry}
 use Rattle.size_window.specs.RunByBits.{Limits}
 use Rattle.size_window.specs.Drawing.{MadeShape, DrawingState, Waits, DrawingBelongs, shape_in, counted, thrown_one, taken_out, waiting_with, kept_one_more, ended_by, begun_one}
-use Rattle.size_window.specs.Turn.{turns_by, GoesOn, IsCounted, IsIdleTurn, Settles, KeepsOrWaits, outcome_of, MaySettle, IfStraddles, IfKept, IsNextKept, HasLabels}
+use Rattle.size_window.specs.Turn.{turns_by, GoesOn, IsCountedTurn, IsIdleTurn, Settles, KeepsOrWaits, outcome_of, MaySettle, IfStraddles, IfKept, IsNextKept, EntryHasLabels}
 use Rattle.size_window.specs.Turn as turning
 use Rattle.size_window.proofs.Going.{ideal-fits}
 use Rattle.size_window.proofs.Turning.{if-told}
@@ -187,9 +187,9 @@ module _ (s : Spec) (x : Fraction) (before : DrawingState) (b : DrawingBelongs s
       cells = subst AreCells (sym k.cells) belongs.cells;
     })
 
-    made-labels : (mode : Mode) → s.mode ≡ mode → (used : ℕ) (result : Turned) (now : DrawingState) → KeepsOrWaits mode (shape_in session) used (counted (taken_out mid)) result now → IfKept result (HasLabels s.mode)
-    made-labels Mode.Labelled is_mode used result now k = subst (λ r. IfKept r (HasLabels s.mode)) (sym k.0) tt
-    made-labels Mode.Unlabelled is_mode used result now k = subst (λ r. IfKept r (HasLabels s.mode)) (sym k.told) (subst (λ m. HasLabels m k.entry) (sym is_mode) k.labels_are)
+    made-labels : (mode : Mode) → s.mode ≡ mode → (used : ℕ) (result : Turned) (now : DrawingState) → KeepsOrWaits mode (shape_in session) used (counted (taken_out mid)) result now → IfKept result (EntryHasLabels s.mode)
+    made-labels Mode.Labelled is_mode used result now k = subst (λ r. IfKept r (EntryHasLabels s.mode)) (sym k.0) tt
+    made-labels Mode.Unlabelled is_mode used result now k = subst (λ r. IfKept r (EntryHasLabels s.mode)) (sym k.told) (subst (λ m. EntryHasLabels m k.entry) (sym is_mode) k.labels_are)
 
     module _ (mode : Mode) (table : (level node : ℕ) → Bounds) where
       nothing-kept : (P : Entry → Type 0) (result : Turned) (other : Turned) → IfKept other P → result ≡ other → IfKept result P
@@ -205,7 +205,7 @@ module _ (s : Spec) (x : Fraction) (before : DrawingState) (b : DrawingBelongs s
       visit-kept stepped.ReadFault used result now leaves ideal settles = nothing-kept _ result (answer.Finished _) tt settles.0
       visit-kept stepped.OutOfMemory used result now leaves ideal settles = nothing-kept _ result answer.OutOfMemory tt settles.0
 
-      pub visit-labels : s.mode ≡ mode → (step : Stepped) (used : ℕ) (result : Turned) (now : DrawingState) → Settles mode (outcome_of table step) used mid result now → IfKept result (HasLabels s.mode)
+      pub visit-labels : s.mode ≡ mode → (step : Stepped) (used : ℕ) (result : Turned) (now : DrawingState) → Settles mode (outcome_of table step) used mid result now → IfKept result (EntryHasLabels s.mode)
       visit-labels is_mode stepped.Moved used result now settles = nothing-kept _ result answer.Going tt settles.0
       visit-labels is_mode stepped.Made used result now (inl settles) = nothing-kept _ result answer.Going tt settles.1.0
       visit-labels is_mode stepped.Made used result now (inr settles) = made-labels mode is_mode used result now settles.1
@@ -220,29 +220,29 @@ module _ (s : Spec) (x : Fraction) (before : DrawingState) (b : DrawingBelongs s
       one-turn : (r : Turned) → turns_by None r ≡ 1 → before.turns + 1 ≡ before.turns + turns_by before.ending r
       one-turn r one = ap (λ n. before.turns + n) (sym (ap (λ o. turns_by o r) v.on.going ∙ one))
 
-      counted-is : (r : Turned) (d : DrawingState) → result ≡ r → now ≡ d → IsCounted mid r d → IsCounted mid result now
-      counted-is r d same_result same_now h = subst (λ t. IsCounted mid t now) (sym same_result) (subst (λ e. IsCounted mid r e) (sym same_now) h)
+      counted-is : (r : Turned) (d : DrawingState) → result ≡ r → now ≡ d → IsCountedTurn mid r d → IsCountedTurn mid result now
+      counted-is r d same_result same_now h = subst (λ t. IsCountedTurn mid t now) (sym same_result) (subst (λ e. IsCountedTurn mid r e) (sym same_now) h)
 
-      went-on : IsCounted mid answer.Going (counted mid)
+      went-on : IsCountedTurn mid answer.Going (counted mid)
       went-on = record { limits = refl; kept = omega arith; atoms = omega arith; turns = one-turn answer.Going refl; thrown = inl refl; ending = refl }
 
-      threw : IsCounted mid answer.Going (thrown_one (counted mid))
+      threw : IsCountedTurn mid answer.Going (thrown_one (counted mid))
       threw = record { limits = refl; kept = omega arith; atoms = omega arith; turns = one-turn answer.Going refl; thrown = inr (refl, refl); ending = refl }
 
-      waited : IsCounted mid answer.Going (waiting_with (counted (taken_out mid)) (shape_in session))
+      waited : IsCountedTurn mid answer.Going (waiting_with (counted (taken_out mid)) (shape_in session))
       waited = record { limits = refl; kept = omega arith; atoms = omega arith; turns = one-turn answer.Going refl; thrown = inl refl; ending = refl }
 
-      ended : (e : Ending) → turns_by None (answer.Finished e) ≡ 1 → IsCounted mid (answer.Finished e) (ended_by (counted mid) e)
+      ended : (e : Ending) → turns_by None (answer.Finished e) ≡ 1 → IsCountedTurn mid (answer.Finished e) (ended_by (counted mid) e)
       ended e one = record { limits = refl; kept = omega arith; atoms = omega arith; turns = one-turn (answer.Finished e) one; thrown = inl refl; ending = refl }
 
-      made-counted : (mode : Mode) (used : ℕ) → KeepsOrWaits mode (shape_in session) used (counted (taken_out mid)) result now → IsCounted mid result now
+      made-counted : (mode : Mode) (used : ℕ) → KeepsOrWaits mode (shape_in session) used (counted (taken_out mid)) result now → IsCountedTurn mid result now
       made-counted Mode.Unlabelled used k = counted-is (answer.Kept k.entry) (kept_one_more (counted (taken_out mid)) (size_of session.tokens)) k.told k.now_is (record { limits = refl; kept = refl; atoms = ap (λ ts. before.atoms + size_of ts) (sym k.shape_is); turns = one-turn (answer.Kept k.entry) refl; thrown = inl refl; ending = refl })
       made-counted Mode.Labelled used k = counted-is answer.Going (waiting_with (counted (taken_out mid)) (shape_in session)) k.0 k.1 waited
 
-      wanted : IsCounted mid answer.OutOfMemory mid
+      wanted : IsCountedTurn mid answer.OutOfMemory mid
       wanted = record { limits = refl; kept = omega arith; atoms = omega arith; turns = (let none : turns_by before.ending answer.OutOfMemory ≡ 0 = ap (λ o. turns_by o answer.OutOfMemory) v.on.going in omega arith); thrown = inl refl; ending = refl }
 
-      by-answer : (mode : Mode) (table : (level node : ℕ) → Bounds) (step : Stepped) (used : ℕ) → Settles mode (outcome_of table step) used mid result now → IsCounted mid result now
+      by-answer : (mode : Mode) (table : (level node : ℕ) → Bounds) (step : Stepped) (used : ℕ) → Settles mode (outcome_of table step) used mid result now → IsCountedTurn mid result now
       by-answer mode table stepped.Moved used settles = counted-is answer.Going (counted mid) settles.0 settles.1 went-on
       by-answer mode table stepped.Made used (inl settles) = counted-is answer.Going (thrown_one (counted mid)) settles.1.0 settles.1.1 threw
       by-answer mode table stepped.Made used (inr settles) = made-counted mode used settles.1
@@ -252,7 +252,7 @@ module _ (s : Spec) (x : Fraction) (before : DrawingState) (b : DrawingBelongs s
       by-answer mode table stepped.ReadFault used settles = counted-is _ _ settles.0 settles.1 (ended _ refl)
       by-answer mode table stepped.OutOfMemory used settles = counted-is answer.OutOfMemory mid settles.0 settles.1 wanted
 
-      pub visit-counted : (mode : Mode) (table : (level node : ℕ) → Bounds) (step : Stepped) (used : ℕ) → Settles mode (outcome_of table step) used mid result now → IsCounted before result now
+      pub visit-counted : (mode : Mode) (table : (level node : ℕ) → Bounds) (step : Stepped) (used : ℕ) → Settles mode (outcome_of table step) used mid result now → IsCountedTurn before result now
       visit-counted mode table step used settles = let h = by-answer mode table step used settles in record { limits = h.limits; kept = h.kept; atoms = h.atoms; turns = h.turns; thrown = h.thrown; ending = h.ending }
 
     -- what is left to do may be done

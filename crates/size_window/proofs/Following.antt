@@ -24,7 +24,7 @@ use Rattle.shape_sampler.proofs.Visits.{begins}
 use Rattle.labelling.specs.LabelsByBits.{Labelling, labelling}
 use Rattle.labelling.proofs.IdealByBits.{labels-ideal}
 use Rattle.size_window.specs.RunByBits
-use Rattle.size_window.specs.RunByBits.{Limits, Sampling, RunState, Entry, Turned, Course, Ending, added, start, quiet, at_place, ended, entry_of, thrown_away, kept_one, kept_or_waits, went, visited, labelled_with, label_turn, shape_turn, counted_turn, turn_unless, fault_place, followed_by, one_turn_on, at_start, after, with_attempt}
+use Rattle.size_window.specs.RunByBits.{Limits, Sampling, RunState, Entry, Turned, Course, Ending, added, start, quiet, at_place, ended, entry_made, thrown_away, kept_one, kept_or_waits, went, visited, labelled_with, label_turn, shape_turn, counted_turn, turn_unless, fault_place, followed_by, one_turn_on, at_start, after, with_attempt}
 use Rattle.size_window.specs.Ideally.{DecidesIdeally}
 use Rattle.size_window.specs.Follows.{Follows, GoesIdeally}
 use Rattle.size_window.proofs.Going.{goes-on, goes-stopped, goes-over, goes-small, goes-kept, gives-none, gives-ideal, goes-start}
@@ -126,7 +126,7 @@ module _ (s : Sampling) (x : Fraction) (ideal : DecidesIdeally s.chooser x) (sou
     keeps-large : (a : Attempt) → a.cells ≡ c.state.attempt.cells ++ added c.state.attempt.cells a.cells → IsIdealShape s.chooser.spec x s.limits.max a.tokens a.cells → s.limits.min ≤ size_of a.tokens → (mode : Mode) → s.chooser.spec.mode ≡ mode
         → Keeps (followed_by c (kept_or_waits mode (with_attempt counted a) (added c.state.attempt.cells a.cells)))
     keeps-large a more i large Mode.Unlabelled plain = record {
-      goes = goes-kept s.chooser.spec x s.limits c k.goes (kept_one (with_attempt counted a)) (added c.state.attempt.cells a.cells) a.cells going (sym more) refl fewer a.tokens a.cells [] [] (append-nil a.cells) i large (gives-none s.chooser.spec plain (size_of a.tokens)) (entry_of (with_attempt counted a) [] []) refl refl (append-nil a.cells) (sym (add-one c.state.kept)) refl;
+      goes = goes-kept s.chooser.spec x s.limits c k.goes (kept_one (with_attempt counted a)) (added c.state.attempt.cells a.cells) a.cells going (sym more) refl fewer a.tokens a.cells [] [] (append-nil a.cells) i large (gives-none s.chooser.spec plain (size_of a.tokens)) (entry_made (with_attempt counted a) [] []) refl refl (append-nil a.cells) (sym (add-one c.state.kept)) refl;
       few = fewer;
       opened = λ e. idle-open (kept_one (with_attempt counted a)) refl refl refl;
     }
@@ -212,7 +212,7 @@ module _ (s : Sampling) (x : Fraction) (ideal : DecidesIdeally s.chooser x) (sou
     keeps-labelled h bit (Labelling.Given labels cells place) is =
         let given = labels-ideal bit (size_of c.state.attempt.tokens) c.state.attempt.used labels cells place is in
         record {
-          goes = goes-kept s.chooser.spec x s.limits c k.goes (kept_one (at_place counted place)) cells (c.state.attempt.cells ++ cells) going refl refl fewer c.state.attempt.tokens c.state.attempt.cells cells labels refl h.shape h.least (gives-ideal s.chooser.spec h.labelled (size_of c.state.attempt.tokens) labels cells given) (entry_of (at_place counted place) labels cells) refl refl refl (sym (add-one c.state.kept)) refl;
+          goes = goes-kept s.chooser.spec x s.limits c k.goes (kept_one (at_place counted place)) cells (c.state.attempt.cells ++ cells) going refl refl fewer c.state.attempt.tokens c.state.attempt.cells cells labels refl h.shape h.least (gives-ideal s.chooser.spec h.labelled (size_of c.state.attempt.tokens) labels cells given) (entry_made (at_place counted place) labels cells) refl refl refl (sym (add-one c.state.kept)) refl;
           few = fewer;
           opened = λ e. idle-open (kept_one (at_place counted place)) refl refl refl;
         }

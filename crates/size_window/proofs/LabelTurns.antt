@@ -28,7 +28,7 @@ use Rattle.size_window.specs.RunByBits as run
 use Rattle.size_window.specs.RunByBits.{RunState, Course, followed_by, at_place, kept_one, cut_short, labelled_with}
 use Rattle.size_window.specs.Follows.{GoesIdeally}
 use Rattle.size_window.specs.Drawing.{MadeShape, DrawingState, Waits, DrawingBelongs, ending_of, attempt_made, state_of, counted, waiting_with, none_waiting, kept_one_more, ended_by}
-use Rattle.size_window.specs.Turn.{turns_by, labels_of, entry_of, told_entry, told_fault, EndsThere, GoesOn, IsTurn, IfKept, IsNextKept, HasLabels, TellsOpen}
+use Rattle.size_window.specs.Turn.{turns_by, labels_told, entry_of, told_entry, told_fault, TurnEndsThere, GoesOn, IsTurn, IfKept, IsNextKept, EntryHasLabels, TellsOpen}
 use Rattle.size_window.specs.LabelTurn.{SettlesLabels, IsLabelTurn}
 use Rattle.size_window.proofs.Going.{goes-stopped, goes-kept, gives-ideal, ideal-fits}
 use Rattle.size_window.proofs.Turning.{in_turn_as, attempt-none, turn-labels, if-told, course-going, course-kept, course-thrown, course-fewer, course-shape, is-turn}
@@ -121,16 +121,16 @@ module _ (s : Spec) (x : Fraction) (before : DrawingState) (b : DrawingBelongs s
   labels-kept labelled.OutOfMemory used result now are settles = subst (λ r. IfKept r (IsNextKept before.limits before.kept used)) (sym settles.0) tt
 
   -- it has labels
-  pub labels-told : (told : Labelled) (used : ℕ) (result : Turned) (now : DrawingState) → OnLabels told (λ labels cells. AreIdealLabels (size_of shape.tokens) labels cells) → SettlesLabels told shape used without result now → IfKept result (HasLabels s.mode)
-  labels-told (labelled.Labels labels cells) used result now ideal k = subst (λ r. IfKept r (HasLabels s.mode)) (sym k.told) (subst (λ m. HasLabels m k.entry) (sym waited.labelled) (record {
+  pub labels-told : (told : Labelled) (used : ℕ) (result : Turned) (now : DrawingState) → OnLabels told (λ labels cells. AreIdealLabels (size_of shape.tokens) labels cells) → SettlesLabels told shape used without result now → IfKept result (EntryHasLabels s.mode)
+  labels-told (labelled.Labels labels cells) used result now ideal k = subst (λ r. IfKept r (EntryHasLabels s.mode)) (sym k.told) (subst (λ m. EntryHasLabels m k.entry) (sym waited.labelled) (record {
     labels = labels;
     there = k.labels_are;
     one_to = subst (λ ts. AreOneTo (size_of ts) labels) (sym k.shape_is) ideal.one_to;
   }))
-  labels-told (labelled.Straddles m cell) used result now ideal settles = subst (λ r. IfKept r (HasLabels s.mode)) (sym settles.0) tt
-  labels-told labelled.Ended used result now ideal settles = subst (λ r. IfKept r (HasLabels s.mode)) (sym settles.0) tt
-  labels-told labelled.ReadFault used result now ideal settles = subst (λ r. IfKept r (HasLabels s.mode)) (sym settles.0) tt
-  labels-told labelled.OutOfMemory used result now ideal settles = subst (λ r. IfKept r (HasLabels s.mode)) (sym settles.0) tt
+  labels-told (labelled.Straddles m cell) used result now ideal settles = subst (λ r. IfKept r (EntryHasLabels s.mode)) (sym settles.0) tt
+  labels-told labelled.Ended used result now ideal settles = subst (λ r. IfKept r (EntryHasLabels s.mode)) (sym settles.0) tt
+  labels-told labelled.ReadFault used result now ideal settles = subst (λ r. IfKept r (EntryHasLabels s.mode)) (sym settles.0) tt
+  labels-told labelled.OutOfMemory used result now ideal settles = subst (λ r. IfKept r (EntryHasLabels s.mode)) (sym settles.0) tt
 
   module _ (F : ℕ) (table : (level node : ℕ) → Bounds) (bits : Option (ℕ → Option Bool)) (start used : ℕ) where
     -- the state in which the labelling starts
@@ -139,14 +139,14 @@ module _ (s : Spec) (x : Fraction) (before : DrawingState) (b : DrawingBelongs s
 
     -- The turn meets the tape's end where the labelling does.
     abbrev Alike : Labelled → Turned → Type 0
-    Alike answered result = (tape : ℕ → Option Bool) → (told.EndsThere answered used tape → EndsThere result None used tape) × (EndsThere result None used tape → told.EndsThere answered used tape)
+    Alike answered result = (tape : ℕ → Option Bool) → (told.LabellingEndsThere answered used tape → TurnEndsThere result None used tape) × (TurnEndsThere result None used tape → told.LabellingEndsThere answered used tape)
 
     going-is : (P : Option Ending → Type 0) → P None → P before.ending
     going-is P h = subst P (sym on.going) h
 
     -- a turn by a labelling, from what it leaves
     by-labels : (answered : Labelled) (result : Turned) (now : DrawingState) (turned : run.Turned) → turned.state ≡ state_of now used → turned.entry ≡ told_entry result → ((c : Course) → c.state ≡ state_of before start → GoesIdeally s x before.limits c → GoesIdeally s x before.limits (followed_by c turned))
-        → (h : IsLabelling bits (size_of shape.tokens) start answered used) → answered ≢ labelled.OutOfMemory → option_map (λ given. start + given) (told_fault None result (used - start)) ≡ told.fault_place answered used → labelled_with labelling_state (told_labelling answered h.finished used) ≡ turned → Alike answered result → IsTurn s x F table bits before start result now used
+        → (h : IsLabelling bits (size_of shape.tokens) start answered used) → answered ≢ labelled.OutOfMemory → option_map (λ given. start + given) (told_fault None result (used - start)) ≡ told.label_fault_place answered used → labelled_with labelling_state (told_labelling answered h.finished used) ≡ turned → Alike answered result → IsTurn s x F table bits before start result now used
     by-labels answered result now turned state entry goes h ne fault means alike = record {
       turned = turned;
       state = state;
@@ -155,11 +155,11 @@ module _ (s : Spec) (x : Fraction) (before : DrawingState) (b : DrawingBelongs s
       goes = goes;
       given = h.given;
       gave = h.gave;
-      ended = if-told bits (λ tape ends. going-is (λ o. EndsThere result o used tape) ((alike tape).0 ends)) h.ended;
+      ended = if-told bits (λ tape ends. going-is (λ o. TurnEndsThere result o used tape) ((alike tape).0 ends)) h.ended;
       exact = λ tape have ends c by. sym (
           turn-labels (record { chooser = c; limits = before.limits; tape = tape }) (told_fault before.ending result (used - start)) before start refl on shape is_shape
           ∙ ap (λ f. labelled_with labelling_state (labelling (bit_of tape f) (size_of shape.tokens) start)) (ap (λ (o : Option Ending). option_map (λ given. start + given) (told_fault o result (used - start))) on.going ∙ fault)
-          ∙ ap (labelled_with labelling_state) (sym (h.exact tape have ((alike tape).1 (subst (λ o. EndsThere result o used tape) on.going ends)) ne))
+          ∙ ap (labelled_with labelling_state) (sym (h.exact tape have ((alike tape).1 (subst (λ o. TurnEndsThere result o used tape) on.going ends)) ne))
           ∙ means);
     }
 
@@ -168,16 +168,16 @@ module _ (s : Spec) (x : Fraction) (before : DrawingState) (b : DrawingBelongs s
 
     -- the shape is kept with these labels
     module _ (labels : List ℕ) (more : Roomy Cell) (ideal : AreIdealLabels (size_of shape.tokens) labels more.items) (e : Entry) (number : e.number ≡ before.kept + 1) (place : e.place ≡ used - bits_in (shape.cells ++ more.items)) (is_tokens : e.shape.items ≡ shape.tokens) (is_labels : e.labels ≡ Some labels) (is_cells : e.cells.items ≡ shape.cells ++ more.items) where
-      kept-entry : run.entry_of (at_place labelling_state used) labels more.items ≡ entry_of e
-      kept-entry = same-entry (run.entry_of (at_place labelling_state used) labels more.items) (entry_of e) (sym (number ∙ add-one before.kept)) (sym place) (ap size_of (sym is_tokens)) (sym is_tokens) (sym (ap labels_of is_labels)) (sym is_cells)
+      kept-entry : run.entry_made (at_place labelling_state used) labels more.items ≡ entry_of e
+      kept-entry = same-entry (run.entry_made (at_place labelling_state used) labels more.items) (entry_of e) (sym (number ∙ add-one before.kept)) (sym place) (ap size_of (sym is_tokens)) (sym is_tokens) (sym (ap labels_told is_labels)) (sym is_cells)
 
       kept-turn : (h : IsLabelling bits (size_of shape.tokens) start (labelled.Labels labels more) used) → IsTurn s x F table bits before start (answer.Kept e) keeping used
       kept-turn h = by-labels (labelled.Labels labels more) (answer.Kept e) keeping
           (record { state = state_of keeping used; entry = Some (entry_of e); cells = more.items })
           refl refl
-          (λ c same k. goes-kept s x before.limits c k (state_of keeping used) more.items (shape.cells ++ more.items) (course-going s x F table bits before b start c same on.going) (ap (λ cs. cs ++ more.items) (course-shape s x F table bits before b start c same shape is_shape)) (ap (λ (a : Attempt). a.cells) (attempt-none keeping used refl waited.rests)) (course-fewer s x F table bits before b start c same on.fewer) shape.tokens shape.cells more.items labels refl waited.ideal waited.least (gives-ideal s waited.labelled (size_of shape.tokens) labels more.items ideal) (entry_of e) is_tokens (ap labels_of is_labels) is_cells (ap (λ n. n + 1) (course-kept s x F table bits before b start c same)) (course-thrown s x F table bits before b start c same))
+          (λ c same k. goes-kept s x before.limits c k (state_of keeping used) more.items (shape.cells ++ more.items) (course-going s x F table bits before b start c same on.going) (ap (λ cs. cs ++ more.items) (course-shape s x F table bits before b start c same shape is_shape)) (ap (λ (a : Attempt). a.cells) (attempt-none keeping used refl waited.rests)) (course-fewer s x F table bits before b start c same on.fewer) shape.tokens shape.cells more.items labels refl waited.ideal waited.least (gives-ideal s waited.labelled (size_of shape.tokens) labels more.items ideal) (entry_of e) is_tokens (ap labels_told is_labels) is_cells (ap (λ n. n + 1) (course-kept s x F table bits before b start c same)) (course-thrown s x F table bits before b start c same))
           h (λ e. cc) refl
-          (ap (λ st. record { state = st; entry = Some (run.entry_of (at_place labelling_state used) labels more.items); cells = more.items }) kept-state
+          (ap (λ st. record { state = st; entry = Some (run.entry_made (at_place labelling_state used) labels more.items); cells = more.items }) kept-state
           ∙ ap (λ n. record { state = state_of keeping used; entry = Some n; cells = more.items }) kept-entry)
           (λ tape. (λ h. h, λ h. h))
 
@@ -185,7 +185,7 @@ module _ (s : Spec) (x : Fraction) (before : DrawingState) (b : DrawingBelongs s
     stopped-state e = same-state (run.ended labelling_state (ending_of e) used) (state_of (stopping e) used) refl refl refl refl (sym (add-one before.turns)) refl
 
     -- the labelling was cut short
-    stopped-turn : (answered : Labelled) (e : Ending) (h : IsLabelling bits (size_of shape.tokens) start answered used) → answered ≢ labelled.OutOfMemory → option_map (λ given. start + given) (told_fault None (answer.Finished e) (used - start)) ≡ told.fault_place answered used → labelled_with labelling_state (told_labelling answered h.finished used) ≡ cut_short labelling_state (ending_of e) h.finished used → Alike answered (answer.Finished e) → IsTurn s x F table bits before start (answer.Finished e) (stopping e) used
+    stopped-turn : (answered : Labelled) (e : Ending) (h : IsLabelling bits (size_of shape.tokens) start answered used) → answered ≢ labelled.OutOfMemory → option_map (λ given. start + given) (told_fault None (answer.Finished e) (used - start)) ≡ told.label_fault_place answered used → labelled_with labelling_state (told_labelling answered h.finished used) ≡ cut_short labelling_state (ending_of e) h.finished used → Alike answered (answer.Finished e) → IsTurn s x F table bits before start (answer.Finished e) (stopping e) used
     stopped-turn answered e h ne fault means alike = by-labels answered (answer.Finished e) (stopping e)
         (record { state = state_of (stopping e) used; entry = None; cells = h.finished })
         refl refl

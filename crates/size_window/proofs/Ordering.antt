@@ -14,7 +14,7 @@ use Rattle.labelling.specs.Spelled.{AreSpelled, SpellsLabelling}
 use Rattle.labelling.proofs.SpelledLabels.{labellings_spell, spelled-both}
 use Rattle.labelling.proofs.DrawnAgain.{spelled-length}
 use Rattle.shape_sampler.specs.Visit.{Attempt, Visited, visit}
-use Rattle.size_window.specs.RunByBits.{Limits, Sampling, RunState, Turned, Course, Entry, Ending, quiet, with_attempt, at_place, added, thrown_away, entry_of, kept_or_waits, went, visited, shape_turn, counted_turn, label_turn, labelled_with, cut_short, turn_unless, fault_place, after, ended}
+use Rattle.size_window.specs.RunByBits.{Limits, Sampling, RunState, Turned, Course, Entry, Ending, quiet, with_attempt, at_place, added, thrown_away, entry_made, kept_or_waits, went, visited, shape_turn, counted_turn, label_turn, labelled_with, cut_short, turn_unless, fault_place, after, ended}
 use Rattle.size_window.specs.InOrder.{IsNextEntry, AreInOrder, last_end, IsInOrder}
 use Rattle.size_window.proofs.SpelledVisits.{AddsCells, SpellsVisit, visit-spells}
 use Rattle.size_window.proofs.SizedVisits.{SizesVisit, visit-sizes}
@@ -77,7 +77,7 @@ module _ (s : Sampling) where
   under-way st awaits h = record { pends = λ some. h; waits = λ is. let no : ⊥ = cc in absurd no }
 
   -- the entry of a state is the next one
-  next-entry : (st : RunState) (labels : List ℕ) (cells : List Cell) (number place : ℕ) → st.kept ≡ number → Fits st.attempt → s.limits.min ≤ size_of st.attempt.tokens → place + bits_in (st.attempt.cells ++ cells) ≤ st.attempt.used → IsNextEntry s.limits number place (entry_of st labels cells)
+  next-entry : (st : RunState) (labels : List ℕ) (cells : List Cell) (number place : ℕ) → st.kept ≡ number → Fits st.attempt → s.limits.min ≤ size_of st.attempt.tokens → place + bits_in (st.attempt.cells ++ cells) ≤ st.attempt.used → IsNextEntry s.limits number place (entry_made st labels cells)
   next-entry st labels cells number place kept fits least room = record {
     number_is = ap suc kept;
     begins = omega arith;

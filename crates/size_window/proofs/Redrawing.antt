@@ -12,7 +12,7 @@ use Rattle.labelling.specs.LabelsByBits.{Labelling, labelling}
 use Rattle.labelling.proofs.SpelledLabels.{spelled-both}
 use Rattle.labelling.proofs.DrawnAgain.{labels_are_drawn_again}
 use Rattle.shape_sampler.specs.Visit.{Attempt, Visited, visit, visit_among, begun}
-use Rattle.size_window.specs.RunByBits.{Sampling, RunState, Turned, Course, Entry, Ending, quiet, with_attempt, at_place, added, thrown_away, entry_of, kept_or_waits, went, visited, shape_turn, counted_turn, label_turn, labelled_with, cut_short, turn_unless, fault_place, after, ended}
+use Rattle.size_window.specs.RunByBits.{Sampling, RunState, Turned, Course, Entry, Ending, quiet, with_attempt, at_place, added, thrown_away, entry_made, kept_or_waits, went, visited, shape_turn, counted_turn, label_turn, labelled_with, cut_short, turn_unless, fault_place, after, ended}
 use Rattle.size_window.specs.Redrawn.{visits, visited_next, HasLabelsAgain, IsRedrawn, IsRedrawnAlone, AreRedrawn}
 use Rattle.size_window.proofs.Going.{all-more}
 use Rattle.size_window.proofs.VisitsAgain.{at_used, ComesAgain, visit-again}
@@ -81,7 +81,7 @@ module _ (s : Sampling) where
   under-way st awaits h = record { pends = λ some. h; waits = λ is. let no : ⊥ = cc in absurd no; labelled = λ is. let no : ⊥ = cc in absurd no }
 
   -- a made shape without labels is made again
-  unlabelled-again : (st : RunState) → s.chooser.spec.mode ≡ Mode.Unlabelled → Comes st.attempt → st.attempt.pending ≡ [] → IsRedrawn s.chooser s.limits.max (entry_of st [] [])
+  unlabelled-again : (st : RunState) → s.chooser.spec.mode ≡ Mode.Unlabelled → Comes st.attempt → st.attempt.pending ≡ [] → IsRedrawn s.chooser s.limits.max (entry_made st [] [])
   unlabelled-again st plain h none = λ bits start have.
       let no_more : st.attempt.cells ++ [] ≡ st.attempt.cells = append-nil st.attempt.cells in
       let made = h.by bits start (subst (λ cs. HasBits bits start (spelled cs)) no_more have) in
@@ -92,12 +92,12 @@ module _ (s : Sampling) where
         rests = none;
         tokens = refl;
         size = refl;
-        labels = subst (λ m. HasLabelsAgain m bits (at_used st.attempt (start + length (spelled st.attempt.cells))) (entry_of st [] []) (start + length (spelled (st.attempt.cells ++ [])))) (sym plain)
+        labels = subst (λ m. HasLabelsAgain m bits (at_used st.attempt (start + length (spelled st.attempt.cells))) (entry_made st [] []) (start + length (spelled (st.attempt.cells ++ [])))) (sym plain)
             (refl, no_more, ap (λ cs. start + length (spelled cs)) (sym no_more));
       }
 
   -- with labels, too
-  labelled-again : (st : RunState) (fault : Option ℕ) (labels : List ℕ) (cells : List Cell) (place : ℕ) → s.chooser.spec.mode ≡ Mode.Labelled → Comes st.attempt → st.attempt.pending ≡ [] → labelling (bit_of s.tape fault) (size_of st.attempt.tokens) st.attempt.used ≡ Labelling.Given labels cells place → IsRedrawn s.chooser s.limits.max (entry_of (at_place st place) labels cells)
+  labelled-again : (st : RunState) (fault : Option ℕ) (labels : List ℕ) (cells : List Cell) (place : ℕ) → s.chooser.spec.mode ≡ Mode.Labelled → Comes st.attempt → st.attempt.pending ≡ [] → labelling (bit_of s.tape fault) (size_of st.attempt.tokens) st.attempt.used ≡ Labelling.Given labels cells place → IsRedrawn s.chooser s.limits.max (entry_made (at_place st place) labels cells)
   labelled-again st fault labels cells place mode h none drew = λ bits start have.
       let both : spelled (st.attempt.cells ++ cells) ≡ spelled st.attempt.cells ++ spelled cells = spelled-both st.attempt.cells cells in
       let all : HasBits bits start (spelled st.attempt.cells ++ spelled cells) = subst (HasBits bits start) both have in
@@ -112,7 +112,7 @@ module _ (s : Sampling) where
         rests = none;
         tokens = refl;
         size = refl;
-        labels = subst (λ m. HasLabelsAgain m bits (at_used st.attempt middle) (entry_of (at_place st place) labels cells) (start + length (spelled (st.attempt.cells ++ cells)))) (sym mode)
+        labels = subst (λ m. HasLabelsAgain m bits (at_used st.attempt middle) (entry_made (at_place st place) labels cells) (start + length (spelled (st.attempt.cells ++ cells)))) (sym mode)
             (record { more = cells; cells = refl; given = again ∙ ap (Labelling.Given labels cells) count });
       }
 

@@ -26,7 +26,7 @@ use Rattle.size_window.specs.RunByBits as run
 use Rattle.size_window.specs.RunByBits.{Sampling, RunState, Course, followed_by, added, no_attempt, quiet, thrown_away, kept_one, kept_or_waits, shape_made, went, visited, turn, with_attempt}
 use Rattle.labelling.specs.LabelsByBits.{bits_in}
 use Rattle.size_window.specs.Drawing.{MadeShape, DrawingState, DrawingBelongs, ending_of, attempt_unless, state_of, shape_in, counted, thrown_one, taken_out, waiting_with, kept_one_more, ended_by}
-use Rattle.size_window.specs.Turn.{labels_of, entry_of, told_entry, told_fault, EndsThere, GoesOn, IsTurn, KeepsOrWaits, Settles, outcome_of}
+use Rattle.size_window.specs.Turn.{labels_told, entry_of, told_entry, told_fault, TurnEndsThere, GoesOn, IsTurn, KeepsOrWaits, Settles, outcome_of}
 use Rattle.size_window.specs.Follows.{GoesIdeally}
 use Rattle.size_window.proofs.Going.{goes-on, goes-ended, goes-over, goes-small, goes-kept, gives-none}
 use Rattle.size_window.proofs.VisitCells.{extended}
@@ -99,14 +99,14 @@ module _ (s : Spec) (x : Fraction) (F : ℕ) (table : (level node : ℕ) → Bou
 
   -- The turn meets the tape's end where the visit does.
   abbrev Alike : Stepped → Turned → Type 0
-  Alike step result = (tape : ℕ → Option Bool) → (told.EndsThere step used tape → EndsThere result None used tape) × (EndsThere result None used tape → told.EndsThere step used tape)
+  Alike step result = (tape : ℕ → Option Bool) → (told.EndsThere step used tape → TurnEndsThere result None used tape) × (TurnEndsThere result None used tape → told.EndsThere step used tape)
 
   going-is : (P : Option Ending → Type 0) → P None → P before.ending
   going-is P h = subst P (sym on.going) h
 
   -- a turn by a visit, from what it leaves
   by-visit : (step : Stepped) (result : Turned) (now : DrawingState) (turned : run.Turned) → turned.state ≡ state_of now used → turned.entry ≡ told_entry result → ((c : Course) → c.state ≡ state_of before start → GoesIdeally s x before.limits c → GoesIdeally s x before.limits (followed_by c turned))
-      → step ≢ stepped.OutOfMemory → option_map (λ given. start + given) (told_fault None result (used - start)) ≡ told.fault_place step used → Means step turned → Alike step result → IsTold step → IsTurn s x F table bits before start result now used
+      → step ≢ stepped.OutOfMemory → option_map (λ given. start + given) (told_fault None result (used - start)) ≡ told.visit_fault_place step used → Means step turned → Alike step result → IsTold step → IsTurn s x F table bits before start result now used
   by-visit step result now turned state entry goes ne fault means alike h = record {
     turned = turned;
     state = state;
@@ -115,11 +115,11 @@ module _ (s : Spec) (x : Fraction) (F : ℕ) (table : (level node : ℕ) → Bou
     goes = goes;
     given = h.given;
     gave = h.gave;
-    ended = if-told bits (λ tape ends. going-is (λ o. EndsThere result o used tape) ((alike tape).0 ends)) h.ended;
+    ended = if-told bits (λ tape ends. going-is (λ o. TurnEndsThere result o used tape) ((alike tape).0 ends)) h.ended;
     exact = λ tape have ends c by. sym (
         turn-visits (record { chooser = c; limits = before.limits; tape = tape }) (told_fault before.ending result (used - start)) before start refl on no_shape some
         ∙ ap (λ f. visited (record { chooser = c; limits = before.limits; tape = tape }) (in_turn before (attempt_of before.session start)) (visit c (bit_of tape f) (attempt_of before.session start))) (ap (λ (o : Option Ending). option_map (λ given. start + given) (told_fault o result (used - start))) on.going ∙ fault)
-        ∙ ap (visited (record { chooser = c; limits = before.limits; tape = tape }) (in_turn before (attempt_of before.session start))) (sym ((h.exact tape have ((alike tape).1 (subst (λ o. EndsThere result o used tape) on.going ends)) c by).same ne))
+        ∙ ap (visited (record { chooser = c; limits = before.limits; tape = tape }) (in_turn before (attempt_of before.session start))) (sym ((h.exact tape have ((alike tape).1 (subst (λ o. TurnEndsThere result o used tape) on.going ends)) c by).same ne))
         ∙ means c tape by.same_spec);
   }
 
@@ -185,23 +185,23 @@ module _ (s : Spec) (x : Fraction) (F : ℕ) (table : (level node : ℕ) → Bou
   kept-state none = same-state (kept_one (in_turn before (attempt_of session used))) (state_of keeping used) (sym (attempt-none keeping used no_shape none)) (sym none-waits) (sym (add-one before.kept)) refl (sym (add-one before.turns)) refl
 
   module _ (e : Entry) (number : e.number ≡ before.kept + 1) (place : e.place ≡ used - bits_in session.cells) (shape : e.shape.items ≡ session.tokens) (no_labels : e.labels ≡ None) (cells : e.cells.items ≡ session.cells) where
-    kept-entry : run.entry_of (in_turn before (attempt_of session used)) [] [] ≡ entry_of e
+    kept-entry : run.entry_made (in_turn before (attempt_of session used)) [] [] ≡ entry_of e
     kept-entry =
         let no_more : session.cells ++ [] ≡ session.cells = append-nil session.cells in
-        same-entry (run.entry_of (in_turn before (attempt_of session used)) [] []) (entry_of e)
+        same-entry (run.entry_made (in_turn before (attempt_of session used)) [] []) (entry_of e)
         (sym (number ∙ add-one before.kept))
         (ap (λ cs. used - bits_in cs) no_more ∙ sym place)
-        (ap size_of (sym shape)) (sym shape) (ap labels_of (sym no_labels)) (no_more ∙ sym cells)
+        (ap size_of (sym shape)) (sym shape) (ap labels_told (sym no_labels)) (no_more ∙ sym cells)
 
     large : s.mode ≡ Mode.Unlabelled → session.pending ≡ [] → told.Extends before.session.cells session.cells → IsIdealShape s x before.limits.max session.tokens session.cells → before.limits.min ≤ size_of session.tokens → IsTold stepped.Made → IsTurn s x F table bits before start (answer.Kept e) keeping used
     large plain none extends ideal enough exact = by-visit stepped.Made (answer.Kept e) keeping
         (record { state = state_of keeping used; entry = Some (entry_of e); cells = more_cells })
         refl refl
-        (λ c same k. goes-kept s x before.limits c k (state_of keeping used) more_cells session.cells (course-going s x F table bits before b start c same on.going) (added-now c same extends) (no-cells keeping no_shape none) (course-fewer s x F table bits before b start c same on.fewer) session.tokens session.cells [] [] (append-nil session.cells) ideal enough (gives-none s plain (size_of session.tokens)) (entry_of e) shape (ap labels_of no_labels) cells (ap (λ n. n + 1) (course-kept s x F table bits before b start c same)) (course-thrown s x F table bits before b start c same))
+        (λ c same k. goes-kept s x before.limits c k (state_of keeping used) more_cells session.cells (course-going s x F table bits before b start c same on.going) (added-now c same extends) (no-cells keeping no_shape none) (course-fewer s x F table bits before b start c same on.fewer) session.tokens session.cells [] [] (append-nil session.cells) ideal enough (gives-none s plain (size_of session.tokens)) (entry_of e) shape (ap labels_told no_labels) cells (ap (λ n. n + 1) (course-kept s x F table bits before b start c same)) (course-thrown s x F table bits before b start c same))
         (λ e. cc) refl
         (λ c tape is.
         went-large (record { chooser = c; limits = before.limits; tape = tape }) (in_turn before (attempt_of session used)) session.pending more_cells Mode.Unlabelled none (ap (λ (t : Spec). t.mode) is ∙ plain) enough
-        ∙ ap (λ st. record { state = st; entry = Some (run.entry_of (in_turn before (attempt_of session used)) [] []); cells = more_cells }) (kept-state none)
+        ∙ ap (λ st. record { state = st; entry = Some (run.entry_made (in_turn before (attempt_of session used)) [] []); cells = more_cells }) (kept-state none)
         ∙ ap (λ n. record { state = state_of keeping used; entry = Some n; cells = more_cells }) kept-entry)
         (λ tape. (λ h. h, λ h. h)) exact
 
@@ -228,7 +228,7 @@ module _ (s : Spec) (x : Fraction) (F : ℕ) (table : (level node : ℕ) → Bou
   kept-or-waits Mode.Labelled labelled result now k none extends ideal enough exact = is-turn s x F table bits before b start answer.Going waiting k.0 k.1 (waits labelled none extends enough exact)
 
   -- the visit stopped, at a place
-  stopped : (step : Stepped) (e : Ending) → session ≡ stopped_by before.session step → step ≢ stepped.OutOfMemory → option_map (λ given. start + given) (told_fault None (answer.Finished e) (used - start)) ≡ told.fault_place step used
+  stopped : (step : Stepped) (e : Ending) → session ≡ stopped_by before.session step → step ≢ stepped.OutOfMemory → option_map (λ given. start + given) (told_fault None (answer.Finished e) (used - start)) ≡ told.visit_fault_place step used
       → Means step (quiet (run.ended (in_turn before (attempt_of before.session start)) (ending_of e) used)) → Alike step (answer.Finished e) → IsTold step → IsTurn s x F table bits before start (answer.Finished e) (ended_by (counted mid) e) used
   stopped step e left ne fault means alike exact = by-visit step (answer.Finished e) (ended_by (counted mid) e)
       (quiet (state_of (ended_by (counted mid) e) used))

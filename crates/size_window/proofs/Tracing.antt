@@ -24,7 +24,7 @@ use Rattle.size_window.specs.RunByBits.{Ending, Limits, Sampling, RunState, Entr
 use Rattle.size_window.specs.Drawing.{MadeShape, DrawingState, attempt_unless, ending_of, state_of}
 use Rattle.size_window.specs.Follows.{GoesIdeally}
 use Rattle.size_window.specs.Ideally.{chooser_of}
-use Rattle.size_window.specs.Turn.{told_entry, told_fault, entry_of, atoms_by, ending_by, EndsThere, IsTurn, IsCounted, node_bits}
+use Rattle.size_window.specs.Turn.{told_entry, told_fault, entry_of, atoms_by, ending_by, TurnEndsThere, IsTurn, IsCountedTurn, node_bits}
 use Rattle.size_window.specs.Trace.{IsSpelled, Spells, bits_to_node, most_given, EndsAt, IsCourseOver, atoms_in, IsTrace, HasTrace, TracesStart, TurnsContinue}
 use Rattle.size_window.proofs.Going.{goes-start}
 use Rattle.size_window.proofs.Turning.{if-told, if-any, attempt-used}
@@ -78,7 +78,7 @@ fault-told None answer.OutOfMemory bits given e = absurd (cc)
 fault-told (Some told) a bits given e = absurd (cc)
 
 -- the tape's end that a drawing met, before or in a turn
-to-turn : (o : Option Told) (a : Answer) (used : ℕ) (tape : ℕ → Option Bool) → EndsAt (option_map ending_of (ending_by o a)) used tape → EndsThere a o used tape
+to-turn : (o : Option Told) (a : Answer) (used : ℕ) (tape : ℕ → Option Bool) → EndsAt (option_map ending_of (ending_by o a)) used tape → TurnEndsThere a o used tape
 to-turn None (answer.Finished ending.TapeEnded) used tape h = h
 to-turn None (answer.Finished ending.Done) used tape h = tt
 to-turn None (answer.Finished (ending.Undecided straddle)) used tape h = tt
@@ -96,7 +96,7 @@ to-turn (Some told) answer.Going used tape h = tt
 to-turn (Some told) (answer.Kept entry) used tape h = tt
 to-turn (Some told) answer.OutOfMemory used tape h = tt
 
-from-turn : (a : Answer) (used : ℕ) (tape : ℕ → Option Bool) → EndsThere a None used tape → EndsAt (option_map ending_of (ending_by None a)) used tape
+from-turn : (a : Answer) (used : ℕ) (tape : ℕ → Option Bool) → TurnEndsThere a None used tape → EndsAt (option_map ending_of (ending_by None a)) used tape
 from-turn (answer.Finished ending.TapeEnded) used tape h = h
 from-turn (answer.Finished ending.Done) used tape h = tt
 from-turn (answer.Finished (ending.Undecided straddle)) used tape h = tt
@@ -180,7 +180,7 @@ module _ (s : Spec) (x : Fraction) (F : ℕ) (table : (level node : ℕ) → Bou
         each = h.spelled_there.each;
       }
 
-  module _ (turns : ℕ) (before : DrawingState) (begun most : ℕ) (c : Course) (h : HasTrace s x F table limits told turns before begun most c) (a : Answer) (now : DrawingState) (used : ℕ) (t : IsTurn s x F table told before begun a now used) (counted : IsCounted before a now) where
+  module _ (turns : ℕ) (before : DrawingState) (begun most : ℕ) (c : Course) (h : HasTrace s x F table limits told turns before begun most c) (a : Answer) (now : DrawingState) (used : ℕ) (t : IsTurn s x F table told before begun a now used) (counted : IsCountedTurn before a now) where
     p : IsTrace s x F table limits told turns most c
     p = h.trace
 
@@ -235,11 +235,11 @@ module _ (s : Spec) (x : Fraction) (F : ℕ) (table : (level node : ℕ) → Bou
         let same : t.turned.state.attempt.used ≡ c.state.attempt.used = used-is ∙ r.unused ∙ sym begun-is in
         subst (λ q. EndsAt q c.state.attempt.used tape) (rested told_end is) (subst (λ n. EndsAt t.turned.state.ending n tape) same e)
 
-    this-end : (tape : ℕ → Option Bool) → EndsAt t.turned.state.ending t.turned.state.attempt.used tape → EndsThere a before.ending used tape
+    this-end : (tape : ℕ → Option Bool) → EndsAt t.turned.state.ending t.turned.state.attempt.used tape → TurnEndsThere a before.ending used tape
     this-end tape e = to-turn before.ending a used tape (subst (λ n. EndsAt (option_map ending_of (ending_by before.ending a)) n tape) used-is (subst (λ o. EndsAt o t.turned.state.attempt.used tape) ending-by e))
 
     ended-now : (o : Option Told) → before.ending ≡ o → IfSome told (EndsAt t.turned.state.ending t.turned.state.attempt.used)
-    ended-now None is = if-told told (λ tape e. subst (λ o. EndsAt o t.turned.state.attempt.used tape) (sym (ending-by ∙ ap (λ o. option_map ending_of (ending_by o a)) is)) (subst (λ n. EndsAt (option_map ending_of (ending_by None a)) n tape) (sym used-is) (from-turn a used tape (subst (λ o. EndsThere a o used tape) is e)))) t.ended
+    ended-now None is = if-told told (λ tape e. subst (λ o. EndsAt o t.turned.state.attempt.used tape) (sym (ending-by ∙ ap (λ o. option_map ending_of (ending_by o a)) is)) (subst (λ n. EndsAt (option_map ending_of (ending_by None a)) n tape) (sym used-is) (from-turn a used tape (subst (λ o. TurnEndsThere a o used tape) is e)))) t.ended
     ended-now (Some told_end) is =
         let r = t.rests told_end is in
         let same : t.turned.state.attempt.used ≡ c.state.attempt.used = used-is ∙ r.unused ∙ sym begun-is in

@@ -18,7 +18,7 @@ use Rattle.size_window.specs.declared.turned.Turned.TheVariants as answer
 use Rattle.size_window.specs.RunByBits as run
 use Rattle.size_window.specs.RunByBits.{Limits, Sampling, RunState, Course, added, no_attempt, quiet, ended, visited, shape_turn, label_turn, counted_turn, open_turn, turn_unless, turn, fault_place, followed_by}
 use Rattle.size_window.specs.Drawing.{MadeShape, DrawingState, DrawingBelongs, ending_of, running, attempt_made, attempt_unless, state_of, counted, ended_by, begun_one}
-use Rattle.size_window.specs.Turn.{GoesOn, told_entry, told_fault, EndsThere, IsTurn, IsIdleTurn}
+use Rattle.size_window.specs.Turn.{GoesOn, told_entry, told_fault, TurnEndsThere, IsTurn, IsIdleTurn}
 use Rattle.size_window.specs.Turn as turning
 use Rattle.size_window.proofs.Going.{goes-on, goes-ended}
 
@@ -61,9 +61,9 @@ if-any None f = tt
 if-any (Some a) f = f a
 
 -- a drawing that had ended meets no end of its tape
-again-ends : (e : Ending) (o : Option Ending) (used : ℕ) (tape : ℕ → Option Bool) → o ≡ Some e → EndsThere (answer.Finished e) o used tape
+again-ends : (e : Ending) (o : Option Ending) (used : ℕ) (tape : ℕ → Option Bool) → o ≡ Some e → TurnEndsThere (answer.Finished e) o used tape
 again-ends ending.Done o used tape is = tt
-again-ends ending.TapeEnded o used tape is = subst (λ p. EndsThere (answer.Finished ending.TapeEnded) p used tape) (sym is) tt
+again-ends ending.TapeEnded o used tape is = subst (λ p. TurnEndsThere (answer.Finished ending.TapeEnded) p used tape) (sym is) tt
 again-ends (ending.Undecided straddle) o used tape is = tt
 again-ends ending.TurnLimit o used tape is = tt
 again-ends ending.ReadFault o used tape is = tt

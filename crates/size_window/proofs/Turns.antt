@@ -10,7 +10,7 @@ use Rattle.size_window.specs.declared.turned.Turned.{Turned}
 use Rattle.size_window.specs.declared.turned.Turned.TheVariants as answer
 use Rattle.size_window.specs.declared.turned.Outcome.{Outcome}
 use Rattle.size_window.specs.Drawing.{DrawingState, DrawingBelongs}
-use Rattle.size_window.specs.Turn.{IsTurn, IsCounted, Settles, outcome_of, MaySettle, IfKept, IsNextKept, HasLabels}
+use Rattle.size_window.specs.Turn.{IsTurn, IsCountedTurn, Settles, outcome_of, MaySettle, IfKept, IsNextKept, EntryHasLabels}
 use Rattle.size_window.proofs.Settling.{visit-turn}
 use Rattle.size_window.proofs.Belonging.{Visits, visit-belongs, visit-kept, visit-labels, visit-counted, may-settle}
 
@@ -37,11 +37,11 @@ module _ (s : Spec) (x : Fraction) (before seen : DrawingState) (same : seen ≡
     pub kept-then : IfKept result (IsNextKept before.limits before.kept used)
     kept-then = subst (λ (d : DrawingState). IfKept result (IsNextKept d.limits d.kept used)) same (visit-kept s x seen belongs-seen visits-seen session belongs mode table step used result now (left runs-seen) ideal settles)
 
-    pub labels-then : IfKept result (HasLabels s.mode)
+    pub labels-then : IfKept result (EntryHasLabels s.mode)
     labels-then = visit-labels s x seen belongs-seen visits-seen session belongs mode table is_mode step used result now settles
 
-    pub counted-then : IsCounted before result now
-    counted-then = subst (λ d. IsCounted d result now) same (visit-counted s x seen belongs-seen visits-seen session belongs result now mode table step used settles)
+    pub counted-then : IsCountedTurn before result now
+    counted-then = subst (λ d. IsCountedTurn d result now) same (visit-counted s x seen belongs-seen visits-seen session belongs result now mode table step used settles)
 
     pub turn-then : (F : ℕ) → (bits : Option (ℕ → Option Bool)) (start : ℕ) → start ≤ used → (seen.session.stopped ≡ None → Draws step seen.session session start used) → (seen.session.stopped ≡ None → IsVisitByBits s F table bits seen.session start step session used) → result ≢ answer.OutOfMemory → IsTurn s x F table bits before start result now used
     turn-then F bits start le draws exact ne =

@@ -108,8 +108,8 @@ ended st ending place = record (at_place st place) { ending = Some ending }
 
 -- The entry of the state's shape with these labels, whose cells follow those of the shape. Its
 -- first bit stands before all that its cells spell.
-abbrev pub entry_of : RunState → (labels : List ℕ) → (label_cells : List Cell) → Entry
-entry_of st labels label_cells = record {
+abbrev pub entry_made : RunState → (labels : List ℕ) → (label_cells : List Cell) → Entry
+entry_made st labels label_cells = record {
   number = suc st.kept;
   place = st.attempt.used - bits_in (st.attempt.cells ++ label_cells);
   size = size_of st.attempt.tokens;
@@ -126,7 +126,7 @@ kept_one st = record (idle st) { kept = suc st.kept }
 -- finished.
 abbrev pub kept_or_waits : Mode → RunState → (finished : List Cell) → Turned
 kept_or_waits Mode.Unlabelled st finished =
-    record { state = kept_one st; entry = Some (entry_of st [] []); cells = finished }
+    record { state = kept_one st; entry = Some (entry_made st [] []); cells = finished }
 kept_or_waits Mode.Labelled st finished =
     record { state = record st { awaits = true }; entry = None; cells = finished }
 
@@ -182,7 +182,7 @@ labelled_with st (Labelling.Given labels cells place) =
     record {
       state = kept_one (at_place st place);
       entry =
-          Some (entry_of (at_place st place) labels cells);
+          Some (entry_made (at_place st place) labels cells);
       cells = cells;
     }
 labelled_with st (Labelling.Straddled m cell finished place) =

@@ -16,7 +16,7 @@ use Rattle.size_window.specs.RunByBits.{at_start, followed_by, after}
 use Rattle.size_window.specs.Drawing.{DrawingState, state_of}
 use Rattle.size_window.specs.Follows.{GoesIdeally}
 use Rattle.size_window.specs.declared.turned.Turned.{Turned}
-use Rattle.size_window.specs.Turn.{IsTurn, IsCounted, node_bits}
+use Rattle.size_window.specs.Turn.{IsTurn, IsCountedTurn, node_bits}
 use Rattle.class_system.specs.Sound.{IsSound}
 
 -- The cell of a number that was left open.
@@ -120,7 +120,7 @@ TurnsContinueOf s = (x : Fraction) (F : ℕ) (table : (level node : ℕ) → Bou
     (told : Option (ℕ → Option Bool)) (turns : ℕ) (before : DrawingState) (used most : ℕ)
     (c : Course) → HasTrace s x F table limits told turns before used most c → (answer : Turned)
     (now : DrawingState) (later : ℕ) (turn : IsTurn s x F table told before used answer now later)
-    → IsCounted before answer now
+    → IsCountedTurn before answer now
     → HasTrace s x F table limits told (suc turns) now later
     (max most (node_bits before.waiting (later - used)))
     (followed_by c turn.turned)
@@ -139,7 +139,7 @@ ToldTracesAreCourses = (s : Spec) (x : Fraction) (F : ℕ) (table : (level node 
     → IsCourseOver (record { chooser = k; limits = limits; tape = tape }) (λ n. None) turns c most
 
 -- A course has ended, and not with a failed read.
-pub record HasEnded (c : Course) : Type 0 where
+pub record CourseHasEnded (c : Course) : Type 0 where
   pub ended : IsSome c.state.ending
   pub undisturbed : c.state.ending ≢ Some Ending.ReadFault
 
@@ -150,6 +150,6 @@ abbrev pub EndedTracesAreOne : Type 0
 EndedTracesAreOne = (s : Spec) (x : Fraction) (F : ℕ) (table : (level node : ℕ) → Bounds)
     (limits : Limits) (tape : ℕ → Option Bool) (k : Chooser) → ChoosesBy s F table k
     → (turns most : ℕ) (c : Course) → IsTrace s x F table limits (Some tape) turns most c
-    → HasEnded c
+    → CourseHasEnded c
     → (others greatest : ℕ) (d : Course) → IsTrace s x F table limits (Some tape) others greatest d
-    → HasEnded d → (c ≡ d) × (most ≡ greatest)
+    → CourseHasEnded d → (c ≡ d) × (most ≡ greatest)

@@ -32,9 +32,9 @@ use Rattle.size_window.specs.Drawing.{thrown_one, taken_out, waiting_with, kept_
 use Rattle.size_window.specs.Drawing.{begun_one}
 
 -- The labels of an entry, where it has any.
-abbrev pub labels_of : Option (List ℕ) → List ℕ
-labels_of None = []
-labels_of (Some labels) = labels
+abbrev pub labels_told : Option (List ℕ) → List ℕ
+labels_told None = []
+labels_told (Some labels) = labels
 
 -- The entry of a struct: its size is that of its tokens.
 abbrev pub entry_of : Entry → run.Entry
@@ -44,7 +44,7 @@ entry_of e = record {
   size = size_of e.shape.items;
   tokens =
       e.shape.items;
-  labels = labels_of e.labels;
+  labels = labels_told e.labels;
   cells = e.cells.items;
 }
 
@@ -67,15 +67,15 @@ pub record GoesOn (d : DrawingState) : Type 0 where
   pub more : d.turns ≢ d.limits.turns
 
 -- The answer is that a read failed, in this turn: the drawing hadn't ended before.
-abbrev pub is_fault : Turned → (ending : Option Ending) → Bool
-is_fault (Finished ReadFault) None = true
-is_fault _ ending = false
+abbrev pub is_turn_fault : Turned → (ending : Option Ending) → Bool
+is_turn_fault (Finished ReadFault) None = true
+is_turn_fault _ ending = false
 
 -- Where the tape's end ended the drawing in this turn, these bits end at the place used.
-abbrev pub EndsThere : Turned → (ending : Option Ending) → (used : ℕ) → (bits : ℕ → Option Bool)
+abbrev pub TurnEndsThere : Turned → (ending : Option Ending) → (used : ℕ) → (bits : ℕ → Option Bool)
     → Type 0
-EndsThere (Finished TapeEnded) None used bits = bits used ≡ None
-EndsThere _ ending used bits = Unit {0}
+TurnEndsThere (Finished TapeEnded) None used bits = bits used ≡ None
+TurnEndsThere _ ending used bits = Unit {0}
 
 -- A drawing that had ended answers its ending again, and nothing changes.
 pub record Rests (ending : Ending) (before : DrawingState) (start : ℕ) (answer : Turned)
@@ -101,9 +101,9 @@ pub record IsTurn (s : Spec) (x : Fraction) (F : ℕ) (table : (level node : ℕ
       → GoesIdeally s x before.limits (followed_by c turned)
   pub given : List Bool
   pub gave : Gave bits start used given
-  pub ended : IfSome bits (EndsThere answer before.ending used)
+  pub ended : IfSome bits (TurnEndsThere answer before.ending used)
   pub exact : (tape : ℕ → Option Bool) → HasBits tape start given
-      → EndsThere answer before.ending used tape → (c : Chooser) → ChoosesBy s F table c
+      → TurnEndsThere answer before.ending used tape → (c : Chooser) → ChoosesBy s F table c
       → turned ≡ turn (record { chooser = c; limits = before.limits; tape = tape })
       (told_fault before.ending answer (used - start)) (state_of before start)
 
@@ -135,7 +135,8 @@ ending_by before (Finished ending) = Some ending
 ending_by before _ = before
 
 -- What a turn counts. Its limits stay.
-pub record IsCounted (before : DrawingState) (answer : Turned) (now : DrawingState) : Type 0 where
+pub record IsCountedTurn (before : DrawingState) (answer : Turned)
+    (now : DrawingState) : Type 0 where
   pub limits : now.limits ≡ before.limits
   pub kept : now.kept ≡ before.kept + kept_by answer
   pub atoms : now.atoms ≡ before.atoms + atoms_by answer
@@ -161,9 +162,9 @@ pub record AreLabels (atoms : ℕ) (told : Option (List ℕ)) : Type 0 where
   pub one_to : AreOneTo atoms labels
 
 -- An entry has labels in labelled mode, and none in unlabelled mode.
-abbrev pub HasLabels : Mode → Entry → Type 0
-HasLabels Mode.Unlabelled e = e.labels ≡ None
-HasLabels Mode.Labelled e = AreLabels (size_of e.shape.items) e.labels
+abbrev pub EntryHasLabels : Mode → Entry → Type 0
+EntryHasLabels Mode.Unlabelled e = e.labels ≡ None
+EntryHasLabels Mode.Labelled e = AreLabels (size_of e.shape.items) e.labels
 
 -- What is said of a kept entry holds.
 abbrev pub IfKept : Turned → (Entry → Type 0) → Type 0

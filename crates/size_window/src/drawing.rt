@@ -4,7 +4,7 @@ ghost use Rattle.std.specs.Prelude.{length, Option, Some, None, IfSome, IfNone, 
 ghost use Rattle.std.specs.Prelude.{OnErr};
 ghost use Rattle.bz_model.specs.Fraction.{Fraction, IsFractionBits};
 ghost use Rattle.bz_model.specs.Oracle.{LeavesOracle};
-ghost use Rattle.bit_tape.specs.Tape.{Belongs, LeavesTape, bits_of};
+ghost use Rattle.bit_tape.specs.Tape.{BelongsToShelf, LeavesTape, bits_of_source};
 ghost use Rattle.class_system.specs.Views.{spec_mode};
 ghost use Rattle.choice_draw.specs.Decision.{level_for};
 ghost use Rattle.labelling.specs.Answer.{OnLabels};
@@ -14,8 +14,10 @@ ghost use Rattle.size_window.specs.RunByBits.{start};
 ghost use Rattle.size_window.specs.Drawing.{limits_of, state_of, shape_of, AreLimits};
 ghost use Rattle.size_window.specs.Drawing.{DrawingBelongs, counted, thrown_one, none_waiting};
 ghost use Rattle.size_window.specs.Drawing.{waiting_with, kept_one_more, ended_by, begun_one};
-ghost use Rattle.size_window.specs.Turn.{IsTurn, is_fault, turns_by, IsCounted, IfKept, IsNextKept};
-ghost use Rattle.size_window.specs.Turn.{HasLabels, node_bits, most_bits, TellsOpen, outcome_of};
+ghost use Rattle.size_window.specs.Turn.{IsTurn, is_turn_fault, turns_by, IsCountedTurn, IfKept};
+ghost use Rattle.size_window.specs.Turn.{IsNextKept};
+ghost use Rattle.size_window.specs.Turn.{EntryHasLabels, node_bits, most_bits, TellsOpen};
+ghost use Rattle.size_window.specs.Turn.{outcome_of};
 ghost use Rattle.size_window.specs.Turn.{IsIdleTurn, IfStraddles, Settles, KeepsOrWaits, MaySettle};
 ghost use Rattle.size_window.specs.LabelTurn.{IsLabelTurn, SettlesLabels};
 
@@ -137,7 +139,7 @@ impl Drawing {
         requires fraction_bits { IsFractionBits F }
         requires spec { O.spec oracle.old ≡ founded.now }
         requires drawing { DrawingBelongs founded.now (O.x oracle.old) self.old }
-        requires tape { Belongs (S.content shelf.old) tape.old }
+        requires tape { BelongsToShelf (S.content shelf.old) tape.old }
 
         ensures no_memory { result ≡ Turned.OutOfMemory → (self.new ≡ self.old)
             × (tape.new ≡ tape.old) × (oracle.new ≡ oracle.old) × (shelf.new ≡ shelf.old) }
@@ -149,16 +151,16 @@ impl Drawing {
             → (tape.new ≡ tape.old) × (oracle.new ≡ oracle.old) × (shelf.new ≡ shelf.old) }
         ensures turned { result ≢ Turned.OutOfMemory
             → IsTurn founded.now (O.x oracle.old) F (O.table oracle.old)
-            (bits_of tape.old.source (S.content shelf.old))
+            (bits_of_source tape.old.source (S.content shelf.old))
             self.old tape.old.used result self.new tape.new.used }
-        ensures counted { IsCounted self.old result self.new }
+        ensures counted { IsCountedTurn self.old result self.new }
         ensures done { self.old.ending ≡ None → ((result ≡ Turned.Finished Ending.Done)
             ↔ (self.old.kept ≡ self.old.limits.count)) }
         ensures turn_limit { self.old.ending ≡ None → ((result ≡ Turned.Finished Ending.TurnLimit)
             ↔ ((self.old.kept ≢ self.old.limits.count)
             × (self.old.turns ≡ self.old.limits.turns))) }
         ensures kept { IfKept result (IsNextKept self.old.limits self.old.kept tape.new.used) }
-        ensures labels { IfKept result (HasLabels founded.now.mode) }
+        ensures labels { IfKept result (EntryHasLabels founded.now.mode) }
         ensures undecided { self.old.ending ≡ None → TellsOpen (O.table oracle.old) result }
         ensures drawing { DrawingBelongs founded.now (O.x oracle.old) self.new }
 
@@ -169,7 +171,7 @@ impl Drawing {
             × (tape.new.used ≤ tape.old.used + most_bits self.old.waiting) }
         ensures oracle { LeavesOracle O.spec O.x O.table O.cost O.raised
             oracle.old oracle.new steps.old steps.new }
-        ensures tape { LeavesTape S.content S.faults (is_fault result self.old.ending)
+        ensures tape { LeavesTape S.content S.faults (is_turn_fault result self.old.ending)
             shelf.old shelf.new tape.old tape.new }
     {
         if let Some(turned) = self.idle_turn() {
@@ -246,16 +248,16 @@ impl Drawing {
         requires kept { self.old.kept < 100000 }
         requires turns { self.old.turns < 50000000 }
         requires atoms { self.old.atoms ≤ self.old.kept * 1000000 }
-        requires tape { Belongs (S.content shelf.old) tape.old }
+        requires tape { BelongsToShelf (S.content shelf.old) tape.old }
 
         ensures no_memory { result ≡ Turned.OutOfMemory
             → (tape.new ≡ tape.old) × (shelf.new ≡ shelf.old) }
-        ensures labelled { IsLabelTurn (bits_of tape.old.source (S.content shelf.old))
+        ensures labelled { IsLabelTurn (bits_of_source tape.old.source (S.content shelf.old))
             (shape_of made) self.old tape.old.used result self.new tape.new.used }
 
         ensures used { (tape.old.used ≤ tape.new.used)
             × (tape.new.used ≤ tape.old.used + 60 * size_of made.shape.items) }
-        ensures tape { LeavesTape S.content S.faults (is_fault result None)
+        ensures tape { LeavesTape S.content S.faults (is_turn_fault result None)
             shelf.old shelf.new tape.old tape.new }
     {
         let atoms = made.shape.size();

@@ -15,7 +15,7 @@ use Rattle.spec_reader.specs.declared.tokens.Token.{Token}
 use Rattle.spec_reader.specs.declared.tokens.Placed.{Placed}
 use Rattle.spec_reader.specs.Bytes.{is_text}
 use Rattle.spec_reader.specs.Tokens.{tokens_of, beginning}
-use Rattle.spec_reader.specs.Grammar.{Term, terms, Definition, Definitions, IsText, text, mode_word}
+use Rattle.spec_reader.specs.Grammar.{Term, listed_terms, Definition, Definitions, IsText, text, spelled_mode}
 use Rattle.spec_reader.specs.Tables.{Row, with_terms, numbers, names_of}
 use Rattle.spec_reader.specs.Reading.{plain_tokens, StandFor, Grammar}
 use Rattle.spec_reader.proofs.Numbering.{length-mapped}
@@ -26,42 +26,42 @@ use Rattle.spec_reader.proofs.ShownNodes.{all_shows}
 use Rattle.spec_reader.proofs.TreeReadings.{rows, length-rows, row_nodes, row_ranges, bodies_read}
 use Rattle.spec_reader.proofs.Lines.{IsClean, clean_none, definitions_of, defined_names, defined_bodies, length-read, lines_read}
 
-mode_lexes : (m : Mode) → Lexes (canonical.mode_word m) (Token.Name (mode_word m) ∷ [])
-mode_lexes Mode.Unlabelled = run_lexes (mode_word Mode.Unlabelled) (Token.Name (mode_word Mode.Unlabelled)) (omega arith) refl refl
-mode_lexes Mode.Labelled = run_lexes (mode_word Mode.Labelled) (Token.Name (mode_word Mode.Labelled)) (omega arith) refl refl
+mode_lexes : (m : Mode) → Lexes (canonical.mode_word m) (Token.Name (spelled_mode m) ∷ [])
+mode_lexes Mode.Unlabelled = run_lexes (spelled_mode Mode.Unlabelled) (Token.Name (spelled_mode Mode.Unlabelled)) (omega arith) refl refl
+mode_lexes Mode.Labelled = run_lexes (spelled_mode Mode.Labelled) (Token.Name (spelled_mode Mode.Labelled)) (omega arith) refl refl
 
 -- the tables of a specification's names and its bodies' terms
 abbrev tables_of : Mode → List (List ℕ) → List Term → Spec
 tables_of m names ts = record {
   mode = m;
   names = names;
-  bodies = numbers names [] (terms ts);
-  nodes = map (λ r. r.node) (with_terms names [] (terms ts));
-  ranges = map (λ r. r.range) (with_terms names [] (terms ts));
+  bodies = numbers names [] (listed_terms ts);
+  nodes = map (λ r. r.node) (with_terms names [] (listed_terms ts));
+  ranges = map (λ r. r.range) (with_terms names [] (listed_terms ts));
 }
 
-same_tables : (s : Spec) → IsSound s → (ts : List Term) → with_terms s.names [] (terms ts) ≡ take (length s.nodes) (rows s) → numbers s.names [] (terms ts) ≡ s.bodies → s ≡ tables_of s.mode s.names ts
+same_tables : (s : Spec) → IsSound s → (ts : List Term) → with_terms s.names [] (listed_terms ts) ≡ take (length s.nodes) (rows s) → numbers s.names [] (listed_terms ts) ≡ s.bodies → s ≡ tables_of s.mode s.names ts
 same_tables s sound ts rows_are numbers_are =
     let long = length-rows s.nodes s.ranges sound.ranges.lengths in
-    let all : with_terms s.names [] (terms ts) ≡ rows s = rows_are ∙ take_all (length s.nodes) (rows s) (omega arith) in
-    let nodes : map (λ (r : Row). r.node) (with_terms s.names [] (terms ts)) ≡ s.nodes = ap (λ qs. map (λ (r : Row). r.node) qs) all ∙ row_nodes s.nodes s.ranges sound.ranges.lengths in
-    let ranges : map (λ (r : Row). r.range) (with_terms s.names [] (terms ts)) ≡ s.ranges = ap (λ qs. map (λ (r : Row). r.range) qs) all ∙ row_ranges s.nodes s.ranges sound.ranges.lengths in
+    let all : with_terms s.names [] (listed_terms ts) ≡ rows s = rows_are ∙ take_all (length s.nodes) (rows s) (omega arith) in
+    let nodes : map (λ (r : Row). r.node) (with_terms s.names [] (listed_terms ts)) ≡ s.nodes = ap (λ qs. map (λ (r : Row). r.node) qs) all ∙ row_nodes s.nodes s.ranges sound.ranges.lengths in
+    let ranges : map (λ (r : Row). r.range) (with_terms s.names [] (listed_terms ts)) ≡ s.ranges = ap (λ qs. map (λ (r : Row). r.range) qs) all ∙ row_ranges s.nodes s.ranges sound.ranges.lengths in
     sym (λ i. record { mode = s.mode; names = s.names; bodies = numbers_are i; nodes = nodes i; ranges = ranges i })
 
-is_one : (m : Mode) (ts : List Token) (ds : List Definition) → 0 < length ds → Definitions ts ds → IsText (Token.Name (mode_word m) ∷ Token.LineEnd ∷ ts) m ds
+is_one : (m : Mode) (ts : List Token) (ds : List Definition) → 0 < length ds → Definitions ts ds → IsText (Token.Name (spelled_mode m) ∷ Token.LineEnd ∷ ts) m ds
 is_one m ts [] some d = absurd (omega arith)
 is_one m ts (e ∷ ds) some d = text d
 
 -- the tokens of a text of a mode's line and others
-head_lexed : (m : Mode) (others : List ℕ) (ts : List Token) → plain_from 0 false others ≡ ts → plain_tokens (tokens_of ((canonical.mode_word m ++ 10 ∷ []) ++ others)) ≡ Token.Name (mode_word m) ∷ Token.LineEnd ∷ ts
+head_lexed : (m : Mode) (others : List ℕ) (ts : List Token) → plain_from 0 false others ≡ ts → plain_tokens (tokens_of ((canonical.mode_word m ++ 10 ∷ []) ++ others)) ≡ Token.Name (spelled_mode m) ∷ Token.LineEnd ∷ ts
 head_lexed m others ts e =
-    plain_is 0 beginning ((canonical.mode_word m ++ 10 ∷ []) ++ others) ∙ ap (λ bs. plain_from 0 false bs) (append_assoc (canonical.mode_word m) (10 ∷ []) others) ∙ (mode_lexes m).lexed false (10 ∷ others) (refl, refl) ∙ ap (λ us. Token.Name (mode_word m) ∷ us) (plain-feed others ∙ ap (λ us. Token.LineEnd ∷ us) e)
+    plain_is 0 beginning ((canonical.mode_word m ++ 10 ∷ []) ++ others) ∙ ap (λ bs. plain_from 0 false bs) (append_assoc (canonical.mode_word m) (10 ∷ []) others) ∙ (mode_lexes m).lexed false (10 ∷ others) (refl, refl) ∙ ap (λ us. Token.Name (spelled_mode m) ∷ us) (plain-feed others ∙ ap (λ us. Token.LineEnd ∷ us) e)
 
 head_text : (m : Mode) (others : List ℕ) → list_all is_text others ≡ true → list_all is_text ((canonical.mode_word m ++ 10 ∷ []) ++ others) ≡ true
 head_text m others e =
     list_all-append is_text (canonical.mode_word m ++ 10 ∷ []) others ∙ and_from (list_all is_text (canonical.mode_word m ++ 10 ∷ [])) (list_all is_text others) (list_all-append is_text (canonical.mode_word m) (10 ∷ []) ∙ and_from (list_all is_text (canonical.mode_word m)) (list_all is_text (10 ∷ [])) (mode_lexes m).all_text refl) e
 
-stands : (s : Spec) → IsSound s → (ps : List Placed) (lines : List Token) (ts : List Term) → length ts ≡ length s.names → plain_tokens ps ≡ Token.Name (mode_word s.mode) ∷ Token.LineEnd ∷ lines → Definitions lines (definitions_of s.names ts) → IsClean s.mode s.names [] true lines → s ≡ tables_of s.mode s.names ts → StandFor ps s
+stands : (s : Spec) → IsSound s → (ps : List Placed) (lines : List Token) (ts : List Term) → length ts ≡ length s.names → plain_tokens ps ≡ Token.Name (spelled_mode s.mode) ∷ Token.LineEnd ∷ lines → Definitions lines (definitions_of s.names ts) → IsClean s.mode s.names [] true lines → s ≡ tables_of s.mode s.names ts → StandFor ps s
 stands s sound ps lines ts same is_tokens parses clean is_tables =
     let ds = definitions_of s.names ts in
     let names_are : names_of ds ≡ s.names = defined_names s.names ts same in

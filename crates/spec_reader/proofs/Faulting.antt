@@ -8,7 +8,7 @@ use Rattle.spec_reader.specs.declared.tokens.Placed.{Placed}
 use Rattle.spec_reader.specs.declared.fault.SpecFault.{SpecFault}
 use Rattle.spec_reader.specs.Tokens.{is_same}
 use Rattle.spec_reader.specs.Reading.{plain_tokens}
-use Rattle.spec_reader.specs.Faults.{is_among, with_names, defined_by, line_names, ends_line, fault_at, first_of, first_fault, twice, undefined, needs_labels}
+use Rattle.spec_reader.specs.Faults.{is_among, with_names, defined_by, line_names, ends_line, fault_at, earlier_fault, first_fault, twice, undefined, needs_labels}
 
 -- a fault of names and labels
 abbrev pub IsNaming : SpecFault → Type 0
@@ -47,7 +47,7 @@ at_naming m defined before false (Token.Counted c) line column = labels_naming m
 at_naming m defined before true _ line column = tt
 at_naming m defined before false _ line column = tt
 
-first_naming : (a b : Option SpecFault) → IsNamingIf a → IsNamingIf b → IsNamingIf (first_of a b)
+first_naming : (a b : Option SpecFault) → IsNamingIf a → IsNamingIf b → IsNamingIf (earlier_fault a b)
 first_naming (Some f) b h k = h
 first_naming None b h k = k
 
@@ -72,7 +72,7 @@ fault_same m defined others before same starts [] = refl
 fault_same m defined others before same starts (p ∷ ps) = rw (at_same m defined others before same starts p.token p.line p.column, fault_same m defined others (with_names before (defined_by starts p.token)) same (ends_line p.token) ps) refl
 
 -- Where there is no first one of two possible faults, there is neither of them.
-pub none_both : (a b : Option SpecFault) → first_of a b ≡ None → (a ≡ None) × (b ≡ None)
+pub none_both : (a b : Option SpecFault) → earlier_fault a b ≡ None → (a ≡ None) × (b ≡ None)
 none_both (Some f) b e = absurd (cc)
 none_both None b e = (refl, e)
 

@@ -9,7 +9,7 @@ use Rattle.class_system.specs.Sound.{IsSound, IsBound, IsTextRange}
 use Rattle.class_system.specs.Limits.{IsWithinLimits}
 use Rattle.class_system.specs.declared.canonical.Form.{Form}
 use Rattle.class_system.specs.declared.canonical.Form.TheVariants as form
-use Rattle.class_system.specs.CanonicalText.{Shown, bracketed, part_text, separated, shown_at, leaf_text, bound_text, counted_text, node_shown, all_shown, mode_word, class_line, canonical_text}
+use Rattle.class_system.specs.CanonicalText.{Shown, bracketed, part_text, separated, shown_at, written_leaf, bound_text, counted_text, node_shown, all_shown, mode_word, class_line, canonical_text}
 use Rattle.class_system.proofs.Soundness.{has_range}
 use Rattle.spec_reader.proofs.Runs.{bound_spelt}
 use Rattle.spec_reader.proofs.ShownNodes.{Shows, all_shows}
@@ -23,7 +23,7 @@ few_if : (b : Bool) (x y : List ℕ) (n : ℕ) → length x ≤ n → length y �
 few_if true x y n h k = h
 few_if false x y n h k = k
 
-leaf_few : (letter word : List ℕ) → length letter ≤ 1 → length word ≤ 32 → length (leaf_text letter word) ≤ 34
+leaf_few : (letter word : List ℕ) → length letter ≤ 1 → length word ≤ 32 → length (written_leaf letter word) ≤ 34
 leaf_few letter [] h k = omega arith
 leaf_few letter (b ∷ bs) h k = omega (arith, length-append (letter ++ codes ":") (b ∷ bs), length-append letter (codes ":"))
 

@@ -6,13 +6,13 @@ use Rattle.std.proofs.lemmas.List.Sums.{AllPass-from_list_all, take_while-cons}
 use Rattle.std.proofs.lemmas.Bool.Decides.{nat_tests}
 use Rattle.class_system.specs.Words.{IsLeafWord, IsName}
 use Rattle.class_system.specs.Sound.{IsBound}
-use Rattle.spec_reader.specs.Bytes.{is_blank, is_digit, is_letter, is_run_byte}
+use Rattle.spec_reader.specs.Bytes.{is_blank, is_digit, is_letter, may_be_in_run}
 use Rattle.spec_reader.specs.declared.tokens.Token.{Token}
 use Rattle.spec_reader.specs.declared.tokens.Front.{Front}
 use Rattle.spec_reader.specs.declared.tokens.Placed.{Placed}
 use Rattle.spec_reader.specs.declared.tokens.Spot.{Spot}
 use Rattle.spec_reader.specs.Building.{EndsText}
-use Rattle.spec_reader.specs.Tokens.{is_same, number_of, number_token, begins_with_letter, run_token, leaf_token, word_after, run_front, begins_with_equals, sign_front, front, line_end, placed, made, moved, further, along, tokens_from, tokens_of, beginning}
+use Rattle.spec_reader.specs.Tokens.{is_same, number_spelled, number_token, begins_with_letter, run_token, leaf_token, word_after, run_front, begins_with_equals, sign_front, front, line_end, placed, made, moved, further, along, tokens_from, tokens_of, beginning}
 
 -- a token of the text's rules
 abbrev pub IsLexical : Token → Type 0
@@ -41,8 +41,8 @@ both_of : (a b : Bool) → true ≡ (a && b) → (true ≡ a) × (true ≡ b)
 both_of true b e = (refl, e)
 both_of false b e = absurd (cc)
 
-leaf_word : (w : List ℕ) → length w ≤ 32 → list_all is_run_byte w ≡ true → IsLeafWord w
-leaf_word w few run = record { few = few; run = AllPass-from_list_all is_run_byte w run }
+leaf_word : (w : List ℕ) → length w ≤ 32 → list_all may_be_in_run w ≡ true → IsLeafWord w
+leaf_word w few run = record { few = few; run = AllPass-from_list_all may_be_in_run w run }
 
 digit_few : (a : ℕ) → true ≡ is_digit a → (48 ≤ a) × (a ≤ 57)
 digit_few a e = let both = both_of (nat_le 48 a) (nat_le a 57) e in (le_of 48 a both.0, le_of a 57 both.1)
@@ -51,7 +51,7 @@ abbrev IsBoundIf : Option ℕ → Type 0
 IsBoundIf None = Unit {0}
 IsBoundIf (Some k) = IsBound k
 
-number_bound : (run : List ℕ) → true ≡ list_all is_digit run → IsBoundIf (number_of run)
+number_bound : (run : List ℕ) → true ≡ list_all is_digit run → IsBoundIf (number_spelled run)
 number_bound [] e = tt
 number_bound (a ∷ []) e =
     let d = digit_few a (both_of (is_digit a) true e).0 in
@@ -70,9 +70,9 @@ first_letter : (run : List ℕ) → true ≡ begins_with_letter run → is_lette
 first_letter [] e = absurd (cc)
 first_letter (b ∷ bs) e = sym e
 
-run_lexical : (run : List ℕ) → list_all is_run_byte run ≡ true → IsLexical (run_token run)
+run_lexical : (run : List ℕ) → list_all may_be_in_run run ≡ true → IsLexical (run_token run)
 run_lexical run bytes =
-    either IsLexical (list_all is_digit run) _ _ (λ e. number_lexical (number_of run) (number_bound run e)) (λ _.
+    either IsLexical (list_all is_digit run) _ _ (λ e. number_lexical (number_spelled run) (number_bound run e)) (λ _.
     either IsLexical (is_same run (codes "E")) _ _ (λ _. leaf_word [] (omega arith) refl) (λ e.
     either IsLexical (is_same run (codes "Z")) _ _ (λ _. leaf_word [] (omega arith) refl) (λ z.
     either IsLexical (is_same run (codes "Seq")) _ _ (λ _. tt) (λ q.
@@ -83,11 +83,11 @@ run_lexical run bytes =
     record {
       letter = first_letter run both.0;
       few = le_of (length run) 32 both.1;
-      run = AllPass-from_list_all is_run_byte run bytes;
+      run = AllPass-from_list_all may_be_in_run run bytes;
       free = (other_text run (codes "E") e, (other_text run (codes "Z") z, (other_text run (codes "Seq") q, (other_text run (codes "Set") s, (other_text run (codes "Cyc") y, tt)))));
     }) (λ _. tt)))))))
 
-leaf_lexical : (letter word : List ℕ) → list_all is_run_byte word ≡ true → IsLexical (leaf_token letter word)
+leaf_lexical : (letter word : List ℕ) → list_all may_be_in_run word ≡ true → IsLexical (leaf_token letter word)
 leaf_lexical letter word bytes =
     either IsLexical (nat_le (length word) 32) _ _
     (λ few. either IsLexical (is_same letter (codes "E")) _ _ (λ _. leaf_word word (le_of (length word) 32 few) bytes) (λ _. leaf_word word (le_of (length word) 32 few) bytes))
@@ -101,11 +101,11 @@ taken_bytes : (p : ℕ → Bool) (bs : List ℕ) → list_all p (take_while p bs
 taken_bytes p [] = refl
 taken_bytes p (b ∷ bs) = rw (take_while-cons p b bs) (taken_one p b (take_while p bs) (p b) refl (taken_bytes p bs))
 
-word_bytes : (after : List ℕ) → list_all is_run_byte (word_after after) ≡ true
+word_bytes : (after : List ℕ) → list_all may_be_in_run (word_after after) ≡ true
 word_bytes [] = refl
-word_bytes (b ∷ bs) = either (λ w. list_all is_run_byte w ≡ true) (b == 58) _ _ (λ _. taken_bytes is_run_byte bs) (λ _. refl)
+word_bytes (b ∷ bs) = either (λ w. list_all may_be_in_run w ≡ true) (b == 58) _ _ (λ _. taken_bytes may_be_in_run bs) (λ _. refl)
 
-run_front_lexical : (run : List ℕ) (more : ℕ) (after : List ℕ) → list_all is_run_byte run ≡ true → IsLexicalFront (run_front run more after)
+run_front_lexical : (run : List ℕ) (more : ℕ) (after : List ℕ) → list_all may_be_in_run run ≡ true → IsLexicalFront (run_front run more after)
 run_front_lexical run more after bytes =
     either IsLexicalFront ((is_same run (codes "E") || is_same run (codes "Z")) && not (length (word_after after) == 0)) _ _
     (λ _. leaf_lexical run (word_after after) (word_bytes after)) (λ _. run_lexical run bytes)
@@ -125,7 +125,7 @@ front_lexical b bs =
     either IsLexicalFront (b == 10) _ _ (λ _. tt) (λ _.
     either IsLexicalFront (is_blank b) _ _ (λ _. tt) (λ _.
     either IsLexicalFront (b == 35) _ _ (λ _. tt) (λ _.
-    either IsLexicalFront (is_run_byte b) _ _ (λ e. run_front_lexical (b ∷ take_while is_run_byte bs) (prefix_len is_run_byte bs) (drop (prefix_len is_run_byte bs) bs) (rw (← e) (taken_bytes is_run_byte bs))) (λ _. sign_lexical b bs))))
+    either IsLexicalFront (may_be_in_run b) _ _ (λ e. run_front_lexical (b ∷ take_while may_be_in_run bs) (prefix_len may_be_in_run bs) (drop (prefix_len may_be_in_run bs) bs) (rw (← e) (taken_bytes may_be_in_run bs))) (λ _. sign_lexical b bs))))
 
 are_both : (ps qs : List Placed) → AreLexical ps → AreLexical qs → AreLexical (ps ++ qs)
 are_both [] qs h k = k

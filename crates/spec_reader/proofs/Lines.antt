@@ -15,7 +15,7 @@ use Rattle.spec_reader.specs.declared.tokens.Token.{Token}
 use Rattle.spec_reader.specs.declared.tokens.Placed.{Placed}
 use Rattle.spec_reader.specs.Bytes.{is_text}
 use Rattle.spec_reader.specs.Grammar.{Term, Definition, Definitions, text_end, defined}
-use Rattle.spec_reader.specs.Faults.{twice, undefined, needs_labels, ends_line, defined_by, with_names, fault_at, first_fault, first_of}
+use Rattle.spec_reader.specs.Faults.{twice, undefined, needs_labels, ends_line, defined_by, with_names, fault_at, first_fault, earlier_fault}
 use Rattle.spec_reader.specs.Reading.{plain_tokens}
 use Rattle.spec_reader.proofs.NamesSeen.{among_missing, one_missing}
 use Rattle.spec_reader.proofs.Terms.{Suits}
@@ -32,7 +32,7 @@ IsClean m names before starts (t ∷ ts) = ((line column : ℕ) → fault_at m n
 pub clean_none : (m : Mode) (names before : List (List ℕ)) (starts : Bool) (ps : List Placed) → IsClean m names before starts (plain_tokens ps) → first_fault m names before starts ps ≡ None
 clean_none m names before starts [] c = refl
 clean_none m names before starts (p ∷ ps) c =
-    ap (λ f. first_of f (first_fault m names (with_names before (defined_by starts p.token)) (ends_line p.token) ps)) (c.0 p.line p.column) ∙ clean_none m names (with_names before (defined_by starts p.token)) (ends_line p.token) ps c.1
+    ap (λ f. earlier_fault f (first_fault m names (with_names before (defined_by starts p.token)) (ends_line p.token) ps)) (c.0 p.line p.column) ∙ clean_none m names (with_names before (defined_by starts p.token)) (ends_line p.token) ps c.1
 
 labels_none : (m : Mode) (c : Counting) (line column : ℕ) → Suits m c → needs_labels m c line column ≡ None
 labels_none Mode.Unlabelled Counting.Seq line column h = refl

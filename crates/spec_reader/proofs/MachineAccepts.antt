@@ -6,8 +6,8 @@ use Rattle.spec_reader.specs.declared.tokens.Counting.{Counting}
 use Rattle.spec_reader.specs.declared.tokens.Sign.{Sign}
 use Rattle.spec_reader.specs.declared.tokens.Token.{Token}
 use Rattle.spec_reader.specs.Tokens.{is_same}
-use Rattle.spec_reader.specs.Grammar.{Term, Definition, sum_of, product_of, counted, plain, Bound, no_bound, at_least, at_most, exactly, Sum, MoreProducts, MoreFactors, Factor, summed, no_products, next_product, multiplied, no_factors, next_factor, empty_leaf, atom_leaf, named, group, counting, Definitions, text_end, defined, IsText, text, mode_word}
-use Rattle.spec_reader.specs.Machine.{Frame, Wrap, bare, over, wrapped, Outer, LinesBefore, Place, ReaderState, Start, Moded, Lines, Named, Want, Counts, Signed, Bounded, Have, Done, Failed, range_by, value, opened, with_one_more, begun, mode_read, closed, line_over, text_over, step, run}
+use Rattle.spec_reader.specs.Grammar.{Term, Definition, sum_of, product_term, counted, without_bound, Bound, no_bound, at_least, at_most, exactly, Sum, MoreProducts, MoreFactors, Factor, summed, no_products, next_product, multiplied, no_factors, next_factor, empty_leaf, atom_leaf, named, group, counting, Definitions, text_end, defined, IsText, text, spelled_mode}
+use Rattle.spec_reader.specs.Machine.{Frame, Wrap, bare, over, wrapped, Outer, LinesBefore, Place, ReaderState, Start, Moded, Lines, Named, Want, Counts, Signed, Bounded, Have, Done, Failed, range_by, finished_products, parenthesis_opened, with_one_more, sum_begun, mode_read, parenthesis_closed, line_over, text_over, step, run}
 
 -- what a frame becomes by what follows
 record Follows (ps us : List Term) (ts : List Token) (qs : List Term) (rest : List Token) : Type 0 where
@@ -16,7 +16,7 @@ record Follows (ps us : List Term) (ts : List Token) (qs : List Term) (rest : Li
   ys : List Term
   factors : MoreFactors ts xs mid
   products : MoreProducts mid ys rest
-  whole : qs ≡ ps ++ product_of (us ++ xs) ∷ ys
+  whole : qs ≡ ps ++ product_term (us ++ xs) ∷ ys
 
 -- the lines to come complete a text of these definitions
 record Lined (b : LinesBefore) (ts : List Token) (m : Mode) (ds : List Definition) : Type 0 where
@@ -53,18 +53,18 @@ record Bounds (p : Place) (c : Counting) (ts : List Token) (m : Mode) (ds : List
   range : Range
   inner : List Token
   bound : Bound c ts range (Token.Open ∷ inner)
-  wants : Wants (opened p (over c range)) inner m ds
+  wants : Wants (parenthesis_opened p (over c range)) inner m ds
 
 -- the tokens complete what a state has read to a text of these definitions
 abbrev Completes : ReaderState → List Token → Mode → List Definition → Type 0
 Completes Start ts m ds = IsText ts m ds
 Completes (Moded k) ts m ds = (later : List Token) × (ts ≡ Token.LineEnd ∷ later) × Lined (record { mode = k; definitions = [] }) later m ds
 Completes (Lines b) ts m ds = Lined b ts m ds
-Completes (Named b w) ts m ds = (later : List Token) × (ts ≡ Token.Exactly ∷ later) × Wants (begun b w) later m ds
+Completes (Named b w) ts m ds = (later : List Token) × (ts ≡ Token.Exactly ∷ later) × Wants (sum_begun b w) later m ds
 Completes (Want p) ts m ds = Wants p ts m ds
 Completes (Counts p c) ts m ds = Bounds p c ts m ds
-Completes (Signed p c s) ts m ds = (k : ℕ) × (inner : List Token) × (ts ≡ Token.Number k ∷ Token.Open ∷ inner) × Wants (opened p (over c (range_by c s k))) inner m ds
-Completes (Bounded p c r) ts m ds = (inner : List Token) × (ts ≡ Token.Open ∷ inner) × Wants (opened p (over c r)) inner m ds
+Completes (Signed p c s) ts m ds = (k : ℕ) × (inner : List Token) × (ts ≡ Token.Number k ∷ Token.Open ∷ inner) × Wants (parenthesis_opened p (over c (range_by c s k))) inner m ds
+Completes (Bounded p c r) ts m ds = (inner : List Token) × (ts ≡ Token.Open ∷ inner) × Wants (parenthesis_opened p (over c r)) inner m ds
 Completes (Have p) ts m ds = Has p ts m ds
 Completes (Done b) ts m ds = (ts ≡ []) × (b ≡ record { mode = m; definitions = ds })
 Completes Failed ts m ds = ⊥
@@ -76,11 +76,11 @@ record Grouped (p : Place) (w : Wrap) (ts : List Token) (m : Mode) (ds : List De
   reads : Sum ts qs (Token.Close ∷ mid)
   has : Has (with_one_more p (wrapped w (sum_of qs))) mid m ds
 
-grouped : (p : Place) (w : Wrap) (ts : List Token) (m : Mode) (ds : List Definition) → Wants (opened p w) ts m ds → Grouped p w ts m ds
+grouped : (p : Place) (w : Wrap) (ts : List Token) (m : Mode) (ds : List Definition) → Wants (parenthesis_opened p w) ts m ds → Grouped p w ts m ds
 grouped p w ts m ds h =
     let f = h.has.follows in
     let a = h.has.around in
-    let s : Sum ts (product_of (h.x ∷ f.xs) ∷ f.ys) h.has.last = summed (multiplied h.factor f.factors) f.products in
+    let s : Sum ts (product_term (h.x ∷ f.xs) ∷ f.ys) h.has.last = summed (multiplied h.factor f.factors) f.products in
     record {
       qs = h.has.qs;
       mid = a.0;
@@ -95,11 +95,11 @@ record Ended (b : LinesBefore) (w : List ℕ) (ts : List Token) (m : Mode) (ds :
   reads : Sum ts qs (Token.LineEnd ∷ mid)
   lined : Lined (with_definition b w qs) mid m ds
 
-ended : (b : LinesBefore) (w : List ℕ) (ts : List Token) (m : Mode) (ds : List Definition) → Wants (begun b w) ts m ds → Ended b w ts m ds
+ended : (b : LinesBefore) (w : List ℕ) (ts : List Token) (m : Mode) (ds : List Definition) → Wants (sum_begun b w) ts m ds → Ended b w ts m ds
 ended b w ts m ds h =
     let f = h.has.follows in
     let a = h.has.around in
-    let s : Sum ts (product_of (h.x ∷ f.xs) ∷ f.ys) h.has.last = summed (multiplied h.factor f.factors) f.products in
+    let s : Sum ts (product_term (h.x ∷ f.xs) ∷ f.ys) h.has.last = summed (multiplied h.factor f.factors) f.products in
     record {
       qs = h.has.qs;
       mid = a.0;
@@ -108,26 +108,26 @@ ended b w ts m ds h =
     }
 
 -- nothing of a frame follows but the end of its sum
-over_here : (f : Frame) (ts : List Token) → Follows f.products f.factors ts (value f) ts
+over_here : (f : Frame) (ts : List Token) → Follows f.products f.factors ts (finished_products f) ts
 over_here f ts = record {
   mid = ts;
   xs = [];
   ys = [];
   factors = no_factors;
   products = no_products;
-  whole = ap (λ vs. f.products ++ product_of vs ∷ []) (sym (append-nil f.factors));
+  whole = ap (λ vs. f.products ++ product_term vs ∷ []) (sym (append-nil f.factors));
 }
 
-moded : (k : Mode) (w : List ℕ) (ts : List Token) (m : Mode) (ds : List Definition) → w ≡ mode_word k → Completes (Moded k) ts m ds → IsText (Token.Name w ∷ ts) m ds
+moded : (k : Mode) (w : List ℕ) (ts : List Token) (m : Mode) (ds : List Definition) → w ≡ spelled_mode k → Completes (Moded k) ts m ds → IsText (Token.Name w ∷ ts) m ds
 moded k w ts m ds e h =
     let l = h.2 in
     let more : Definitions h.0 (l.first ∷ l.others) = subst (λ es. Definitions h.0 es) (l.whole ∙ l.some) l.reads in
-    let whole : IsText (Token.Name (mode_word k) ∷ Token.LineEnd ∷ h.0) k (l.first ∷ l.others) = text more in
+    let whole : IsText (Token.Name (spelled_mode k) ∷ Token.LineEnd ∷ h.0) k (l.first ∷ l.others) = text more in
     let named_so : IsText (Token.Name w ∷ Token.LineEnd ∷ h.0) k (l.first ∷ l.others) = subst (λ v. IsText (Token.Name v ∷ Token.LineEnd ∷ h.0) k (l.first ∷ l.others)) (sym e) whole in
     let at_tokens : IsText (Token.Name w ∷ ts) k (l.first ∷ l.others) = subst (λ rs. IsText (Token.Name w ∷ rs) k (l.first ∷ l.others)) (sym h.1) named_so in
     subst₂ (λ n es. IsText (Token.Name w ∷ ts) n es) l.mode_is (sym l.some) at_tokens
 
-by_tests : (b c : Bool) (w : List ℕ) (ts : List Token) (m : Mode) (ds : List Definition) → (true ≡ b → w ≡ mode_word Mode.Unlabelled) → (true ≡ c → w ≡ mode_word Mode.Labelled) → Completes (if b then Moded Mode.Unlabelled else if c then Moded Mode.Labelled else Failed) ts m ds → IsText (Token.Name w ∷ ts) m ds
+by_tests : (b c : Bool) (w : List ℕ) (ts : List Token) (m : Mode) (ds : List Definition) → (true ≡ b → w ≡ spelled_mode Mode.Unlabelled) → (true ≡ c → w ≡ spelled_mode Mode.Labelled) → Completes (if b then Moded Mode.Unlabelled else if c then Moded Mode.Labelled else Failed) ts m ds → IsText (Token.Name w ∷ ts) m ds
 by_tests true c w ts m ds f g h = moded Mode.Unlabelled w ts m ds (f refl) h
 by_tests false true w ts m ds f g h = moded Mode.Labelled w ts m ds (g refl) h
 by_tests false false w ts m ds f g h = elim h [ ]
@@ -172,7 +172,7 @@ back (Want p) Token.Open ts m ds h =
 back (Want p) (Token.Counted c) ts m ds h =
     let g = grouped p (over c h.range) h.inner m ds h.wants in
     record { x = counted c h.range (sum_of g.qs); next = g.mid; factor = counting h.bound g.reads; has = g.has }
-back (Counts p c) Token.Open ts m ds h = record { range = plain c; inner = ts; bound = no_bound; wants = h }
+back (Counts p c) Token.Open ts m ds h = record { range = without_bound c; inner = ts; bound = no_bound; wants = h }
 back (Counts p c) Token.AtLeast ts m ds h = record {
   range = range_by c Sign.Least h.0;
   inner = h.1;
@@ -205,7 +205,7 @@ back (Have p) Token.Star ts m ds h =
         ys = f.ys;
         factors = next_factor h.factor f.factors;
         products = f.products;
-        whole = f.whole ∙ ap (λ vs. p.frame.products ++ product_of vs ∷ f.ys) (append_assoc p.frame.factors (h.x ∷ []) f.xs);
+        whole = f.whole ∙ ap (λ vs. p.frame.products ++ product_term vs ∷ f.ys) (append_assoc p.frame.factors (h.x ∷ []) f.xs);
       };
     }
 back (Have p) Token.Plus ts m ds h =
@@ -217,19 +217,19 @@ back (Have p) Token.Plus ts m ds h =
       follows = record {
         mid = Token.Plus ∷ ts;
         xs = [];
-        ys = product_of (h.x ∷ f.xs) ∷ f.ys;
+        ys = product_term (h.x ∷ f.xs) ∷ f.ys;
         factors = no_factors;
         products = next_product (multiplied h.factor f.factors) f.products;
-        whole = f.whole ∙ append_assoc p.frame.products (product_of p.frame.factors ∷ []) (product_of (h.x ∷ f.xs) ∷ f.ys)
-            ∙ ap (λ vs. p.frame.products ++ product_of vs ∷ product_of (h.x ∷ f.xs) ∷ f.ys) (sym (append-nil p.frame.factors));
+        whole = f.whole ∙ append_assoc p.frame.products (product_term p.frame.factors ∷ []) (product_term (h.x ∷ f.xs) ∷ f.ys)
+            ∙ ap (λ vs. p.frame.products ++ product_term vs ∷ product_term (h.x ∷ f.xs) ∷ f.ys) (sym (append-nil p.frame.factors));
       };
     }
 back (Have p) Token.Close ts m ds h = closes p p.outers ts m ds h
   where
-    closes : (p : Place) (os : List Outer) (ts : List Token) (m : Mode) (ds : List Definition) → Completes (closed p os) ts m ds → Has (record { before = p.before; name = p.name; frame = p.frame; outers = os }) (Token.Close ∷ ts) m ds
+    closes : (p : Place) (os : List Outer) (ts : List Token) (m : Mode) (ds : List Definition) → Completes (parenthesis_closed p os) ts m ds → Has (record { before = p.before; name = p.name; frame = p.frame; outers = os }) (Token.Close ∷ ts) m ds
     closes p [] ts m ds h = elim h [ ]
     closes p (o ∷ os) ts m ds h = record {
-      qs = value p.frame;
+      qs = finished_products p.frame;
       last = Token.Close ∷ ts;
       around = (ts, refl, h.qs, h.last, h.follows, h.around);
       follows = over_here p.frame (Token.Close ∷ ts);
@@ -237,7 +237,7 @@ back (Have p) Token.Close ts m ds h = closes p p.outers ts m ds h
 back (Have p) Token.LineEnd ts m ds h = ends p p.outers ts m ds h
   where
     ends : (p : Place) (os : List Outer) (ts : List Token) (m : Mode) (ds : List Definition) → Completes (line_over p os) ts m ds → Has (record { before = p.before; name = p.name; frame = p.frame; outers = os }) (Token.LineEnd ∷ ts) m ds
-    ends p [] ts m ds h = record { qs = value p.frame; last = Token.LineEnd ∷ ts; around = (ts, refl, h); follows = over_here p.frame (Token.LineEnd ∷ ts) }
+    ends p [] ts m ds h = record { qs = finished_products p.frame; last = Token.LineEnd ∷ ts; around = (ts, refl, h); follows = over_here p.frame (Token.LineEnd ∷ ts) }
     ends p (o ∷ os) ts m ds h = elim h [ ]
 back _ _ ts m ds h = elim h [ ]
 

@@ -1,6 +1,6 @@
 -- The nodes of lists of terms, one term more.
 use Rattle.std.proofs.Common.{◌≡◌, ℕ, suc, List, [], ◌∷◌, ◌++◌, length, map, refl, ap, length-append, arith}
-use Rattle.spec_reader.specs.Grammar.{Term, terms}
+use Rattle.spec_reader.specs.Grammar.{Term, listed_terms}
 use Rattle.spec_reader.specs.Tables.{Row, with_term, numbers, last_number}
 use Rattle.spec_reader.specs.Building.{with_list}
 
@@ -11,7 +11,7 @@ with_list-snoc names rows (u ∷ ts) t = with_list-snoc names (with_term names r
 
 -- The numbers of terms with one more term t are those of the terms, and then that of the last node
 -- of t.
-pub numbers-snoc : (names : List (List ℕ)) (rows : List Row) (ts : List Term) (t : Term) → numbers names rows (terms (ts ++ t ∷ [])) ≡ numbers names rows (terms ts) ++ last_number (with_term names (with_list names rows ts) t) ∷ []
+pub numbers-snoc : (names : List (List ℕ)) (rows : List Row) (ts : List Term) (t : Term) → numbers names rows (listed_terms (ts ++ t ∷ [])) ≡ numbers names rows (listed_terms ts) ++ last_number (with_term names (with_list names rows ts) t) ∷ []
 numbers-snoc names rows [] t = refl
 numbers-snoc names rows (u ∷ ts) t = ap (λ ns. last_number (with_term names rows u) ∷ ns) (numbers-snoc names (with_term names rows u) ts t)
 

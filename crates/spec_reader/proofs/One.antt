@@ -3,9 +3,9 @@ use Rattle.std.proofs.Common.{◌≡◌, ℕ, List, [], ◌∷◌, ◌++◌, map
 use Rattle.bz_model.specs.Spec.{Mode, plain_range}
 use Rattle.spec_reader.specs.declared.tokens.Counting.{Counting}
 use Rattle.spec_reader.specs.declared.tokens.Token.{Token}
-use Rattle.spec_reader.specs.Grammar.{Term, Terms, none, more, terms, sum_of, product_of, plain, Definition, IsText, text, Definitions, text_end, defined, Sum, MoreProducts, Product, MoreFactors, Factor, summed, no_products, next_product, multiplied, no_factors, next_factor, empty_leaf, atom_leaf, named, group, counting, no_bound}
-use Rattle.spec_reader.specs.LanguageOne.{SumOne, MoreProductsOne, ProductOne, MoreFactorsOne, FactorOne, DefinitionsOne, IsTextOne, summed_one, no_products_one, next_product_one, multiplied_one, no_factors_one, next_factor_one, empty_one, atom_one, named_one, group_one, counting_one, end_one, defined_one, text_one, HasPlainRanges}
-use Rattle.spec_reader.specs.Tables.{Row, counted_node, with_term, with_terms, last_number, names_of, bodies_of, tables}
+use Rattle.spec_reader.specs.Grammar.{Term, Terms, none, more, listed_terms, sum_of, product_term, without_bound, Definition, IsText, text, Definitions, text_end, defined, Sum, MoreProducts, Product, MoreFactors, Factor, summed, no_products, next_product, multiplied, no_factors, next_factor, empty_leaf, atom_leaf, named, group, counting, no_bound}
+use Rattle.spec_reader.specs.LanguageOne.{SumOne, MoreProductsOne, ProductOne, MoreFactorsOne, FactorOne, DefinitionsOne, IsTextOne, summed_one, no_products_one, next_product_one, multiplied_one, no_factors_one, next_factor_one, empty_one, atom_one, named_one, group_one, counting_one, end_one, defined_one, text_one, IsPlainlyRanged}
+use Rattle.spec_reader.specs.Tables.{Row, counting_node, with_term, with_terms, last_number, names_of, bodies_of, tables}
 use Rattle.spec_reader.proofs.Numbering.{map-snoc}
 
 mutual
@@ -46,34 +46,34 @@ abbrev mutual
   IsPlain (Term.class w) = Unit {0}
   IsPlain (Term.union ts) = ArePlain ts
   IsPlain (Term.product ts) = ArePlain ts
-  IsPlain (Term.counted c r t) = (r ≡ plain c) × IsPlain t
+  IsPlain (Term.counted c r t) = (r ≡ without_bound c) × IsPlain t
 
   ArePlain : Terms → Type 0
   ArePlain none = Unit {0}
   ArePlain (more t ts) = IsPlain t × ArePlain ts
 
-plain_sum : (ts : List Term) → ArePlain (terms ts) → IsPlain (sum_of ts)
+plain_sum : (ts : List Term) → ArePlain (listed_terms ts) → IsPlain (sum_of ts)
 plain_sum [] h = tt
 plain_sum (t ∷ []) h = h.0
 plain_sum (t ∷ u ∷ ts) h = h
 
-plain_product : (ts : List Term) → ArePlain (terms ts) → IsPlain (product_of ts)
+plain_product : (ts : List Term) → ArePlain (listed_terms ts) → IsPlain (product_term ts)
 plain_product [] h = tt
 plain_product (t ∷ []) h = h.0
 plain_product (t ∷ u ∷ ts) h = h
 
 mutual
-  sum_plain : {ts rest : List Token} {ps : List Term} → SumOne ts ps rest → ArePlain (terms ps)
+  sum_plain : {ts rest : List Token} {ps : List Term} → SumOne ts ps rest → ArePlain (listed_terms ps)
   sum_plain (summed_one {us = us} p later) = (plain_product us (product_plain p), products_plain later)
 
-  products_plain : {ts rest : List Token} {ps : List Term} → MoreProductsOne ts ps rest → ArePlain (terms ps)
+  products_plain : {ts rest : List Token} {ps : List Term} → MoreProductsOne ts ps rest → ArePlain (listed_terms ps)
   products_plain no_products_one = tt
   products_plain (next_product_one {us = us} p later) = (plain_product us (product_plain p), products_plain later)
 
-  product_plain : {ts rest : List Token} {us : List Term} → ProductOne ts us rest → ArePlain (terms us)
+  product_plain : {ts rest : List Token} {us : List Term} → ProductOne ts us rest → ArePlain (listed_terms us)
   product_plain (multiplied_one f later) = (factor_plain f, factors_plain later)
 
-  factors_plain : {ts rest : List Token} {us : List Term} → MoreFactorsOne ts us rest → ArePlain (terms us)
+  factors_plain : {ts rest : List Token} {us : List Term} → MoreFactorsOne ts us rest → ArePlain (listed_terms us)
   factors_plain no_factors_one = tt
   factors_plain (next_factor_one f later) = (factor_plain f, factors_plain later)
 
@@ -98,7 +98,7 @@ record ArePlainRows (rows : List Row) : Type 0 where
 one_more : (rows : List Row) (r : Row) → ArePlainRows rows → r.range ≡ plain_range r.node → ArePlainRows (rows ++ r ∷ [])
 one_more rows r p e = record { each = rw (map-snoc (λ (q : Row). q.range) rows r, map-snoc (λ (q : Row). q.node) rows r, map-snoc plain_range (map (λ (q : Row). q.node) rows) r.node, p.each, e) refl }
 
-counted_plain : (c : Counting) (part : ℕ) → plain c ≡ plain_range (counted_node c part)
+counted_plain : (c : Counting) (part : ℕ) → without_bound c ≡ plain_range (counting_node c part)
 counted_plain Counting.Seq part = refl
 counted_plain Counting.Set part = refl
 counted_plain Counting.Cyc part = refl
@@ -117,5 +117,5 @@ mutual
   terms_plain names rows (more t ts) h p = terms_plain names (with_term names rows t) ts h.1 (term_plain names rows t h.0 p)
 
 -- In the tables of a text of language 1 each node has its plain range.
-pub ranges_plain : {ts : List Token} {m : Mode} {ds : List Definition} → IsTextOne ts m ds → HasPlainRanges (tables m ds)
+pub ranges_plain : {ts : List Token} {m : Mode} {ds : List Definition} → IsTextOne ts m ds → IsPlainlyRanged (tables m ds)
 ranges_plain {ds = ds} t = (terms_plain (names_of ds) [] (bodies_of ds) (text_plain t) (record { each = refl })).each

@@ -13,7 +13,7 @@ use Rattle.spec_reader.specs.Machine.{LinesBefore}
 use Rattle.spec_reader.specs.Tables.{names_of}
 use Rattle.spec_reader.specs.Faults.{first_fault}
 use Rattle.spec_reader.specs.Bytes.{is_text}
-use Rattle.spec_reader.specs.Reading.{plain_tokens, IsMisplaced, HasFault, IsReadable, BreaksLimit, Refuses}
+use Rattle.spec_reader.specs.Reading.{plain_tokens, IsMisplaced, HasFirstFault, IsReadable, BreaksLimit, Refuses}
 use Rattle.spec_reader.proofs.OneText.{same_read, all_text, text_not_misplaced, not_faulty, one_specification}
 
 -- two ways to split one list at an element
@@ -48,7 +48,7 @@ one_misplaced ts line column line' column' a b =
       | inr other ↦ (elim other [ inl q ↦ absurd (not_before a.before b.before q.0 a.token q.1 b.begins a.ends) | inr q ↦ absurd (not_before b.before a.before q.0 b.token q.1 a.begins b.ends) ])
     ]
 
-one_fault : (ts : List Placed) (f g : SpecFault) → HasFault ts f → HasFault ts g → f ≡ g
+one_fault : (ts : List Placed) (f g : SpecFault) → HasFirstFault ts f → HasFirstFault ts g → f ≡ g
 one_fault ts f g a b =
     let same = same_read (plain_tokens ts) a.mode b.mode a.definitions b.definitions a.is_text b.is_text in
     let first : first_fault b.mode (names_of b.definitions) [] true (drop 2 ts) ≡ Some f = subst (λ (q : LinesBefore). first_fault q.mode (names_of q.definitions) [] true (drop 2 ts) ≡ Some f) same a.first in
@@ -60,7 +60,7 @@ data Stage (bytes : List ℕ) (f : SpecFault) : Type 0 where
   long : (len : ℕ) → f ≡ SpecFault.TooLong len → len ≡ length bytes → 65536 < length bytes → Stage bytes f
   no_text : (place : ℕ) → f ≡ SpecFault.NotText place → length bytes ≤ 65536 → position (λ b. not (is_text b)) bytes ≡ Some place → Stage bytes f
   no_syntax : (line column : ℕ) → f ≡ SpecFault.Syntax line column → IsReadable bytes → IsMisplaced (tokens_of bytes) line column → Stage bytes f
-  naming : IsReadable bytes → HasFault (tokens_of bytes) f → Stage bytes f
+  naming : IsReadable bytes → HasFirstFault (tokens_of bytes) f → Stage bytes f
   limit : (fault : BuildFault) → f ≡ SpecFault.Limit fault → fault ≢ BuildFault.OutOfMemory → BreaksLimit bytes fault → Stage bytes f
 
 stage_of : (bytes : List ℕ) (f : SpecFault) → f ≢ SpecFault.OutOfMemory → Refuses bytes f → Stage bytes f

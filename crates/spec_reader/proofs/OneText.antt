@@ -16,7 +16,7 @@ use Rattle.spec_reader.specs.Grammar.{Definition, IsText}
 use Rattle.spec_reader.specs.Machine.{Done, LinesBefore}
 use Rattle.spec_reader.specs.Tables.{tables, names_of}
 use Rattle.spec_reader.specs.Faults.{first_fault}
-use Rattle.spec_reader.specs.Reading.{plain_tokens, StandFor, Grammar, IsMisplaced, HasFault, BreaksLimit, Refuses}
+use Rattle.spec_reader.specs.Reading.{plain_tokens, StandFor, Grammar, IsMisplaced, HasFirstFault, BreaksLimit, Refuses}
 use Rattle.spec_reader.proofs.MachineReads.{reads}
 
 -- Tokens are a text with one mode and one list of definitions only.
@@ -62,7 +62,7 @@ not_misplaced : (ts : List Placed) (s : Spec) (line column : ℕ) → StandFor t
 not_misplaced ts s line column f m = text_not_misplaced ts f.mode f.definitions line column f.is_text m
 
 -- Tokens that stand for a specification have no fault of names or labels.
-pub not_faulty : (ts : List Placed) (s : Spec) (fault : SpecFault) → StandFor ts s → ¬ (HasFault ts fault)
+pub not_faulty : (ts : List Placed) (s : Spec) (fault : SpecFault) → StandFor ts s → ¬ (HasFirstFault ts fault)
 not_faulty ts s fault f h =
     let same = same_read (plain_tokens ts) f.mode h.mode f.definitions h.definitions f.is_text h.is_text in
     let none : first_fault h.mode (names_of h.definitions) [] true (drop 2 ts) ≡ None = subst (λ (q : LinesBefore). first_fault q.mode (names_of q.definitions) [] true (drop 2 ts) ≡ None) same f.no_fault in

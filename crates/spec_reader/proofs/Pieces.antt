@@ -6,8 +6,8 @@ use Rattle.std.proofs.lemmas.List.Folds.{list_all-append}
 use Rattle.std.proofs.lemmas.List.Sums.{list_all-from_AllPass}
 use Rattle.class_system.specs.Words.{IsLeafWord, IsName}
 use Rattle.class_system.specs.Sound.{IsBound}
-use Rattle.class_system.specs.CanonicalText.{bracketed, leaf_text}
-use Rattle.spec_reader.specs.Bytes.{is_text, is_run_byte}
+use Rattle.class_system.specs.CanonicalText.{bracketed, written_leaf}
+use Rattle.spec_reader.specs.Bytes.{is_text, may_be_in_run}
 use Rattle.spec_reader.specs.declared.tokens.Token.{Token}
 use Rattle.spec_reader.specs.Tokens.{run_token}
 use Rattle.spec_reader.proofs.PlainTokens.{plain_from, plain-space, plain-exactly, plain-plus, plain-star, plain-open, plain-close, plain-least, plain-most}
@@ -89,7 +89,7 @@ pub bracket : {text : List ℕ} {ts : List Token} → Lexes text ts → Opens (b
 bracket l = lexes_opens (opens_lexes open_sign l) close_sign (λ rest. (refl, refl))
 
 -- a run
-pub run_lexes : (run : List ℕ) (t : Token) → 0 < length run → list_all is_run_byte run ≡ true → run_token run ≡ t → Lexes run (t ∷ [])
+pub run_lexes : (run : List ℕ) (t : Token) → 0 < length run → list_all may_be_in_run run ≡ true → run_token run ≡ t → Lexes run (t ∷ [])
 run_lexes run t h e is_token = record {
   lexed = λ some rest k. plain-run run rest some h e k ∙ ap (λ u. u ∷ plain_from 0 true rest) is_token;
   all_text = run_text run e;
@@ -105,16 +105,16 @@ pub bound_lexes : (k : ℕ) → IsBound k → Lexes (decimal k) (Token.Number k 
 bound_lexes k b = let s = bound_spelt k b in run_lexes (decimal k) (Token.Number k) s.long (digit_bytes (decimal k) s.all_digits) s.token
 
 -- a leaf
-pub empty_lexes : (word : List ℕ) → IsLeafWord word → Lexes (leaf_text (codes "E") word) (Token.Empty word ∷ [])
+pub empty_lexes : (word : List ℕ) → IsLeafWord word → Lexes (written_leaf (codes "E") word) (Token.Empty word ∷ [])
 empty_lexes [] w = run_lexes (codes "E") (Token.Empty []) (omega arith) refl refl
 empty_lexes (b ∷ bs) w =
-    let bytes = list_all-from_AllPass is_run_byte (b ∷ bs) w.run in
+    let bytes = list_all-from_AllPass may_be_in_run (b ∷ bs) w.run in
     record { lexed = λ some rest k. plain-empty (b ∷ bs) rest some (omega arith) w.few bytes k; all_text = run_text (b ∷ bs) bytes }
 
 -- The text of an atom with a leaf's word, empty or not, is the one token of this atom before a
 -- break.
-pub atom_lexes : (word : List ℕ) → IsLeafWord word → Lexes (leaf_text (codes "Z") word) (Token.Atom word ∷ [])
+pub atom_lexes : (word : List ℕ) → IsLeafWord word → Lexes (written_leaf (codes "Z") word) (Token.Atom word ∷ [])
 atom_lexes [] w = run_lexes (codes "Z") (Token.Atom []) (omega arith) refl refl
 atom_lexes (b ∷ bs) w =
-    let bytes = list_all-from_AllPass is_run_byte (b ∷ bs) w.run in
+    let bytes = list_all-from_AllPass may_be_in_run (b ∷ bs) w.run in
     record { lexed = λ some rest k. plain-atom (b ∷ bs) rest some (omega arith) w.few bytes k; all_text = run_text (b ∷ bs) bytes }

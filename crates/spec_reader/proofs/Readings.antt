@@ -6,10 +6,10 @@ use Rattle.class_system.specs.Words.{IsLeafWord, IsName}
 use Rattle.class_system.specs.Sound.{IsBound, IsTextRange}
 use Rattle.class_system.specs.declared.canonical.Form.{Form}
 use Rattle.class_system.specs.declared.canonical.Form.TheVariants as form
-use Rattle.class_system.specs.CanonicalText.{Shown, single, bracketed, part_text, separated, shown_at, leaf_text, bound_text, counted_text, joined}
+use Rattle.class_system.specs.CanonicalText.{Shown, single, bracketed, part_text, separated, shown_at, written_leaf, bound_text, counted_text, joined_text}
 use Rattle.spec_reader.specs.declared.tokens.Counting.{Counting}
 use Rattle.spec_reader.specs.declared.tokens.Token.{Token}
-use Rattle.spec_reader.specs.Grammar.{Term, terms, sum_of, product_of, least_count, plain, from_on, up_to, just, Bound, no_bound, at_least, at_most, exactly, Sum, MoreProducts, Product, MoreFactors, Factor, summed, no_products, next_product, multiplied, no_factors, next_factor, empty_leaf, atom_leaf, named, group, counting}
+use Rattle.spec_reader.specs.Grammar.{Term, listed_terms, sum_of, product_term, least_count, without_bound, from_on, range_up_to, just, Bound, no_bound, at_least, at_most, exactly, Sum, MoreProducts, Product, MoreFactors, Factor, summed, no_products, next_product, multiplied, no_factors, next_factor, empty_leaf, atom_leaf, named, group, counting}
 use Rattle.spec_reader.specs.Faults.{is_among}
 use Rattle.spec_reader.proofs.Terms.{Suits}
 use Rattle.spec_reader.proofs.Pieces.{Lexes, opened, opens_lexes, lexes_opens, lexes_both, plus, star, exactly_sign, least_sign, most_sign, bracket, run_lexes, name_lexes, bound_lexes, empty_lexes, atom_lexes}
@@ -32,7 +32,7 @@ both_fine m names (t ∷ ts) us h k = (h.0, both_fine m names ts us h.1 k)
 -- tokens are a product that is this term
 pub record ProductOf (tokens : List Token) (t : Term) : Type 0 where
   pub factors : List Term
-  pub is : product_of factors ≡ t
+  pub is : product_term factors ≡ t
   pub parses : (rest : List Token) → Product (tokens ++ rest) factors rest
 
 -- tokens are a sum that is this term
@@ -170,7 +170,7 @@ joined_product m names shown p t h (more_parts {p = q} {t = u} {ts = us} k later
     }
 
 -- a union
-pub union_reads : (m : Mode) (names : List (List ℕ)) (shown : List Shown) {parts : List ℕ} {ts : List Term} → ReadEach m names shown parts ts → 2 ≤ length parts → Reads m names (joined form.Summed (codes " + ") shown parts) (Term.union (terms ts))
+pub union_reads : (m : Mode) (names : List (List ℕ)) (shown : List Shown) {parts : List ℕ} {ts : List Term} → ReadEach m names shown parts ts → 2 ≤ length parts → Reads m names (joined_text form.Summed (codes " + ") shown parts) (Term.union (listed_terms ts))
 union_reads m names shown no_parts two = absurd (omega arith)
 union_reads m names shown (more_parts h no_parts) two = absurd (omega arith)
 union_reads m names shown (more_parts {p = p} {t = t} h (more_parts {t = u} {ts = us} k later)) two =
@@ -178,7 +178,7 @@ union_reads m names shown (more_parts {p = p} {t = t} h (more_parts {t = u} {ts 
     record { tokens = j.tokens; lexes = j.lexes; parses = record { products = t ∷ u ∷ us; is = refl; parses = j.sum }; fine = j.fine }
 
 -- a product
-pub product_reads : (m : Mode) (names : List (List ℕ)) (shown : List Shown) {parts : List ℕ} {ts : List Term} → ReadEach m names shown parts ts → 2 ≤ length parts → Reads m names (joined form.Multiplied (codes "*") shown parts) (Term.product (terms ts))
+pub product_reads : (m : Mode) (names : List (List ℕ)) (shown : List Shown) {parts : List ℕ} {ts : List Term} → ReadEach m names shown parts ts → 2 ≤ length parts → Reads m names (joined_text form.Multiplied (codes "*") shown parts) (Term.product (listed_terms ts))
 product_reads m names shown no_parts two = absurd (omega arith)
 product_reads m names shown (more_parts h no_parts) two = absurd (omega arith)
 product_reads m names shown (more_parts {p = p} {t = t} h (more_parts {t = u} {ts = us} k later)) two =
@@ -186,11 +186,11 @@ product_reads m names shown (more_parts {p = p} {t = t} h (more_parts {t = u} {t
     record { tokens = j.tokens; lexes = j.lexes; parses = record { factors = t ∷ u ∷ us; is = refl; parses = j.product }; fine = j.fine }
 
 -- leaves and references
-pub empty_reads : (m : Mode) (names : List (List ℕ)) (word : List ℕ) → IsLeafWord word → Reads m names (single (leaf_text (codes "E") word)) (Term.empty word)
+pub empty_reads : (m : Mode) (names : List (List ℕ)) (word : List ℕ) → IsLeafWord word → Reads m names (single (written_leaf (codes "E") word)) (Term.empty word)
 empty_reads m names word w = record { tokens = Token.Empty word ∷ []; lexes = empty_lexes word w; parses = λ rest. empty_leaf; fine = (tt, tt) }
 
 -- The text of an atom with a leaf's word reads as the term of this atom, without a fault.
-pub atom_reads : (m : Mode) (names : List (List ℕ)) (word : List ℕ) → IsLeafWord word → Reads m names (single (leaf_text (codes "Z") word)) (Term.atom word)
+pub atom_reads : (m : Mode) (names : List (List ℕ)) (word : List ℕ) → IsLeafWord word → Reads m names (single (written_leaf (codes "Z") word)) (Term.atom word)
 atom_reads m names word w = record { tokens = Token.Atom word ∷ []; lexes = atom_lexes word w; parses = λ rest. atom_leaf; fine = (tt, tt) }
 
 -- The text of a valid name that is among the defined ones reads as a reference to the class of this
@@ -205,7 +205,7 @@ record Bounded (m : Mode) (names : List (List ℕ)) (c : Counting) (operator tex
   bound : (rest : List Token) → Bound c (tokens ++ rest) r rest
   fine : AreFine m names tokens
 
-unbounded : (m : Mode) (names : List (List ℕ)) (c : Counting) (operator : List ℕ) → Lexes operator (Token.Counted c ∷ []) → Bounded m names c operator [] (plain c)
+unbounded : (m : Mode) (names : List (List ℕ)) (c : Counting) (operator : List ℕ) → Lexes operator (Token.Counted c ∷ []) → Bounded m names c operator [] (without_bound c)
 unbounded m names c operator l = record {
   tokens = [];
   lexes = subst (λ bs. Lexes bs (Token.Counted c ∷ [])) (sym (append-nil operator)) l;
@@ -221,7 +221,7 @@ least_bound m names c operator k l b = record {
   fine = (tt, (tt, tt));
 }
 
-most_bound : (m : Mode) (names : List (List ℕ)) (c : Counting) (operator : List ℕ) (k : ℕ) → Lexes operator (Token.Counted c ∷ []) → IsBound k → Bounded m names c operator (codes "<=" ++ decimal k) (up_to c k)
+most_bound : (m : Mode) (names : List (List ℕ)) (c : Counting) (operator : List ℕ) (k : ℕ) → Lexes operator (Token.Counted c ∷ []) → IsBound k → Bounded m names c operator (codes "<=" ++ decimal k) (range_up_to c k)
 most_bound m names c operator k l b = record {
   tokens = Token.AtMost ∷ Token.Number k ∷ [];
   lexes = lexes_both l (opens_lexes most_sign (bound_lexes k b)) (λ rest. (refl, refl));
@@ -241,14 +241,14 @@ least_case : (m : Mode) (names : List (List ℕ)) (c : Counting) (operator : Lis
 least_case m names c operator k l b true e = subst (λ j. Bounded m names c operator [] (from_on j)) (sym (eqb-true k (least_count c) e)) (unbounded m names c operator l)
 least_case m names c operator k l b false e = least_bound m names c operator k l b
 
-most_case : (m : Mode) (names : List (List ℕ)) (c : Counting) (operator : List ℕ) (k : ℕ) → Lexes operator (Token.Counted c ∷ []) → IsBound k → (is_least : Bool) → nat_eq (least_count c) k ≡ is_least → Bounded m names c operator (if is_least then codes "=" ++ decimal k else codes "<=" ++ decimal k) (up_to c k)
+most_case : (m : Mode) (names : List (List ℕ)) (c : Counting) (operator : List ℕ) (k : ℕ) → Lexes operator (Token.Counted c ∷ []) → IsBound k → (is_least : Bool) → nat_eq (least_count c) k ≡ is_least → Bounded m names c operator (if is_least then codes "=" ++ decimal k else codes "<=" ++ decimal k) (range_up_to c k)
 most_case m names c operator k l b true e = subst (λ j. Bounded m names c operator (codes "=" ++ decimal k) (record { low = j; high = Some k })) (sym (eqb-true (least_count c) k e)) (exact_bound m names c operator k l b)
 most_case m names c operator k l b false e = most_bound m names c operator k l b
 
 bounded : (m : Mode) (names : List (List ℕ)) (c : Counting) (operator : List ℕ) (r : Range) → Lexes operator (Token.Counted c ∷ []) → IsTextRange (least_count c) r → Bounded m names c operator (bound_text (least_count c) r.low r.high) r
 bounded m names c operator r l (IsTextRange.plain same) =
     subst (λ (q : Range). Bounded m names c operator (bound_text (least_count c) q.low q.high) q) (sym same)
-    (subst (λ text. Bounded m names c operator text (plain c)) (sym (cond-true (nat_eq (least_count c) (least_count c)) [] (codes ">=" ++ decimal (least_count c)) (eq-eqb (least_count c) (least_count c) refl))) (unbounded m names c operator l))
+    (subst (λ text. Bounded m names c operator text (without_bound c)) (sym (cond-true (nat_eq (least_count c) (least_count c)) [] (codes ">=" ++ decimal (least_count c)) (eq-eqb (least_count c) (least_count c) refl))) (unbounded m names c operator l))
 bounded m names c operator r l (IsTextRange.at_least k b same) =
     subst (λ (q : Range). Bounded m names c operator (bound_text (least_count c) q.low q.high) q) (sym same) (least_case m names c operator k l b (nat_eq k (least_count c)) refl)
 bounded m names c operator r l (IsTextRange.at_most k b same) =

@@ -8,7 +8,7 @@ use Rattle.spec_reader.specs.declared.tokens.Counting.{Counting}
 use Rattle.spec_reader.specs.declared.tokens.Placed.{Placed}
 use Rattle.spec_reader.specs.Tokens.{is_same}
 use Rattle.spec_reader.specs.Grammar.{Term, Terms, none, more, least_count, Definition}
-use Rattle.spec_reader.specs.Tables.{Row, uncounted, counted_node, class_number, with_term, with_terms, numbers, last_number, names_of, bodies_of, tables}
+use Rattle.spec_reader.specs.Tables.{Row, uncounted, counting_node, class_number, with_term, with_terms, numbers, last_number, names_of, bodies_of, tables}
 use Rattle.spec_reader.specs.Faults.{is_among}
 use Rattle.spec_reader.specs.Reading.{StandFor}
 use Rattle.spec_reader.proofs.Numbering.{last_number-snoc, length-mapped}
@@ -44,7 +44,7 @@ numbers-length : (names : List (List ℕ)) (rows : List Row) (ts : Terms) → le
 numbers-length names rows none = refl
 numbers-length names rows (more t ts) = ap suc (numbers-length names (with_term names rows t) ts)
 
-counted_good : (m : Mode) (classes part : ℕ) (c : Counting) (r : Range) → Suits m c → IsTextRange (least_count c) r → RowGood m classes (record { node = counted_node c part; range = r })
+counted_good : (m : Mode) (classes part : ℕ) (c : Counting) (r : Range) → Suits m c → IsTextRange (least_count c) r → RowGood m classes (record { node = counting_node c part; range = r })
 counted_good m classes part Counting.Seq r s t = record { two = tt; refers = tt; word = tt; suits = tt; range = t }
 counted_good m classes part Counting.Set r s t = record { two = tt; refers = tt; word = tt; suits = s; range = t }
 counted_good m classes part Counting.Cyc r s t = record { two = tt; refers = tt; word = tt; suits = s; range = t }
@@ -84,7 +84,7 @@ ends_with names rows (Term.atom w) = record { front = rows; last = uncounted (No
 ends_with names rows (Term.class w) = record { front = rows; last = uncounted (Node.Class (class_number names w)); is = refl }
 ends_with names rows (Term.union ts) = record { front = with_terms names rows ts; last = uncounted (Node.Union (numbers names rows ts)); is = refl }
 ends_with names rows (Term.product ts) = record { front = with_terms names rows ts; last = uncounted (Node.Product (numbers names rows ts)); is = refl }
-ends_with names rows (Term.counted c r t) = record { front = with_term names rows t; last = record { node = counted_node c (last_number (with_term names rows t)); range = r }; is = refl }
+ends_with names rows (Term.counted c r t) = record { front = with_term names rows t; last = record { node = counting_node c (last_number (with_term names rows t)); range = r }; is = refl }
 
 next_number : (names : List (List ℕ)) (rows : List Row) (t : Term) → suc (last_number (with_term names rows t)) ≡ length (with_term names rows t)
 next_number names rows t =
@@ -125,7 +125,7 @@ there nodes front rest r e = rw (e, append_assoc front (r ∷ []) rest, last_num
 here : (nodes : List Node) (front rest : List Row) (r : Row) → nodes ≡ nodes_of ((front ++ r ∷ []) ++ rest) → nodes ≡ nodes_of (front ++ r ∷ rest)
 here nodes front rest r e = e ∙ ap (λ qs. nodes_of qs) (append_assoc front (r ∷ []) rest)
 
-counted_parts : (c : Counting) (part : ℕ) → parts_of (counted_node c part) ≡ part ∷ []
+counted_parts : (c : Counting) (part : ℕ) → parts_of (counting_node c part) ≡ part ∷ []
 counted_parts Counting.Seq part = refl
 counted_parts Counting.Set part = refl
 counted_parts Counting.Cyc part = refl
@@ -153,7 +153,7 @@ mutual
   term_spans nodes names rows rest (Term.counted c r t) e =
       let front = with_term names rows t in
       let part = last_number front in
-      let last : Row = record { node = counted_node c part; range = r } in
+      let last : Row = record { node = counting_node c part; range = r } in
       let inner = term_spans nodes names rows (last ∷ rest) t (here nodes front rest last e) in
       let one : SpanEach nodes (length rows) (part ∷ []) (last_number (front ++ last ∷ [])) = next inner (done (next_number names rows t ∙ sym (last_number-snoc front last))) in
       tree last.node (there nodes front rest last e) (subst (λ ps. SpanEach nodes (length rows) ps (last_number (front ++ last ∷ []))) (sym (counted_parts c part)) one)

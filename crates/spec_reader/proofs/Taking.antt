@@ -5,11 +5,11 @@ use Rattle.spec_reader.specs.declared.tokens.Placed.{Placed}
 use Rattle.spec_reader.specs.declared.sums.Expects.{Expects}
 use Rattle.spec_reader.specs.Machine.{ReaderState, Lines, Named, Want, Counts, Signed, Bounded, Have, Done, Failed, LinesBefore, step, run}
 use Rattle.spec_reader.specs.Reading.{plain_tokens}
-use Rattle.spec_reader.specs.Building.{KeptSoFar, Represents, Leads}
+use Rattle.spec_reader.specs.Building.{KeptSoFar, Represents, LeadsOrFails}
 
 -- a state that another is stands for it
-pub leads_along : (names : List (List ℕ)) (s r : ReaderState) (t : Token) (b : Bool) (e : Expects) (k : KeptSoFar) → s ≡ r → Leads names (step r t) b e k → Leads names (step s t) b e k
-leads_along names s r t b e k same h = subst (λ q. Leads names (step q t) b e k) (sym same) h
+pub leads_along : (names : List (List ℕ)) (s r : ReaderState) (t : Token) (b : Bool) (e : Expects) (k : KeptSoFar) → s ≡ r → LeadsOrFails names (step r t) b e k → LeadsOrFails names (step s t) b e k
+leads_along names s r t b e k same h = subst (λ q. LeadsOrFails names (step q t) b e k) (sym same) h
 
 -- behind the end of the text nothing stands
 pub done_fails : (b : LinesBefore) (t : Token) → step (Done b) t ≡ Failed

@@ -6,7 +6,7 @@ use Rattle.class_system.specs.Sound.{IsBound, IsTextRange}
 use Rattle.spec_reader.specs.declared.tokens.Counting.{Counting}
 use Rattle.spec_reader.specs.declared.tokens.Token.{Token}
 use Rattle.spec_reader.specs.declared.tokens.Placed.{Placed}
-use Rattle.spec_reader.specs.Grammar.{Term, Terms, none, more, terms, sum_of, product_of, least_count, Definition, IsText, text, Definitions, text_end, defined, Sum, MoreProducts, Product, MoreFactors, Factor, summed, no_products, next_product, multiplied, no_factors, next_factor, empty_leaf, atom_leaf, named, group, counting, Bound, no_bound, at_least, at_most, exactly}
+use Rattle.spec_reader.specs.Grammar.{Term, Terms, none, more, listed_terms, sum_of, product_term, least_count, Definition, IsText, text, Definitions, text_end, defined, Sum, MoreProducts, Product, MoreFactors, Factor, summed, no_products, next_product, multiplied, no_factors, next_factor, empty_leaf, atom_leaf, named, group, counting, Bound, no_bound, at_least, at_most, exactly}
 use Rattle.spec_reader.specs.Faults.{is_among, ends_line, defined_by, with_names, fault_at, first_fault, undefined, needs_labels}
 use Rattle.spec_reader.specs.Reading.{plain_tokens}
 use Rattle.spec_reader.proofs.Lexical.{IsLexical, AreLexical}
@@ -82,12 +82,12 @@ abbrev mutual
   GoodTerms m names none = Unit {0}
   GoodTerms m names (more t ts) = GoodTerm m names t × GoodTerms m names ts
 
-sum_of_good : (m : Mode) (names : List (List ℕ)) (ts : List Term) → 1 ≤ length ts → GoodTerms m names (terms ts) → GoodTerm m names (sum_of ts)
+sum_of_good : (m : Mode) (names : List (List ℕ)) (ts : List Term) → 1 ≤ length ts → GoodTerms m names (listed_terms ts) → GoodTerm m names (sum_of ts)
 sum_of_good m names [] some h = absurd (omega arith)
 sum_of_good m names (t ∷ []) some h = h.0
 sum_of_good m names (t ∷ u ∷ ts) some h = (omega arith, h)
 
-product_of_good : (m : Mode) (names : List (List ℕ)) (ts : List Term) → 1 ≤ length ts → GoodTerms m names (terms ts) → GoodTerm m names (product_of ts)
+product_of_good : (m : Mode) (names : List (List ℕ)) (ts : List Term) → 1 ≤ length ts → GoodTerms m names (listed_terms ts) → GoodTerm m names (product_term ts)
 product_of_good m names [] some h = absurd (omega arith)
 product_of_good m names (t ∷ []) some h = h.0
 product_of_good m names (t ∷ u ∷ ts) some h = (omega arith, h)
@@ -98,12 +98,12 @@ record GoodOne (m : Mode) (names : List (List ℕ)) (t : Term) (rest : List Toke
   left : Good m names false rest
 
 record GoodMany (m : Mode) (names : List (List ℕ)) (ts : List Term) (rest : List Token) : Type 0 where
-  each : GoodTerms m names (terms ts)
+  each : GoodTerms m names (listed_terms ts)
   left : Good m names false rest
 
 record GoodSome (m : Mode) (names : List (List ℕ)) (ts : List Term) (rest : List Token) : Type 0 where
   some : 1 ≤ length ts
-  each : GoodTerms m names (terms ts)
+  each : GoodTerms m names (listed_terms ts)
   left : Good m names false rest
 
 record GoodRange (m : Mode) (names : List (List ℕ)) (c : Counting) (r : Range) (rest : List Token) : Type 0 where

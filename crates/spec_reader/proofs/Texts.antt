@@ -7,7 +7,7 @@ use Rattle.spec_reader.specs.declared.read_spec.Stop.{Stop}
 use Rattle.spec_reader.specs.Grammar.{Definition, IsText}
 use Rattle.spec_reader.specs.Machine.{Start, Lines, run}
 use Rattle.spec_reader.specs.Tables.{names_of, tables}
-use Rattle.spec_reader.specs.Reading.{plain_tokens, StandFor, HasFault, TokensFault}
+use Rattle.spec_reader.specs.Reading.{plain_tokens, StandFor, HasFirstFault, TokensFault}
 use Rattle.spec_reader.specs.Faults.{is_among, line_names, with_names, first_fault}
 use Rattle.spec_reader.specs.Building.{IsParsed, IsStop, IsStopOf, drafted, line_rows}
 use Rattle.spec_reader.proofs.MachineAccepts.{accepts}
@@ -47,7 +47,7 @@ stands ts lines m draft first long head rest p f none =
     let w = whole ts lines m draft first long head rest p (sym f) in
     record { mode = w.mode; definitions = w.definitions; is_text = w.is_text; no_fault = w.fault_is ∙ none; tables_are = w.draft_is none }
 
-told : (ts : List Placed) (f : SpecFault) → IsNaming f → HasFault ts f → TokensFault ts f
+told : (ts : List Placed) (f : SpecFault) → IsNaming f → HasFirstFault ts f → TokensFault ts f
 told ts (SpecFault.TooLong len) n h = n
 told ts (SpecFault.NotText place) n h = n
 told ts (SpecFault.Syntax line column) n h = absurd n

@@ -10,11 +10,11 @@ use Rattle.spec_reader.specs.declared.tokens.Counting.{Counting}
 use Rattle.spec_reader.specs.declared.tokens.Token.{Token}
 use Rattle.spec_reader.specs.declared.tokens.Front.{Front}
 use Rattle.spec_reader.specs.declared.tokens.Placed.{Placed}
-use Rattle.spec_reader.specs.Bytes.{is_blank, is_run_byte}
+use Rattle.spec_reader.specs.Bytes.{is_blank, may_be_in_run}
 use Rattle.spec_reader.specs.Tokens.{run_token, front, goes_on, beginning, tokens_of}
 use Rattle.spec_reader.specs.Grammar.{IsText}
-use Rattle.spec_reader.specs.LanguageOne.{HasPlainRanges}
-use Rattle.spec_reader.specs.Faults.{is_among, with_names, defined_by, ends_line, twice, undefined, needs_labels, fault_at, first_of, first_fault}
+use Rattle.spec_reader.specs.LanguageOne.{IsPlainlyRanged}
+use Rattle.spec_reader.specs.Faults.{is_among, with_names, defined_by, ends_line, twice, undefined, needs_labels, fault_at, earlier_fault, first_fault}
 use Rattle.spec_reader.specs.Reading.{plain_tokens, Grammar}
 use Rattle.spec_reader.specs.Tables.{names_of}
 use Rattle.spec_reader.specs.TextOne.{IsSignOne, IsRunOne, IsLeafOne, EndsRun, EndsComment, TokensOne, unplaced, GrammarOne}
@@ -26,7 +26,7 @@ use Rattle.spec_reader.proofs.Runs.{IsBreak, plain-run, plain-empty, plain-atom,
 -- a run with its token
 record RunIs (word : List ℕ) (t : Token) : Type 0 where
   long : 0 < length word
-  bytes : list_all is_run_byte word ≡ true
+  bytes : list_all may_be_in_run word ≡ true
   token : run_token word ≡ t
 
 kept-run : (word kept : List ℕ) (t : Token) → word ≡ kept → RunIs kept t → RunIs word t
@@ -42,11 +42,11 @@ run-is word (Token.Name w) h = record { long = name_long word h.1; bytes = name_
 run-is word _ h = elim h [ ]
 
 -- a colon begins no token
-first-of-run : (b : ℕ) (bs word rest : List ℕ) → b ∷ bs ≡ word ++ rest → 0 < length word → list_all is_run_byte word ≡ true → is_run_byte b ≡ true
+first-of-run : (b : ℕ) (bs word rest : List ℕ) → b ∷ bs ≡ word ++ rest → 0 < length word → list_all may_be_in_run word ≡ true → may_be_in_run b ≡ true
 first-of-run b bs [] rest is some all = absurd (omega arith)
 first-of-run b bs (c ∷ word) rest is some all =
     let same : c ≡ b = cc in
-    subst (λ x. is_run_byte x ≡ true) same (and_parts (is_run_byte c) (list_all is_run_byte word) all).0
+    subst (λ x. may_be_in_run x ≡ true) same (and_parts (may_be_in_run c) (list_all may_be_in_run word) all).0
 
 colon-no-sign : (t : Token) (b : ℕ) → b ≡ 58 → ¬ (IsSignOne b t)
 colon-no-sign Token.Exactly b is h = omega arith
@@ -75,7 +75,7 @@ no-colon (TokensOne.sign {b = b} {t = t} h k) bs is = let same : b ≡ 58 = cc i
 no-colon (TokensOne.leaf {t = t} word rest split h ends k) bs is = colon-no-leaf t word rest bs (sym is ∙ split) h
 no-colon (TokensOne.run {t = t} word rest split h ends k) bs is =
     let r = run-is word t h in
-    let wrong : is_run_byte 58 ≡ true = first-of-run 58 bs word rest (sym is ∙ split) r.long r.bytes in
+    let wrong : may_be_in_run 58 ≡ true = first-of-run 58 bs word rest (sym is ∙ split) r.long r.bytes in
     cc
 
 -- so a run that ends before bytes with tokens ends before a break
@@ -105,8 +105,8 @@ sign-lexed some b bs Token.Close h = ap (λ c. plain_from 0 some (c ∷ bs)) h �
 sign-lexed some b bs _ h = elim h [ ]
 
 leaf-lexed : (some : Bool) (word rest : List ℕ) (t : Token) → IsLeafOne word t → IsBreak rest → plain_from 0 some (word ++ rest) ≡ t ∷ plain_from 0 true rest
-leaf-lexed some word rest (Token.Empty w) h k = ap (λ us. plain_from 0 some (us ++ rest)) h.0 ∙ plain-empty w rest some h.2 h.1.few (list_all-from_AllPass is_run_byte w h.1.run) k
-leaf-lexed some word rest (Token.Atom w) h k = ap (λ us. plain_from 0 some (us ++ rest)) h.0 ∙ plain-atom w rest some h.2 h.1.few (list_all-from_AllPass is_run_byte w h.1.run) k
+leaf-lexed some word rest (Token.Empty w) h k = ap (λ us. plain_from 0 some (us ++ rest)) h.0 ∙ plain-empty w rest some h.2 h.1.few (list_all-from_AllPass may_be_in_run w h.1.run) k
+leaf-lexed some word rest (Token.Atom w) h k = ap (λ us. plain_from 0 some (us ++ rest)) h.0 ∙ plain-atom w rest some h.2 h.1.few (list_all-from_AllPass may_be_in_run w h.1.run) k
 leaf-lexed some word rest _ h k = elim h [ ]
 
 -- the tokens of language 1 are the tokens
@@ -149,12 +149,12 @@ fault-same m known before true (Token.Counted c) line column other place e = lab
 fault-same m known before false (Token.Counted c) line column other place e = labels-same m c line column other place e
 fault-same m known before _ _ line column other place e = e
 
-none-first : (f g : Option SpecFault) → first_of f g ≡ None → (f ≡ None) × (g ≡ None)
+none-first : (f g : Option SpecFault) → earlier_fault f g ≡ None → (f ≡ None) × (g ≡ None)
 none-first None g e = (refl, e)
 none-first (Some f) g e = absurd (cc)
 
-none-both : (f g : Option SpecFault) → f ≡ None → g ≡ None → first_of f g ≡ None
-none-both f g p q = ap (λ o. first_of o g) p ∙ q
+none-both : (f g : Option SpecFault) → f ≡ None → g ≡ None → earlier_fault f g ≡ None
+none-both f g p q = ap (λ o. earlier_fault o g) p ∙ q
 
 faultless-same : (m : Mode) (known before : List (List ℕ)) (starts : Bool) (ps : List Placed) (ts : List Token) → plain_tokens ps ≡ ts → first_fault m known before starts (map unplaced ts) ≡ None → first_fault m known before starts ps ≡ None
 faultless-same m known before starts [] ts same e = refl
@@ -183,5 +183,5 @@ stands-one bytes s h =
     }
 
 -- Its ranges are plain.
-pub ranges-one : (bytes : List ℕ) (s : Spec) → GrammarOne bytes s → HasPlainRanges s
-ranges-one bytes s h = subst HasPlainRanges (sym h.tables_are) (ranges_plain h.is_text)
+pub ranges-one : (bytes : List ℕ) (s : Spec) → GrammarOne bytes s → IsPlainlyRanged s
+ranges-one bytes s h = subst IsPlainlyRanged (sym h.tables_are) (ranges_plain h.is_text)

@@ -12,8 +12,8 @@ use Rattle.class_system.proofs.Results.{take-at}
 use Rattle.class_system.proofs.Soundness.{has_range}
 use Rattle.spec_reader.specs.declared.tokens.Counting.{Counting}
 use Rattle.spec_reader.specs.declared.tokens.Token.{Token}
-use Rattle.spec_reader.specs.Grammar.{Term, terms, least_count}
-use Rattle.spec_reader.specs.Tables.{Row, uncounted, counted_node, with_term, with_terms, numbers, last_number}
+use Rattle.spec_reader.specs.Grammar.{Term, listed_terms, least_count}
+use Rattle.spec_reader.specs.Tables.{Row, uncounted, counting_node, with_term, with_terms, numbers, last_number}
 use Rattle.spec_reader.proofs.ClassNumbers.{found_number}
 use Rattle.spec_reader.proofs.NamesSeen.{among_found}
 use Rattle.spec_reader.proofs.Terms.{Suits}
@@ -79,8 +79,8 @@ pub record ReadTree (s : Spec) (shown : List Shown) (first e : ℕ) : Type 0 whe
 pub record ReadTrees (s : Spec) (shown : List Shown) (first : ℕ) (parts : List ℕ) (end : ℕ) : Type 0 where
   pub list : List Term
   pub reads : ReadEach s.mode s.names shown parts list
-  pub rows_are : with_terms s.names (take first (rows s)) (terms list) ≡ take end (rows s)
-  pub numbers_are : numbers s.names (take first (rows s)) (terms list) ≡ parts
+  pub rows_are : with_terms s.names (take first (rows s)) (listed_terms list) ≡ take end (rows s)
+  pub numbers_are : numbers s.names (take first (rows s)) (listed_terms list) ≡ parts
 
 none_read : {m : Mode} {names : List (List ℕ)} {shown : List Shown} {ts : List Term} → ReadEach m names shown [] ts → ts ≡ []
 none_read no_parts = refl
@@ -96,7 +96,7 @@ one_read (more_parts {t = t} h no_parts) = record { term = t; is = refl; reads =
 -- a node without parts
 leaf_tree : (s : Spec) (shown : List Shown) (first e : ℕ) (n : Node) (r : Range) (t : Term) → node_at s e ≡ Some n → range_at s e ≡ Some r → r ≡ record { low = 0; high = None } → ReadTrees s shown first [] e → ((qs : List Row) → with_term s.names qs t ≡ qs ++ uncounted n ∷ []) → Reads s.mode s.names (shown_at shown e) t → ReadTree s shown first e
 leaf_tree s shown first e n r t at_n at_r plain kids one_row h =
-    let before : take first (rows s) ≡ take e (rows s) = ap (λ ts. with_terms s.names (take first (rows s)) (terms ts)) (sym (none_read kids.reads)) ∙ kids.rows_are in
+    let before : take first (rows s) ≡ take e (rows s) = ap (λ ts. with_terms s.names (take first (rows s)) (listed_terms ts)) (sym (none_read kids.reads)) ∙ kids.rows_are in
     record {
       term = t;
       within = slice_get_within s.nodes e n at_n;
@@ -105,18 +105,18 @@ leaf_tree s shown first e n r t at_n at_r plain kids one_row h =
     }
 
 -- a counted node
-counted_tree : (s : Spec) (shown : List Shown) (first e part : ℕ) (c : Counting) (operator : List ℕ) (r : Range) → node_at s e ≡ Some (counted_node c part) → range_at s e ≡ Some r → Lexes operator (Token.Counted c ∷ []) → Suits s.mode c → IsTextRange (least_count c) r → ReadTrees s shown first (part ∷ []) e → shown_at shown e ≡ single (counted_text operator (least_count c) r (shown_at shown part)) → ReadTree s shown first e
+counted_tree : (s : Spec) (shown : List Shown) (first e part : ℕ) (c : Counting) (operator : List ℕ) (r : Range) → node_at s e ≡ Some (counting_node c part) → range_at s e ≡ Some r → Lexes operator (Token.Counted c ∷ []) → Suits s.mode c → IsTextRange (least_count c) r → ReadTrees s shown first (part ∷ []) e → shown_at shown e ≡ single (counted_text operator (least_count c) r (shown_at shown part)) → ReadTree s shown first e
 counted_tree s shown first e part c operator r at_n at_r l suits range kids is_shown =
     let one = one_read kids.reads in
     let t = one.term in
-    let before : with_term s.names (take first (rows s)) t ≡ take e (rows s) = ap (λ ts. with_terms s.names (take first (rows s)) (terms ts)) (sym one.is) ∙ kids.rows_are in
-    let listed : last_number (with_term s.names (take first (rows s)) t) ∷ [] ≡ part ∷ [] = ap (λ ts. numbers s.names (take first (rows s)) (terms ts)) (sym one.is) ∙ kids.numbers_are in
+    let before : with_term s.names (take first (rows s)) t ≡ take e (rows s) = ap (λ ts. with_terms s.names (take first (rows s)) (listed_terms ts)) (sym one.is) ∙ kids.rows_are in
+    let listed : last_number (with_term s.names (take first (rows s)) t) ∷ [] ≡ part ∷ [] = ap (λ ts. numbers s.names (take first (rows s)) (listed_terms ts)) (sym one.is) ∙ kids.numbers_are in
     let last : last_number (with_term s.names (take first (rows s)) t) ≡ part = cc listed in
     record {
       term = Term.counted c r t;
-      within = slice_get_within s.nodes e (counted_node c part) at_n;
+      within = slice_get_within s.nodes e (counting_node c part) at_n;
       reads = subst (λ v. Reads s.mode s.names v (Term.counted c r t)) (sym is_shown) (counted_reads s.mode s.names c operator r (shown_at shown part) t l suits range one.reads);
-      rows_are = ap (λ k. with_term s.names (take first (rows s)) t ++ record { node = counted_node c k; range = r } ∷ []) last ∙ ap (λ qs. qs ++ record { node = counted_node c part; range = r } ∷ []) before ∙ row_more s e (counted_node c part) r at_n at_r;
+      rows_are = ap (λ k. with_term s.names (take first (rows s)) t ++ record { node = counting_node c k; range = r } ∷ []) last ∙ ap (λ qs. qs ++ record { node = counting_node c part; range = r } ∷ []) before ∙ row_more s e (counting_node c part) r at_n at_r;
     }
 
 -- a node whose parts read as terms
@@ -133,20 +133,20 @@ node_tree s sound d shown shows first e (Node.Class c) r at_n at_r kids =
     leaf_tree s shown first e (Node.Class c) r (Term.class name) at_n at_r (sound.ranges.at e (Node.Class c) r at_n at_r) kids (λ qs. ap (λ k. qs ++ uncounted (Node.Class k) ∷ []) (found_number s.names name c d named))
     (subst (λ v. Reads s.mode s.names v (Term.class name)) (sym (shows.at e (Node.Class c) r at_n at_r ∙ ap (λ o. single (unwrap_or o [])) named)) (class_reads s.mode s.names name (sound.names.at c name named) (among_found s.names name c named)))
 node_tree s sound d shown shows first e (Node.Union parts) r at_n at_r kids =
-    let t = Term.union (terms kids.list) in
+    let t = Term.union (listed_terms kids.list) in
     record {
       term = t;
       within = slice_get_within s.nodes e (Node.Union parts) at_n;
       reads = subst (λ v. Reads s.mode s.names v t) (sym (shows.at e (Node.Union parts) r at_n at_r)) (union_reads s.mode s.names shown kids.reads (sound.parts.at e (Node.Union parts) at_n));
-      rows_are = ap (λ ks. with_terms s.names (take first (rows s)) (terms kids.list) ++ uncounted (Node.Union ks) ∷ []) kids.numbers_are ∙ ap (λ qs. qs ++ uncounted (Node.Union parts) ∷ []) kids.rows_are ∙ plain_more s e (Node.Union parts) r at_n at_r (sound.ranges.at e (Node.Union parts) r at_n at_r);
+      rows_are = ap (λ ks. with_terms s.names (take first (rows s)) (listed_terms kids.list) ++ uncounted (Node.Union ks) ∷ []) kids.numbers_are ∙ ap (λ qs. qs ++ uncounted (Node.Union parts) ∷ []) kids.rows_are ∙ plain_more s e (Node.Union parts) r at_n at_r (sound.ranges.at e (Node.Union parts) r at_n at_r);
     }
 node_tree s sound d shown shows first e (Node.Product parts) r at_n at_r kids =
-    let t = Term.product (terms kids.list) in
+    let t = Term.product (listed_terms kids.list) in
     record {
       term = t;
       within = slice_get_within s.nodes e (Node.Product parts) at_n;
       reads = subst (λ v. Reads s.mode s.names v t) (sym (shows.at e (Node.Product parts) r at_n at_r)) (product_reads s.mode s.names shown kids.reads (sound.parts.at e (Node.Product parts) at_n));
-      rows_are = ap (λ ks. with_terms s.names (take first (rows s)) (terms kids.list) ++ uncounted (Node.Product ks) ∷ []) kids.numbers_are ∙ ap (λ qs. qs ++ uncounted (Node.Product parts) ∷ []) kids.rows_are ∙ plain_more s e (Node.Product parts) r at_n at_r (sound.ranges.at e (Node.Product parts) r at_n at_r);
+      rows_are = ap (λ ks. with_terms s.names (take first (rows s)) (listed_terms kids.list) ++ uncounted (Node.Product ks) ∷ []) kids.numbers_are ∙ ap (λ qs. qs ++ uncounted (Node.Product parts) ∷ []) kids.rows_are ∙ plain_more s e (Node.Product parts) r at_n at_r (sound.ranges.at e (Node.Product parts) r at_n at_r);
     }
 node_tree s sound d shown shows first e (Node.Seq part) r at_n at_r kids =
     counted_tree s shown first e part Counting.Seq (codes "Seq") r at_n at_r seq_lexes tt (sound.ranges.at e (Node.Seq part) r at_n at_r) kids (shows.at e (Node.Seq part) r at_n at_r)
@@ -170,8 +170,8 @@ mutual
       record {
         list = a.term ∷ b.list;
         reads = more_parts a.reads b.reads;
-        rows_are = ap (λ qs. with_terms s.names qs (terms b.list)) a.rows_are ∙ b.rows_are;
-        numbers_are = ap (λ qs. last_number qs ∷ numbers s.names qs (terms b.list)) a.rows_are ∙ ap (λ k. k ∷ numbers s.names (take (suc part) (rows s)) (terms b.list)) (last_of s sound part a.within) ∙ ap (λ ks. part ∷ ks) b.numbers_are;
+        rows_are = ap (λ qs. with_terms s.names qs (listed_terms b.list)) a.rows_are ∙ b.rows_are;
+        numbers_are = ap (λ qs. last_number qs ∷ numbers s.names qs (listed_terms b.list)) a.rows_are ∙ ap (λ k. k ∷ numbers s.names (take (suc part) (rows s)) (listed_terms b.list)) (last_of s sound part a.within) ∙ ap (λ ks. part ∷ ks) b.numbers_are;
       }
 
 -- the bodies of a specification read as terms

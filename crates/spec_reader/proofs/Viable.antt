@@ -2,8 +2,8 @@
 use Rattle.std.proofs.Common.{◌≡◌, ◌≢◌, ℕ, List, [], ◌∷◌, ◌++◌, refl, sym, ◌∙◌, ap, codes}
 use Rattle.bz_model.specs.Spec.{Mode}
 use Rattle.spec_reader.specs.declared.tokens.Token.{Token}
-use Rattle.spec_reader.specs.Grammar.{Term, Definition, Begins, sum_of, plain}
-use Rattle.spec_reader.specs.Machine.{Frame, over, wrapped, Outer, LinesBefore, Place, ReaderState, Start, Moded, Lines, Named, Want, Counts, Signed, Bounded, Have, Done, Failed, with_factor, value, with_one_more, opened, begun, range_by, step, run}
+use Rattle.spec_reader.specs.Grammar.{Term, Definition, Begins, sum_of, without_bound}
+use Rattle.spec_reader.specs.Machine.{Frame, over, wrapped, Outer, LinesBefore, Place, ReaderState, Start, Moded, Lines, Named, Want, Counts, Signed, Bounded, Have, Done, Failed, with_factor, finished_products, with_one_more, parenthesis_opened, sum_begun, range_by, step, run}
 use Rattle.spec_reader.proofs.MachineReads.{reads}
 use Rattle.spec_reader.proofs.MachineAccepts.{accepts}
 
@@ -46,8 +46,8 @@ text_ends m [] d = record { before = record { mode = m; definitions = d ∷ [] }
 text_ends m (e ∷ ds) d = record { before = record { mode = m; definitions = e ∷ ds ++ d ∷ [] }; is = refl }
 
 closes : (b : LinesBefore) (w : List ℕ) (f : Frame) (os : List Outer) → IsDone (run (Have (record { before = b; name = w; frame = f; outers = os })) (closing os))
-closes b w f [] = text_ends b.mode b.definitions (record { name = w; body = sum_of (value f) })
-closes b w f (o ∷ os) = closes b w (with_factor o.frame (wrapped o.wrap (sum_of (value f)))) os
+closes b w f [] = text_ends b.mode b.definitions (record { name = w; body = sum_of (finished_products f) })
+closes b w f (o ∷ os) = closes b w (with_factor o.frame (wrapped o.wrap (sum_of (finished_products f)))) os
 
 closes_at : (p : Place) → IsDone (run (Have p) (closing p.outers))
 closes_at p = closes p.before p.name p.frame p.outers
@@ -55,12 +55,12 @@ closes_at p = closes p.before p.name p.frame p.outers
 ends : (s : ReaderState) → s ≢ Failed → IsDone (run s (ending s))
 ends Start h = record { before = _; is = refl }
 ends (Moded m) h = record { before = _; is = refl }
-ends (Lines b) h = closes_at (with_one_more (begun b (codes "A")) (Term.atom []))
-ends (Named b w) h = closes_at (with_one_more (begun b w) (Term.atom []))
+ends (Lines b) h = closes_at (with_one_more (sum_begun b (codes "A")) (Term.atom []))
+ends (Named b w) h = closes_at (with_one_more (sum_begun b w) (Term.atom []))
 ends (Want p) h = closes_at (with_one_more p (Term.atom []))
-ends (Counts p c) h = closes_at (with_one_more (opened p (over c (plain c))) (Term.atom []))
-ends (Signed p c s) h = closes_at (with_one_more (opened p (over c (range_by c s 1))) (Term.atom []))
-ends (Bounded p c r) h = closes_at (with_one_more (opened p (over c r)) (Term.atom []))
+ends (Counts p c) h = closes_at (with_one_more (parenthesis_opened p (over c (without_bound c))) (Term.atom []))
+ends (Signed p c s) h = closes_at (with_one_more (parenthesis_opened p (over c (range_by c s 1))) (Term.atom []))
+ends (Bounded p c r) h = closes_at (with_one_more (parenthesis_opened p (over c r)) (Term.atom []))
 ends (Have p) h = closes_at p
 ends (Done b) h = record { before = b; is = refl }
 ends Failed h = absurd (h refl)

@@ -13,13 +13,13 @@ use Rattle.spec_reader.specs.declared.tokens.Token.{Token}
 use Rattle.spec_reader.specs.declared.tokens.Placed.{Placed}
 use Rattle.spec_reader.specs.Reading.{plain_tokens}
 use Rattle.spec_reader.specs.Faults.{with_names, line_names}
-use Rattle.spec_reader.specs.Grammar.{Term, terms}
+use Rattle.spec_reader.specs.Grammar.{Term, listed_terms}
 use Rattle.spec_reader.specs.Machine.{Frame, Wrap, bare, over, Outer, LinesBefore, Place}
 use Rattle.spec_reader.specs.Machine.{ReaderState, Start}
 use Rattle.spec_reader.specs.Machine.{Lines, Named, Want, Counts, Signed, Bounded, Have, Done}
 use Rattle.spec_reader.specs.Machine.{Failed, run}
 use Rattle.spec_reader.specs.Tables.{Row, with_terms, numbers, bodies_of, class_number}
-use Rattle.spec_reader.specs.Tables.{counted_node}
+use Rattle.spec_reader.specs.Tables.{counting_node}
 
 -- What is kept of a sum around the one that is read.
 pub record KeptOuter : Type 0 where
@@ -50,8 +50,8 @@ outer_kept o = record {
 }
 
 -- What the code keeps.
-abbrev pub kept : code_sums.Sums → KeptSoFar
-kept s = record {
+abbrev pub kept_in_sums : code_sums.Sums → KeptSoFar
+kept_in_sums s = record {
   draft = s.draft;
   products = map number s.frame.products;
   factors =
@@ -61,7 +61,7 @@ kept s = record {
 
 -- The nodes before, and those of a list of terms.
 abbrev pub with_list : List (List ℕ) → List Row → List Term → List Row
-with_list names rows ts = with_terms names rows (terms ts)
+with_list names rows ts = with_terms names rows (listed_terms ts)
 
 -- The nodes of whole lines.
 abbrev pub line_rows : List (List ℕ) → LinesBefore → List Row
@@ -92,11 +92,12 @@ drafted names b rows = record {
 
 -- The numbers of a frame's products, behind other nodes.
 abbrev pub product_numbers : List (List ℕ) → List Row → Frame → List ℕ
-product_numbers names rows f = numbers names rows (terms f.products)
+product_numbers names rows f = numbers names rows (listed_terms f.products)
 
 -- The numbers of a frame's factors, behind other nodes.
 abbrev pub factor_numbers : List (List ℕ) → List Row → Frame → List ℕ
-factor_numbers names rows f = numbers names (with_list names rows f.products) (terms f.factors)
+factor_numbers names rows f = numbers names (with_list names rows f.products)
+    (listed_terms f.factors)
 
 -- What is kept of the sums around.
 abbrev pub stack_of : List (List ℕ) → LinesBefore → List Outer → List KeptOuter
@@ -139,14 +140,14 @@ Represents names s Expects.Joint k = (p : Place) × (s ≡ Have p) × Stands nam
 Represents names s Expects.Nothing k = (b : LinesBefore) × (s ≡ Done b) × RestsOn names b k
 
 -- A token that may stand leads to what the code expects and keeps; any other fails the machine.
-abbrev pub Leads : List (List ℕ) → ReaderState → Bool → Expects → KeptSoFar → Type 0
-Leads names s true e k = Represents names s e k
-Leads names s false e k = s ≡ Failed
+abbrev pub LeadsOrFails : List (List ℕ) → ReaderState → Bool → Expects → KeptSoFar → Type 0
+LeadsOrFails names s true e k = Represents names s e k
+LeadsOrFails names s false e k = s ≡ Failed
 
 -- The tables where some parts are joined to a node; one part alone is itself.
-abbrev pub joined : (List ℕ → Node) → Spec → List ℕ → Spec
-joined form s (p ∷ []) = s
-joined form s ps = with_node s (form ps) (record { low = 0; high = None })
+abbrev pub joined_in_node : (List ℕ → Node) → Spec → List ℕ → Spec
+joined_in_node form s (p ∷ []) = s
+joined_in_node form s ps = with_node s (form ps) (record { low = 0; high = None })
 
 -- The number of the node that joins some parts; one part alone is itself.
 abbrev pub joined_number : Spec → List ℕ → ℕ
@@ -162,7 +163,7 @@ pub data IsLeaf (names : List (List ℕ)) : Term → Node → Type 0 where
 -- The tables where a parenthesis with a sum of this number is closed.
 abbrev pub wrapped_draft : Spec → Wrap → ℕ → Spec
 wrapped_draft s bare sum = s
-wrapped_draft s (over c r) sum = with_node s (counted_node c sum) r
+wrapped_draft s (over c r) sum = with_node s (counting_node c sum) r
 
 -- The number of what a closed parenthesis stands for.
 abbrev pub wrapped_number : Spec → Wrap → ℕ → ℕ
@@ -171,9 +172,10 @@ wrapped_number s (over c r) sum = length s.nodes
 
 -- A sum ends: its last product is joined, and then its products.
 pub record EndsSum (before : Spec) (products factors : List ℕ) (now : Spec) (sum : ℕ) : Type 0 where
-  pub draft_is : now ≡ joined Node.Union (joined Node.Product before factors) (products
+  pub draft_is : now ≡ joined_in_node Node.Union (joined_in_node Node.Product before factors)
+      (products
       ++ joined_number before factors ∷ [])
-  pub number_is : sum ≡ joined_number (joined Node.Product before factors) (products
+  pub number_is : sum ≡ joined_number (joined_in_node Node.Product before factors) (products
       ++ joined_number before factors ∷ [])
 
 -- The machine has not failed before the token at a place, and has failed behind it.
@@ -183,10 +185,11 @@ pub record BreaksAt (s : ReaderState) (ts : List Placed) (place : ℕ) : Type 0 
   pub fails : run s (plain_tokens (take (place + 1) ts)) ≡ Failed
 
 -- The machine goes through the tokens up to the first that fails it, or through all of them.
-abbrev pub StopsAt : List (List ℕ) → ReaderState → List Placed → Option ℕ → Expects → KeptSoFar
+abbrev pub MachineStopsAt : List (List ℕ) → ReaderState → List Placed → Option ℕ → Expects
+    → KeptSoFar
     → Type 0
-StopsAt names s ts None e k = Represents names (run s (plain_tokens ts)) e k
-StopsAt names s ts (Some place) e k = BreaksAt s ts place
+MachineStopsAt names s ts None e k = Represents names (run s (plain_tokens ts)) e k
+MachineStopsAt names s ts (Some place) e k = BreaksAt s ts place
 
 -- The last token is the end of the text.
 pub record EndsText (ts : List Placed) : Type 0 where

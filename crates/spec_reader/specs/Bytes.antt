@@ -20,5 +20,5 @@ abbrev pub is_letter : ℕ → Bool
 is_letter b = is_ascii_alphabetic b
 
 -- A run is made of letters, digits and _.
-abbrev pub is_run_byte : ℕ → Bool
-is_run_byte b = words.is_run_byte b
+abbrev pub may_be_in_run : ℕ → Bool
+may_be_in_run b = words.is_run_byte b

@@ -55,9 +55,9 @@ fault_at m defined before starts (Token.Counted c) line column = needs_labels m 
 fault_at m defined before starts t line column = None
 
 -- The first of two faults.
-abbrev pub first_of : Option SpecFault → Option SpecFault → Option SpecFault
-first_of (Some f) later = Some f
-first_of None later = later
+abbrev pub earlier_fault : Option SpecFault → Option SpecFault → Option SpecFault
+earlier_fault (Some f) later = Some f
+earlier_fault None later = later
 
 -- Names, and further ones where they aren't there.
 abbrev pub with_names : List (List ℕ) → List (List ℕ) → List (List ℕ)
@@ -69,5 +69,5 @@ abbrev pub first_fault : Mode → (defined before : List (List ℕ)) → Bool �
     → Option SpecFault
 first_fault m defined before starts [] = None
 first_fault m defined before starts (p ∷ ps) =
-    first_of (fault_at m defined before starts p.token p.line p.column)
+    earlier_fault (fault_at m defined before starts p.token p.line p.column)
     (first_fault m defined (with_names before (defined_by starts p.token)) (ends_line p.token) ps)

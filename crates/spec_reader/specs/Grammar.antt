@@ -20,19 +20,19 @@ mutual
     more : Term → Terms → Terms
 
 -- The terms of a list.
-abbrev pub terms : List Term → Terms
-terms [] = none
-terms (t ∷ ts) = more t (terms ts)
+abbrev pub listed_terms : List Term → Terms
+listed_terms [] = none
+listed_terms (t ∷ ts) = more t (listed_terms ts)
 
 -- A sum of one product is that product.
 abbrev pub sum_of : List Term → Term
 sum_of (t ∷ []) = t
-sum_of ts = union (terms ts)
+sum_of ts = union (listed_terms ts)
 
 -- A product of one factor is that factor.
-abbrev pub product_of : List Term → Term
-product_of (t ∷ []) = t
-product_of ts = product (terms ts)
+abbrev pub product_term : List Term → Term
+product_term (t ∷ []) = t
+product_term ts = product (listed_terms ts)
 
 -- The least number of parts without a bound from below: a cycle has one part or more.
 abbrev pub least_count : Counting → ℕ
@@ -41,16 +41,16 @@ least_count Counting.Set = 0
 least_count Counting.Cyc = 1
 
 -- The range without a bound.
-abbrev pub plain : Counting → Range
-plain c = record { low = least_count c; high = None }
+abbrev pub without_bound : Counting → Range
+without_bound c = record { low = least_count c; high = None }
 
 -- The range from a number of parts on.
 abbrev pub from_on : ℕ → Range
 from_on k = record { low = k; high = None }
 
 -- The range up to a number of parts.
-abbrev pub up_to : Counting → ℕ → Range
-up_to c k = record { low = least_count c; high = Some k }
+abbrev pub range_up_to : Counting → ℕ → Range
+range_up_to c k = record { low = least_count c; high = Some k }
 
 -- The range of one number of parts.
 abbrev pub just : ℕ → Range
@@ -58,22 +58,23 @@ just k = record { low = k; high = Some k }
 
 -- The bound on the numbers of parts, which may be left out.
 pub data Bound (c : Counting) : List Token → Range → List Token → Type 0 where
-  no_bound : {ts : List Token} → Bound c ts (plain c) ts
+  no_bound : {ts : List Token} → Bound c ts (without_bound c) ts
   at_least : {ts : List Token} {k : ℕ}
       → Bound c (Token.AtLeast ∷ Token.Number k ∷ ts) (from_on k) ts
-  at_most : {ts : List Token} {k : ℕ} → Bound c (Token.AtMost ∷ Token.Number k ∷ ts) (up_to c k) ts
+  at_most : {ts : List Token} {k : ℕ} → Bound c (Token.AtMost ∷ Token.Number k ∷ ts)
+      (range_up_to c k) ts
   exactly : {ts : List Token} {k : ℕ} → Bound c (Token.Exactly ∷ Token.Number k ∷ ts) (just k) ts
 
 -- Sums of products of factors.
 mutual
   pub data Sum : List Token → List Term → List Token → Type 0 where
     summed : {ts mid rest : List Token} {us ps : List Term} → Product ts us mid
-        → MoreProducts mid ps rest → Sum ts (product_of us ∷ ps) rest
+        → MoreProducts mid ps rest → Sum ts (product_term us ∷ ps) rest
 
   pub data MoreProducts : List Token → List Term → List Token → Type 0 where
     no_products : {ts : List Token} → MoreProducts ts [] ts
     next_product : {ts mid rest : List Token} {us ps : List Term} → Product ts us mid
-        → MoreProducts mid ps rest → MoreProducts (Token.Plus ∷ ts) (product_of us ∷ ps) rest
+        → MoreProducts mid ps rest → MoreProducts (Token.Plus ∷ ts) (product_term us ∷ ps) rest
 
   pub data Product : List Token → List Term → List Token → Type 0 where
     multiplied : {ts mid rest : List Token} {t : Term} {us : List Term} → Factor ts t mid
@@ -107,14 +108,15 @@ pub data Definitions : List Token → List Definition → Type 0 where
       → Definitions (Token.Name w ∷ Token.Exactly ∷ ts) (record { name = w; body = sum_of ps } ∷ ds)
 
 -- The word of a mode.
-abbrev pub mode_word : Mode → List ℕ
-mode_word Mode.Unlabelled = codes "unlabelled"
-mode_word Mode.Labelled = codes "labelled"
+abbrev pub spelled_mode : Mode → List ℕ
+spelled_mode Mode.Unlabelled = codes "unlabelled"
+spelled_mode Mode.Labelled = codes "labelled"
 
 -- The tokens of a text: the word of its mode, and one definition or more.
 pub data IsText : List Token → Mode → List Definition → Type 0 where
   text : {ts : List Token} {m : Mode} {d : Definition} {ds : List Definition}
-      → Definitions ts (d ∷ ds) → IsText (Token.Name (mode_word m) ∷ Token.LineEnd ∷ ts) m (d ∷ ds)
+      → Definitions ts (d ∷ ds) → IsText (Token.Name (spelled_mode m) ∷ Token.LineEnd ∷ ts) m
+      (d ∷ ds)
 
 -- Some text begins with these tokens.
 pub record Begins (ts : List Token) : Type 0 where

@@ -5,18 +5,19 @@ use Rattle.bz_model.specs.Spec.{Spec, Mode, plain_range}
 use Rattle.spec_reader.specs.declared.tokens.Counting.{Counting}
 use Rattle.spec_reader.specs.declared.tokens.Token.{Token}
 use Rattle.spec_reader.specs.Grammar.{Term, Definition, empty, atom, class, counted, sum_of}
-use Rattle.spec_reader.specs.Grammar.{product_of, plain, mode_word}
+use Rattle.spec_reader.specs.Grammar.{product_term, without_bound, spelled_mode}
 
 -- Sums of products of factors, none of them with a bound.
 mutual
   pub data SumOne : List Token → List Term → List Token → Type 0 where
     summed_one : {ts mid rest : List Token} {us ps : List Term} → ProductOne ts us mid
-        → MoreProductsOne mid ps rest → SumOne ts (product_of us ∷ ps) rest
+        → MoreProductsOne mid ps rest → SumOne ts (product_term us ∷ ps) rest
 
   pub data MoreProductsOne : List Token → List Term → List Token → Type 0 where
     no_products_one : {ts : List Token} → MoreProductsOne ts [] ts
     next_product_one : {ts mid rest : List Token} {us ps : List Term} → ProductOne ts us mid
-        → MoreProductsOne mid ps rest → MoreProductsOne (Token.Plus ∷ ts) (product_of us ∷ ps) rest
+        → MoreProductsOne mid ps rest → MoreProductsOne (Token.Plus ∷ ts)
+        (product_term us ∷ ps) rest
 
   pub data ProductOne : List Token → List Term → List Token → Type 0 where
     multiplied_one : {ts mid rest : List Token} {t : Term} {us : List Term} → FactorOne ts t mid
@@ -35,7 +36,8 @@ mutual
         → FactorOne (Token.Open ∷ ts) (sum_of ps) rest
     counting_one : {ts rest : List Token} {c : Counting} {ps : List Term}
         → SumOne ts ps (Token.Close ∷ rest)
-        → FactorOne (Token.Counted c ∷ Token.Open ∷ ts) (counted c (plain c) (sum_of ps)) rest
+        → FactorOne (Token.Counted c ∷ Token.Open ∷ ts) (counted c (without_bound c)
+        (sum_of ps)) rest
 
 -- The lines of definitions up to the end of the text.
 pub data DefinitionsOne : List Token → List Definition → Type 0 where
@@ -49,8 +51,8 @@ pub data DefinitionsOne : List Token → List Definition → Type 0 where
 pub data IsTextOne : List Token → Mode → List Definition → Type 0 where
   text_one : {ts : List Token} {m : Mode} {d : Definition} {ds : List Definition}
       → DefinitionsOne ts (d ∷ ds)
-      → IsTextOne (Token.Name (mode_word m) ∷ Token.LineEnd ∷ ts) m (d ∷ ds)
+      → IsTextOne (Token.Name (spelled_mode m) ∷ Token.LineEnd ∷ ts) m (d ∷ ds)
 
 -- Each node of a specification has its plain range.
-abbrev pub HasPlainRanges : Spec → Type 0
-HasPlainRanges s = s.ranges ≡ map plain_range s.nodes
+abbrev pub IsPlainlyRanged : Spec → Type 0
+IsPlainlyRanged s = s.ranges ≡ map plain_range s.nodes

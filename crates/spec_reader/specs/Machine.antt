@@ -5,7 +5,8 @@ use Rattle.spec_reader.specs.declared.tokens.Counting.{Counting}
 use Rattle.spec_reader.specs.declared.tokens.Sign.{Sign}
 use Rattle.spec_reader.specs.declared.tokens.Token.{Token}
 use Rattle.spec_reader.specs.Tokens.{is_same}
-use Rattle.spec_reader.specs.Grammar.{Term, Definition, sum_of, product_of, plain, from_on, up_to}
+use Rattle.spec_reader.specs.Grammar.{Term, Definition, sum_of, product_term, without_bound}
+use Rattle.spec_reader.specs.Grammar.{from_on, range_up_to}
 use Rattle.spec_reader.specs.Grammar.{just, counted}
 
 -- What was read of a sum: its products before, and the factors of the product that is read.
@@ -34,11 +35,11 @@ with_factor f t = record { products = f.products; factors = f.factors ++ t ∷ [
 
 -- The product that was read is over.
 abbrev pub next_product : Frame → Frame
-next_product f = record { products = f.products ++ product_of f.factors ∷ []; factors = [] }
+next_product f = record { products = f.products ++ product_term f.factors ∷ []; factors = [] }
 
 -- The products of a frame whose last product is over.
-abbrev pub value : Frame → List Term
-value f = f.products ++ product_of f.factors ∷ []
+abbrev pub finished_products : Frame → List Term
+finished_products f = f.products ++ product_term f.factors ∷ []
 
 -- Nothing was read yet of a sum.
 abbrev pub fresh : Frame
@@ -59,7 +60,7 @@ pub record Place : Type 0 where
 -- The range that a sign and a number give.
 abbrev pub range_by : Counting → Sign → ℕ → Range
 range_by c Sign.Least k = from_on k
-range_by c Sign.Most k = up_to c k
+range_by c Sign.Most k = range_up_to c k
 range_by c Sign.Exact k = just k
 
 -- What was read, and so what may come next.
@@ -88,8 +89,8 @@ pub data ReaderState : Type 0 where
   Failed : ReaderState
 
 -- The sum within a parenthesis is read.
-abbrev pub opened : Place → Wrap → Place
-opened p w = record {
+abbrev pub parenthesis_opened : Place → Wrap → Place
+parenthesis_opened p w = record {
   before = p.before;
   name = p.name;
   frame = fresh;
@@ -106,14 +107,14 @@ abbrev pub with_one_more : Place → Term → Place
 with_one_more p t = with_frame p (with_factor p.frame t)
 
 -- The parenthesis is closed; without an open one this can't come.
-abbrev pub closed : Place → List Outer → ReaderState
-closed p [] = Failed
-closed p (o ∷ os) =
+abbrev pub parenthesis_closed : Place → List Outer → ReaderState
+parenthesis_closed p [] = Failed
+parenthesis_closed p (o ∷ os) =
     Have (record {
       before = p.before;
       name = p.name;
       frame =
-          with_factor o.frame (wrapped o.wrap (sum_of (value p.frame)));
+          with_factor o.frame (wrapped o.wrap (sum_of (finished_products p.frame)));
       outers = os;
     })
 
@@ -123,7 +124,7 @@ line_over p [] =
     Lines (record {
       mode = p.before.mode;
       definitions = p.before.definitions
-          ++ record { name = p.name; body = sum_of (value p.frame) } ∷ [];
+          ++ record { name = p.name; body = sum_of (finished_products p.frame) } ∷ [];
     })
 line_over p (o ∷ os) = Failed
 
@@ -139,8 +140,8 @@ mode_read w =
     (codes "labelled") then Moded Mode.Labelled else Failed
 
 -- The place where a definition's sum begins.
-abbrev pub begun : LinesBefore → List ℕ → Place
-begun b w = record { before = b; name = w; frame = fresh; outers = [] }
+abbrev pub sum_begun : LinesBefore → List ℕ → Place
+sum_begun b w = record { before = b; name = w; frame = fresh; outers = [] }
 
 -- One token more.
 abbrev pub step : ReaderState → Token → ReaderState
@@ -148,21 +149,21 @@ step Start (Token.Name w) = mode_read w
 step (Moded m) Token.LineEnd = Lines (record { mode = m; definitions = [] })
 step (Lines b) (Token.Name w) = Named b w
 step (Lines b) Token.TextEnd = text_over b b.definitions
-step (Named b w) Token.Exactly = Want (begun b w)
+step (Named b w) Token.Exactly = Want (sum_begun b w)
 step (Want p) (Token.Empty w) = Have (with_one_more p (Term.empty w))
 step (Want p) (Token.Atom w) = Have (with_one_more p (Term.atom w))
 step (Want p) (Token.Name w) = Have (with_one_more p (Term.class w))
-step (Want p) Token.Open = Want (opened p bare)
+step (Want p) Token.Open = Want (parenthesis_opened p bare)
 step (Want p) (Token.Counted c) = Counts p c
-step (Counts p c) Token.Open = Want (opened p (over c (plain c)))
+step (Counts p c) Token.Open = Want (parenthesis_opened p (over c (without_bound c)))
 step (Counts p c) Token.AtLeast = Signed p c Sign.Least
 step (Counts p c) Token.AtMost = Signed p c Sign.Most
 step (Counts p c) Token.Exactly = Signed p c Sign.Exact
 step (Signed p c s) (Token.Number k) = Bounded p c (range_by c s k)
-step (Bounded p c r) Token.Open = Want (opened p (over c r))
+step (Bounded p c r) Token.Open = Want (parenthesis_opened p (over c r))
 step (Have p) Token.Star = Want p
 step (Have p) Token.Plus = Want (with_frame p (next_product p.frame))
-step (Have p) Token.Close = closed p p.outers
+step (Have p) Token.Close = parenthesis_closed p p.outers
 step (Have p) Token.LineEnd = line_over p p.outers
 step _ _ = Failed
 

@@ -45,7 +45,7 @@ pub record IsMisplaced (ts : List Placed) (line column : ℕ) : Type 0 where
   pub column_is : column ≡ token.column
 
 -- The tokens are a text of the grammar with this first fault.
-pub record HasFault (ts : List Placed) (f : SpecFault) : Type 0 where
+pub record HasFirstFault (ts : List Placed) (f : SpecFault) : Type 0 where
   pub mode : Mode
   pub definitions : List Definition
   pub is_text : IsText (plain_tokens ts) mode definitions
@@ -56,9 +56,11 @@ abbrev pub TokensFault : List Placed → SpecFault → Type 0
 TokensFault ts (SpecFault.TooLong len) = ⊥
 TokensFault ts (SpecFault.NotText place) = ⊥
 TokensFault ts (SpecFault.Syntax line column) = IsMisplaced ts line column
-TokensFault ts (SpecFault.Undefined line column) = HasFault ts (SpecFault.Undefined line column)
-TokensFault ts (SpecFault.Twice line) = HasFault ts (SpecFault.Twice line)
-TokensFault ts (SpecFault.NeedsLabels line column) = HasFault ts (SpecFault.NeedsLabels line column)
+TokensFault ts (SpecFault.Undefined line column) = HasFirstFault ts
+    (SpecFault.Undefined line column)
+TokensFault ts (SpecFault.Twice line) = HasFirstFault ts (SpecFault.Twice line)
+TokensFault ts (SpecFault.NeedsLabels line column) = HasFirstFault ts
+    (SpecFault.NeedsLabels line column)
 TokensFault ts (SpecFault.Limit fault) = ⊥
 TokensFault ts SpecFault.OutOfMemory = Unit {0}
 

@@ -4,7 +4,7 @@ use Rattle.bz_model.specs.Spec.{Spec, Mode, Node, Range}
 use Rattle.spec_reader.specs.declared.tokens.Counting.{Counting}
 use Rattle.spec_reader.specs.Tokens.{is_same}
 use Rattle.spec_reader.specs.Grammar.{Term, Terms, none, more, empty, atom, class, union, product}
-use Rattle.spec_reader.specs.Grammar.{counted, terms, Definition}
+use Rattle.spec_reader.specs.Grammar.{counted, listed_terms, Definition}
 
 -- The number of a class is the place of its name among the names; where the name isn't there, it is
 -- their number.
@@ -22,10 +22,10 @@ abbrev pub uncounted : Node → Row
 uncounted n = record { node = n; range = record { low = 0; high = None } }
 
 -- The node that counts a part.
-abbrev pub counted_node : Counting → ℕ → Node
-counted_node Counting.Seq part = Node.Seq part
-counted_node Counting.Set part = Node.Set part
-counted_node Counting.Cyc part = Node.Cyc part
+abbrev pub counting_node : Counting → ℕ → Node
+counting_node Counting.Seq part = Node.Seq part
+counting_node Counting.Set part = Node.Set part
+counting_node Counting.Cyc part = Node.Cyc part
 
 -- The number of the last node.
 abbrev pub last_number : List Row → ℕ
@@ -43,7 +43,7 @@ abbrev mutual
   with_term names rows (product ts) = with_terms names rows ts
       ++ uncounted (Node.Product (numbers names rows ts)) ∷ []
   with_term names rows (counted c r t) = with_term names rows t
-      ++ record { node = counted_node c (last_number (with_term names rows t)); range = r } ∷ []
+      ++ record { node = counting_node c (last_number (with_term names rows t)); range = r } ∷ []
 
   -- The nodes before, and behind them those of terms.
   pub with_terms : List (List ℕ) → List Row → Terms → List Row
@@ -62,7 +62,7 @@ names_of ds = map (λ d. d.name) ds
 
 -- What the names stand for.
 abbrev pub bodies_of : List Definition → Terms
-bodies_of ds = terms (map (λ d. d.body) ds)
+bodies_of ds = listed_terms (map (λ d. d.body) ds)
 
 -- The tables of definitions: class after class in the order of the definitions, the body of a class
 -- being its last node.

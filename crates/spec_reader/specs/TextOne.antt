@@ -8,7 +8,7 @@ use Rattle.class_system.specs.Words.{IsName, IsLeafWord}
 use Rattle.spec_reader.specs.declared.tokens.Counting.{Counting}
 use Rattle.spec_reader.specs.declared.tokens.Token.{Token}
 use Rattle.spec_reader.specs.declared.tokens.Placed.{Placed}
-use Rattle.spec_reader.specs.Bytes.{is_text, is_blank, is_run_byte}
+use Rattle.spec_reader.specs.Bytes.{is_text, is_blank, may_be_in_run}
 use Rattle.spec_reader.specs.Tokens.{goes_on, placed, beginning}
 use Rattle.spec_reader.specs.Grammar.{Definition}
 use Rattle.spec_reader.specs.LanguageOne.{IsTextOne}
@@ -43,7 +43,7 @@ IsLeafOne leaf _ = ⊥
 -- No byte of a run stands first, so that the run before these bytes is the longest there is.
 abbrev pub EndsRun : List ℕ → Type 0
 EndsRun [] = Unit {0}
-EndsRun (b ∷ bs) = is_run_byte b ≡ false
+EndsRun (b ∷ bs) = may_be_in_run b ≡ false
 
 -- A line feed stands first, or nothing.
 abbrev pub EndsComment : List ℕ → Type 0

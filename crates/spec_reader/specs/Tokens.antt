@@ -4,7 +4,7 @@ use Rattle.std.specs.Prelude.{if◌then◌else◌, nat_le, List, [], ◌∷◌, 
 use Rattle.std.specs.Prelude.{Option, Some, None}
 use Rattle.std.specs.List.{list_all, prefix_len, take_while}
 use Rattle.std.specs.Cmp.Lexicographic.{pointwise}
-use Rattle.spec_reader.specs.Bytes.{is_blank, is_digit, is_letter, is_run_byte}
+use Rattle.spec_reader.specs.Bytes.{is_blank, is_digit, is_letter, may_be_in_run}
 use Rattle.spec_reader.specs.declared.tokens.Counting.{Counting}
 use Rattle.spec_reader.specs.declared.tokens.Token.{Token}
 use Rattle.spec_reader.specs.declared.tokens.Front.{Front}
@@ -17,12 +17,12 @@ is_same a b = pointwise ◌==◌ a b
 
 -- The number that one or two digits spell, where it is from 1 to 64 and has no leading zero; other
 -- digits spell none that may stand in a text.
-abbrev pub number_of : List ℕ → Option ℕ
-number_of (a ∷ []) = if nat_le 49 a then Some (a - 48) else None
-number_of (a ∷ b ∷ []) =
+abbrev pub number_spelled : List ℕ → Option ℕ
+number_spelled (a ∷ []) = if nat_le 49 a then Some (a - 48) else None
+number_spelled (a ∷ b ∷ []) =
     if nat_le 49 a && nat_le ((a - 48) * 10 + (b - 48)) 64 then Some ((a - 48) * 10 + (b - 48)) else
     None
-number_of _ = None
+number_spelled _ = None
 
 -- The token of a number that may stand in a text, and one that stands nowhere for any other.
 abbrev pub number_token : Option ℕ → Token
@@ -43,7 +43,7 @@ word_token run =
 -- The token of a run that stands alone.
 abbrev pub run_token : List ℕ → Token
 run_token run =
-    if list_all is_digit run then number_token (number_of run)
+    if list_all is_digit run then number_token (number_spelled run)
     else if is_same run (codes "E") then Token.Empty []
     else if is_same run (codes "Z") then Token.Atom []
     else if is_same run (codes "Seq") then Token.Counted Counting.Seq
@@ -60,7 +60,7 @@ leaf_token letter word =
 -- The run behind a colon, where the bytes begin so; else nothing.
 abbrev pub word_after : List ℕ → List ℕ
 word_after [] = []
-word_after (b ∷ bs) = if b == 58 then take_while is_run_byte bs else []
+word_after (b ∷ bs) = if b == 58 then take_while may_be_in_run bs else []
 
 -- What a run begins, by how many bytes it has after the first and by the bytes behind it: a leaf
 -- with a word where the run is E or Z and a colon and a run follow at once, else a token of its
@@ -99,8 +99,9 @@ front b bs =
     if b == 10 then Front.LineFeed
     else if is_blank b then Front.Blank
     else if b == 35 then Front.Comment (prefix_len goes_on bs)
-    else if is_run_byte b then run_front (b ∷ take_while is_run_byte bs) (prefix_len is_run_byte bs)
-    (drop (prefix_len is_run_byte bs) bs)
+    else if may_be_in_run b then run_front (b ∷ take_while may_be_in_run bs)
+    (prefix_len may_be_in_run bs)
+    (drop (prefix_len may_be_in_run bs) bs)
     else sign_front b bs
 
 -- The spot so many bytes further on in the line.

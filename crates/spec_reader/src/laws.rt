@@ -8,7 +8,7 @@ ghost use Rattle.class_system.specs.CanonicalText.{canonical_text};
 ghost use Rattle.spec_reader.specs.declared.fault.SpecFault.{SpecFault};
 ghost use Rattle.spec_reader.specs.declared.tokens.Token.{Token};
 ghost use Rattle.spec_reader.specs.Grammar.{Definition, IsText};
-ghost use Rattle.spec_reader.specs.LanguageOne.{IsTextOne, HasPlainRanges};
+ghost use Rattle.spec_reader.specs.LanguageOne.{IsTextOne, IsPlainlyRanged};
 ghost use Rattle.spec_reader.specs.Reading.{Grammar, Refuses};
 ghost use Rattle.spec_reader.specs.TextOne.{GrammarOne};
 ghost use Rattle.spec_reader.specs.Tables.{tables};
@@ -40,14 +40,14 @@ pub fn language_1_is_read_the_same()
     ensures text { (ts : List Token) (m : Mode) (ds : List Definition) → IsTextOne ts m ds
         → IsText ts m ds }
     ensures ranges { (ts : List Token) (m : Mode) (ds : List Definition) → IsTextOne ts m ds
-        → HasPlainRanges (tables m ds) }
+        → IsPlainlyRanged (tables m ds) }
 {}
 
 /// So a text of language 1 stands for the same specification, whose ranges are plain: its bytes
 /// have the same tokens here as there.
 pub fn a_text_of_language_1_stands_for_the_same()
     ensures stands { (bytes : List ℕ) (s : Spec) → GrammarOne bytes s → Grammar bytes s }
-    ensures ranges { (bytes : List ℕ) (s : Spec) → GrammarOne bytes s → HasPlainRanges s }
+    ensures ranges { (bytes : List ℕ) (s : Spec) → GrammarOne bytes s → IsPlainlyRanged s }
 {}
 
 /// The canonical text of a sound specification stands for it, where no class is named twice.

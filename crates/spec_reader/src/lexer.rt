@@ -49,14 +49,14 @@ fn is_letter(b: u8) -> bool
 }
 
 fn is_run_byte(b: u8) -> bool
-    ensures exact { result ≡ byte.is_run_byte b }
+    ensures exact { result ≡ byte.may_be_in_run b }
 {
     b.is_ascii_alphanumeric() || b == b'_'
 }
 
 /// How many bytes of a run stand in front.
 fn run_length(bytes: &[u8]) -> usize
-    ensures exact { result ≡ prefix_len byte.is_run_byte bytes.now }
+    ensures exact { result ≡ prefix_len byte.may_be_in_run bytes.now }
     ensures within { result ≤ length bytes.now }
 {
     bytes.iter().take_while(|b| is_run_byte(**b)).count()
@@ -74,7 +74,7 @@ fn comment_length(bytes: &[u8]) -> usize
 /// zero.
 fn number_of(digits: &[u8]) -> Option<u32>
     requires { list_all byte.is_digit digits.now ≡ true }
-    ensures exact { result ≡ text.number_of digits.now }
+    ensures exact { result ≡ text.number_spelled digits.now }
 {
     match digits {
         [a] if *a >= b'1' => Some(u32::from(*a - b'0')),
@@ -88,7 +88,7 @@ fn number_of(digits: &[u8]) -> Option<u32>
 
 fn number_token(digits: &[u8]) -> Token
     requires { list_all byte.is_digit digits.now ≡ true }
-    ensures exact { result ≡ text.number_token (text.number_of digits.now) }
+    ensures exact { result ≡ text.number_token (text.number_spelled digits.now) }
 {
     match number_of(digits) {
         Some(number) => Token::Number(number),

@@ -1,12 +1,13 @@
 //! The reader of tokens: one token after another, with a stack of its own.
 ghost use Rattle.std.specs.Prelude.{◌≡◌, ◌^◌, ◌<◌, ◌≤◌, ◌+◌, ◌*◌, ℕ, List, length, OnOk, IfOk};
 ghost use Rattle.class_system.specs.Views.{spec_range};
-ghost use Rattle.spec_reader.specs.Grammar.{plain, least_count};
+ghost use Rattle.spec_reader.specs.Grammar.{without_bound, least_count};
 ghost use Rattle.spec_reader.specs.Machine.{LinesBefore, Place, ReaderState, Lines, Named, Want};
 ghost use Rattle.spec_reader.specs.Machine.{Counts};
 ghost use Rattle.spec_reader.specs.Machine.{Signed, Bounded, Have, range_by, step};
 ghost use Rattle.spec_reader.specs.Tables.{class_number};
-ghost use Rattle.spec_reader.specs.Building.{kept, Stands, RestsOn, Represents, Leads, StopsAt};
+ghost use Rattle.spec_reader.specs.Building.{kept_in_sums, Stands, RestsOn, Represents};
+ghost use Rattle.spec_reader.specs.Building.{LeadsOrFails, MachineStopsAt};
 
 use crate::sums::{Expects, Sums, Wrap};
 use crate::tokens::{Counting, Placed, Sign, Token};
@@ -35,7 +36,7 @@ fn least_count(counting: Counting) -> u32
 
 /// The range without a bound.
 fn plain_range(counting: Counting) -> Range
-    ensures exact { spec_range result ≡ plain counting }
+    ensures exact { spec_range result ≡ without_bound counting }
 {
     Range {
         low: least_count(counting),
@@ -80,8 +81,9 @@ impl Reader {
     fn line(&mut self, token: &Token) -> bool
         requires { self.old.expects ≡ Expects.Line }
         ensures read { (names : List (List ℕ)) (b : LinesBefore) → RestsOn names b
-            (kept self.old.sums)
-            → Leads names (step (Lines b) token.now) result self.new.expects (kept self.new.sums) }
+            (kept_in_sums self.old.sums)
+            → LeadsOrFails names (step (Lines b) token.now) result self.new.expects
+            (kept_in_sums self.new.sums) }
         ensures few { self.new.sums.draft ≡ self.old.sums.draft }
     {
         match token {
@@ -96,9 +98,9 @@ impl Reader {
     /// An equals sign is expected.
     fn equals(&mut self, token: &Token) -> bool
         ensures read { (names : List (List ℕ)) (b : LinesBefore) (w : List ℕ)
-            → RestsOn names b (kept self.old.sums)
-            → Leads names (step (Named b w) token.now) result self.new.expects
-            (kept self.new.sums) }
+            → RestsOn names b (kept_in_sums self.old.sums)
+            → LeadsOrFails names (step (Named b w) token.now) result self.new.expects
+            (kept_in_sums self.new.sums) }
         ensures few { self.new.sums.draft ≡ self.old.sums.draft }
     {
         match token {
@@ -113,8 +115,9 @@ impl Reader {
         requires few_nodes { length self.old.sums.draft.nodes < 2 ^ 32 }
         requires few_names { length self.old.sums.draft.names < 2 ^ 32 }
         ensures read { IfOk result (λ stands. (names : List (List ℕ)) (p : Place)
-            → Stands names p (kept self.old.sums)
-            → Leads names (step (Want p) token.now) stands self.new.expects (kept self.new.sums)) }
+            → Stands names p (kept_in_sums self.old.sums)
+            → LeadsOrFails names (step (Want p) token.now) stands self.new.expects
+            (kept_in_sums self.new.sums)) }
         ensures few { OnOk result
             (length self.new.sums.draft.nodes ≤ length self.old.sums.draft.nodes + 1) }
         ensures names { OnOk result (self.new.sums.draft.names ≡ self.old.sums.draft.names) }
@@ -153,9 +156,9 @@ impl Reader {
         token: &Token,
     ) -> Result<bool, AllocError>
         ensures read { IfOk result (λ stands. (names : List (List ℕ)) (p : Place)
-            → Stands names p (kept self.old.sums)
-            → Leads names (step (Counts p counting) token.now) stands
-            self.new.expects (kept self.new.sums)) }
+            → Stands names p (kept_in_sums self.old.sums)
+            → LeadsOrFails names (step (Counts p counting) token.now) stands
+            self.new.expects (kept_in_sums self.new.sums)) }
         ensures few { self.new.sums.draft ≡ self.old.sums.draft }
     {
         match token {
@@ -174,9 +177,10 @@ impl Reader {
 
     /// A bound's number is expected.
     fn number(&mut self, counting: Counting, sign: Sign, token: &Token) -> bool
-        ensures read { (names : List (List ℕ)) (p : Place) → Stands names p (kept self.old.sums)
-            → Leads names (step (Signed p counting sign) token.now) result self.new.expects
-            (kept self.new.sums) }
+        ensures read { (names : List (List ℕ)) (p : Place) → Stands names p
+            (kept_in_sums self.old.sums)
+            → LeadsOrFails names (step (Signed p counting sign) token.now) result self.new.expects
+            (kept_in_sums self.new.sums) }
         ensures few { self.new.sums.draft ≡ self.old.sums.draft }
     {
         match token {
@@ -197,9 +201,9 @@ impl Reader {
         token: &Token,
     ) -> Result<bool, AllocError>
         ensures read { IfOk result (λ stands. (names : List (List ℕ)) (p : Place)
-            → Stands names p (kept self.old.sums)
-            → Leads names (step (Bounded p counting (spec_range range)) token.now) stands
-            self.new.expects (kept self.new.sums)) }
+            → Stands names p (kept_in_sums self.old.sums)
+            → LeadsOrFails names (step (Bounded p counting (spec_range range)) token.now) stands
+            self.new.expects (kept_in_sums self.new.sums)) }
         ensures few { self.new.sums.draft ≡ self.old.sums.draft }
     {
         match token {
@@ -217,8 +221,9 @@ impl Reader {
         requires expects { self.old.expects ≡ Expects.Joint }
         requires few { length self.old.sums.draft.nodes + 2 < 2 ^ 32 }
         ensures read { IfOk result (λ stands. (names : List (List ℕ)) (p : Place)
-            → Stands names p (kept self.old.sums)
-            → Leads names (step (Have p) token.now) stands self.new.expects (kept self.new.sums)) }
+            → Stands names p (kept_in_sums self.old.sums)
+            → LeadsOrFails names (step (Have p) token.now) stands self.new.expects
+            (kept_in_sums self.new.sums)) }
         ensures few { OnOk result
             (length self.new.sums.draft.nodes ≤ length self.old.sums.draft.nodes + 3) }
         ensures names { OnOk result (self.new.sums.draft.names ≡ self.old.sums.draft.names) }
@@ -244,8 +249,9 @@ impl Reader {
         requires few_nodes { length self.old.sums.draft.nodes + 2 < 2 ^ 32 }
         requires few_names { length self.old.sums.draft.names < 2 ^ 32 }
         ensures read { IfOk result (λ stands. (names : List (List ℕ)) (s : ReaderState)
-            → Represents names s self.old.expects (kept self.old.sums)
-            → Leads names (step s token.now) stands self.new.expects (kept self.new.sums)) }
+            → Represents names s self.old.expects (kept_in_sums self.old.sums)
+            → LeadsOrFails names (step s token.now) stands self.new.expects
+            (kept_in_sums self.new.sums)) }
         ensures few { OnOk result
             (length self.new.sums.draft.nodes ≤ length self.old.sums.draft.nodes + 3) }
         ensures names { OnOk result (self.new.sums.draft.names ≡ self.old.sums.draft.names) }
@@ -271,8 +277,9 @@ impl Reader {
         requires few_nodes { length self.old.sums.draft.nodes + 3 * length tokens.now < 2 ^ 32 }
         requires few_names { length self.old.sums.draft.names < 2 ^ 32 }
         ensures read { IfOk result (λ stop. (names : List (List ℕ)) (s : ReaderState)
-            → Represents names s self.old.expects (kept self.old.sums)
-            → StopsAt names s tokens.now stop self.new.expects (kept self.new.sums)) }
+            → Represents names s self.old.expects (kept_in_sums self.old.sums)
+            → MachineStopsAt names s tokens.now stop self.new.expects
+            (kept_in_sums self.new.sums)) }
     {
         for (i, placed) in tokens.iter().enumerate() {
             if !self.take(alloc, &placed.token)? {

@@ -4,10 +4,13 @@ ghost use Rattle.bz_model.specs.Spec.{Node, plain_range};
 ghost use Rattle.class_system.specs.Views.{number, spec_node, spec_range};
 ghost use Rattle.class_system.specs.Drafting.{with_node, with_body};
 ghost use Rattle.spec_reader.specs.Grammar.{Term};
-ghost use Rattle.spec_reader.specs.Machine.{Place, opened, with_one_more, with_frame, next_product};
-ghost use Rattle.spec_reader.specs.Machine.{closed, line_over};
-ghost use Rattle.spec_reader.specs.Building.{joined, joined_number, wrapped_draft, wrapped_number};
-ghost use Rattle.spec_reader.specs.Building.{wrap_kept, kept, Stands, IsLeaf, EndsSum, Leads};
+ghost use Rattle.spec_reader.specs.Machine.{Place, parenthesis_opened, with_one_more, with_frame};
+ghost use Rattle.spec_reader.specs.Machine.{next_product};
+ghost use Rattle.spec_reader.specs.Machine.{parenthesis_closed, line_over};
+ghost use Rattle.spec_reader.specs.Building.{joined_in_node, joined_number, wrapped_draft};
+ghost use Rattle.spec_reader.specs.Building.{wrapped_number};
+ghost use Rattle.spec_reader.specs.Building.{wrap_kept, kept_in_sums, Stands, IsLeaf, EndsSum};
+ghost use Rattle.spec_reader.specs.Building.{LeadsOrFails};
 
 use crate::tokens::{Counting, Sign};
 use class_system::draft::Draft;
@@ -64,7 +67,8 @@ pub enum Expects {
 /// The node of a union of parts; one part alone is itself.
 fn union_node(draft: &mut Draft, parts: Parts) -> Result<ExprId, AllocError>
     requires few { length draft.old.nodes < 2 ^ 32 }
-    ensures joined { OnOk result (draft.new ≡ joined Node.Union draft.old (map number parts)) }
+    ensures joined { OnOk result
+        (draft.new ≡ joined_in_node Node.Union draft.old (map number parts)) }
     ensures number { IfOk result (λ e. e.0 ≡ joined_number draft.old (map number parts)) }
     ensures few { OnOk result (length draft.new.nodes ≤ length draft.old.nodes + 1) }
     ensures names { OnOk result (draft.new.names ≡ draft.old.names) }
@@ -78,7 +82,8 @@ fn union_node(draft: &mut Draft, parts: Parts) -> Result<ExprId, AllocError>
 /// The node of a product of parts; one part alone is itself.
 fn product_node(draft: &mut Draft, parts: Parts) -> Result<ExprId, AllocError>
     requires few { length draft.old.nodes < 2 ^ 32 }
-    ensures joined { OnOk result (draft.new ≡ joined Node.Product draft.old (map number parts)) }
+    ensures joined { OnOk result
+        (draft.new ≡ joined_in_node Node.Product draft.old (map number parts)) }
     ensures number { IfOk result (λ e. e.0 ≡ joined_number draft.old (map number parts)) }
     ensures few { OnOk result (length draft.new.nodes ≤ length draft.old.nodes + 1) }
     ensures names { OnOk result (draft.new.names ≡ draft.old.names) }
@@ -125,7 +130,8 @@ impl Sums {
         requires plain { plain_range (spec_node node) ≡ record { low = 0; high = None } }
         ensures read { OnOk result ((names : List (List ℕ)) (p : Place) (t : Term)
             → IsLeaf names t (spec_node node)
-            → Stands names p (kept self.old) → Stands names (with_one_more p t) (kept self.new)) }
+            → Stands names p (kept_in_sums self.old) → Stands names (with_one_more p t)
+            (kept_in_sums self.new)) }
         ensures few { OnOk result (length self.new.draft.nodes ≤ length self.old.draft.nodes + 1) }
         ensures names { OnOk result (self.new.draft.names ≡ self.old.draft.names) }
     {
@@ -137,8 +143,8 @@ impl Sums {
     /// A parenthesis is opened.
     pub fn open(&mut self, alloc: Global, wrap: Wrap) -> Result<(), AllocError>
         ensures read { OnOk result ((names : List (List ℕ)) (p : Place)
-            → Stands names p (kept self.old)
-            → Stands names (opened p (wrap_kept wrap)) (kept self.new)) }
+            → Stands names p (kept_in_sums self.old)
+            → Stands names (parenthesis_opened p (wrap_kept wrap)) (kept_in_sums self.new)) }
         ensures few { self.new.draft ≡ self.old.draft }
     {
         let frame = mem::replace(&mut self.frame, Frame::new(alloc));
@@ -150,8 +156,8 @@ impl Sums {
     pub fn next_product(&mut self, alloc: Global) -> Result<(), AllocError>
         requires few { length self.old.draft.nodes < 2 ^ 32 }
         ensures read { OnOk result ((names : List (List ℕ)) (p : Place)
-            → Stands names p (kept self.old)
-            → Stands names (with_frame p (next_product p.frame)) (kept self.new)) }
+            → Stands names p (kept_in_sums self.old)
+            → Stands names (with_frame p (next_product p.frame)) (kept_in_sums self.new)) }
         ensures few { OnOk result (length self.new.draft.nodes ≤ length self.old.draft.nodes + 1) }
         ensures names { OnOk result (self.new.draft.names ≡ self.old.draft.names) }
     {
@@ -164,8 +170,8 @@ impl Sums {
     /// The sum that is read is over; its node.
     fn end_sum(&mut self, alloc: Global) -> Result<ExprId, AllocError>
         requires few { length self.old.draft.nodes + 1 < 2 ^ 32 }
-        ensures sum { IfOk result (λ e. EndsSum self.old.draft (kept self.old).products
-            (kept self.old).factors self.new.draft e.0) }
+        ensures sum { IfOk result (λ e. EndsSum self.old.draft (kept_in_sums self.old).products
+            (kept_in_sums self.old).factors self.new.draft e.0) }
         ensures products { OnOk result (self.new.frame.products ≡ []) }
         ensures factors { OnOk result (self.new.frame.factors ≡ []) }
         ensures outers { self.new.outers.items ≡ self.old.outers.items }
@@ -186,8 +192,9 @@ impl Sums {
     pub fn close(&mut self, alloc: Global) -> Result<bool, AllocError>
         requires few { length self.old.draft.nodes + 2 < 2 ^ 32 }
         ensures read { IfOk result (λ closes. (names : List (List ℕ)) (p : Place)
-            → Stands names p (kept self.old)
-            → Leads names (closed p p.outers) closes Expects.Joint (kept self.new)) }
+            → Stands names p (kept_in_sums self.old)
+            → LeadsOrFails names (parenthesis_closed p p.outers) closes Expects.Joint
+            (kept_in_sums self.new)) }
         ensures few { OnOk result (length self.new.draft.nodes ≤ length self.old.draft.nodes + 3) }
         ensures names { OnOk result (self.new.draft.names ≡ self.old.draft.names) }
     {
@@ -205,8 +212,8 @@ impl Sums {
     pub fn end_line(&mut self, alloc: Global) -> Result<bool, AllocError>
         requires few { length self.old.draft.nodes + 2 < 2 ^ 32 }
         ensures read { IfOk result (λ ends. (names : List (List ℕ)) (p : Place)
-            → Stands names p (kept self.old)
-            → Leads names (line_over p p.outers) ends Expects.Line (kept self.new)) }
+            → Stands names p (kept_in_sums self.old)
+            → LeadsOrFails names (line_over p p.outers) ends Expects.Line (kept_in_sums self.new)) }
         ensures few { OnOk result (length self.new.draft.nodes ≤ length self.old.draft.nodes + 2) }
         ensures names { OnOk result (self.new.draft.names ≡ self.old.draft.names) }
     {

@@ -1,7 +1,7 @@
 //! Seeded tapes against ChaCha20 by another program, and a tape over a file that is read in small
 //! pieces and fails.
 ghost use Rattle.std.specs.Prelude.{ℕ, List, Option, IfOk};
-ghost use Rattle.bit_tape.specs.Tape.{Belongs};
+ghost use Rattle.bit_tape.specs.Tape.{BelongsToShelf};
 
 use bit_tape::tape::{BitAnswer, Tape};
 use bz_outside::memory_shelf::MemoryShelf;
@@ -41,8 +41,8 @@ bb0ecea6 8bfab5a9 d51ba0e2 3a02f66b 749e54e7 974c11e3 de34ba05 6a30ee41 \
 
 /// The next `count` bits as a number, the first of them the highest, or what came in place of one.
 fn take_bits<S: Shelf>(tape: &mut Tape, shelf: &mut S, count: u32) -> Result<u32, BitAnswer>
-    requires { Belongs (S.content shelf.old) tape.old }
-    ensures { Belongs (S.content shelf.new) tape.new }
+    requires { BelongsToShelf (S.content shelf.old) tape.old }
+    ensures { BelongsToShelf (S.content shelf.new) tape.new }
 {
     let mut bits = 0u32;
     'bits: for _ in 0..count {
@@ -87,7 +87,8 @@ fn failing_shelf(alloc: Global) -> Result<MemoryShelf, Fail> {
 
 /// The tape over the content of the name `t`.
 fn tape_over(alloc: Global) -> Result<Tape, Fail>
-    ensures { IfOk result (λ tape. (contents : List ℕ → Option (List ℕ)) → Belongs contents tape) }
+    ensures { IfOk result (λ tape.
+        (contents : List ℕ → Option (List ℕ)) → BelongsToShelf contents tape) }
 {
     Ok(Tape::over(Word::from_bytes(alloc, b"t")?))
 }
@@ -95,7 +96,7 @@ fn tape_over(alloc: Global) -> Result<Tape, Fail>
 /// What is taken one after another, eight bits, eight, sixteen and one, and how many bits are used
 /// after each.
 fn taken<S: Shelf>(alloc: Global, tape: &mut Tape, shelf: &mut S) -> Result<String, Fail>
-    requires { Belongs (S.content shelf.old) tape.old }
+    requires { BelongsToShelf (S.content shelf.old) tape.old }
 {
     let mut text = String::new(alloc);
     'counts: for count in [8, 8, 16, 1] {

@@ -6,7 +6,7 @@ use Rattle.std.proofs.lemmas.List.{length-map}
 use Rattle.std.proofs.lemmas.List.Elements.{All-nil, All-cons}
 use Rattle.bz_model.specs.Fraction.{Fraction}
 use Rattle.bz_model.specs.Spec.{Spec}
-use Rattle.bit_tape.specs.Tape.{TapeState, Belongs}
+use Rattle.bit_tape.specs.Tape.{TapeState, BelongsToShelf}
 use Rattle.size_window.specs.RunByBits.{Limits}
 use Rattle.session_pool.specs.Member.{MemberState}
 use Rattle.session_pool.specs.Pool.{IsNewPool, PoolBelongs}
@@ -20,10 +20,10 @@ pub all-three : {X : Type 0} (P : X → Type 0) (x y z : X) → P x → P y → 
 all-three P x y z a b c = All-cons P x (y ∷ z ∷ []) a (All-cons P y (z ∷ []) b (All-cons P z [] c (All-nil P)))
 
 -- a new pool over three tapes that belong is ready
-pub is-ready : {E : Type 0} (s : Spec) (limits : Limits) (tapes : List TapeState) (x y z : TapeState) → tapes ≡ x ∷ y ∷ z ∷ [] → ((contents : List ℕ → Option (List ℕ)) → Belongs contents x) → ((contents : List ℕ → Option (List ℕ)) → Belongs contents y) → ((contents : List ℕ → Option (List ℕ)) → Belongs contents z) → (r : Result (List MemberState) E) → IfOk r (IsNewPool limits tapes) → IfOk r (λ pool. (at : Fraction) → PoolBelongs s at pool) → IfOk r (λ pool. (at : Fraction) (contents : List ℕ → Option (List ℕ)) → IsReady s at contents pool)
+pub is-ready : {E : Type 0} (s : Spec) (limits : Limits) (tapes : List TapeState) (x y z : TapeState) → tapes ≡ x ∷ y ∷ z ∷ [] → ((contents : List ℕ → Option (List ℕ)) → BelongsToShelf contents x) → ((contents : List ℕ → Option (List ℕ)) → BelongsToShelf contents y) → ((contents : List ℕ → Option (List ℕ)) → BelongsToShelf contents z) → (r : Result (List MemberState) E) → IfOk r (IsNewPool limits tapes) → IfOk r (λ pool. (at : Fraction) → PoolBelongs s at pool) → IfOk r (λ pool. (at : Fraction) (contents : List ℕ → Option (List ℕ)) → IsReady s at contents pool)
 is-ready s limits tapes x y z are a b c (Ok pool) new belongs = λ at contents. record {
   three = sym (length-map pool (λ (m : MemberState). m.tape)) ∙ ap length (new.same_tapes ∙ are);
   drawings = belongs at;
-  tapes = record { each = subst (All (Belongs contents)) (sym (new.same_tapes ∙ are)) (all-three (Belongs contents) x y z (a contents) (b contents) (c contents)) };
+  tapes = record { each = subst (All (BelongsToShelf contents)) (sym (new.same_tapes ∙ are)) (all-three (BelongsToShelf contents) x y z (a contents) (b contents) (c contents)) };
 }
 is-ready s limits tapes x y z are a b c (Err e) new belongs = tt

@@ -8,7 +8,7 @@ use Rattle.bz_model.specs.Spec.{Spec, Node, Range, node_at, body_of, IsInRange, 
 use Rattle.bz_model.specs.Object.{Object, Objects, none, more, count}
 use Rattle.bz_model.specs.Measures.{size, sizes, tree_nodes, all_nodes}
 use Rattle.bz_model.specs.WellFounded.{IsWellFounded}
-use Rattle.well_founded.specs.Foundedness.{Counts, IsCountedOf, IsPart, Least, HasEmpty, Under, HasSome, RepeatsZero, LeadsRound}
+use Rattle.well_founded.specs.Foundedness.{Counts, IsCountedOf, IsPartOfNode, Least, HasEmpty, Under, HasSome, RepeatsZero, LeadsRound}
 use Rattle.well_founded.proofs.Orderly.{IsOrderly, IsFew}
 use Rattle.well_founded.proofs.Having.{Of, OfEach, OfAll, of-belongs}
 use Rattle.well_founded.proofs.Least.{size-form, tree_nodes-form, least, least-each, some-belongs}
@@ -57,7 +57,7 @@ abbrev parts_in : Option Node → ℕ
 parts_in (Some (Node.Product parts)) = length parts
 parts_in _ = 0
 
-counted-part : (n : Node) (part : ℕ) → IsCountedOf n part → IsPart n part
+counted-part : (n : Node) (part : ℕ) → IsCountedOf n part → IsPartOfNode n part
 counted-part (Node.Seq p) part z = z
 counted-part (Node.Set p) part z = z
 counted-part (Node.Cyc p) part z = z

@@ -3,7 +3,7 @@ use Rattle.std.proofs.Common.{◌≡◌, ℕ, zero, suc, ◌⊎◌, inl, inr, Li
 use Rattle.std.specs.List.{slice_get, list_any, list_all}
 use Rattle.std.proofs.lemmas.Bool.Decides.{eqb_tells}
 use Rattle.bz_model.specs.Spec.{Node, Range}
-use Rattle.well_founded.specs.Foundedness.{IsPart}
+use Rattle.well_founded.specs.Foundedness.{IsPartOfNode}
 use Rattle.well_founded.specs.Marking.{IsMarked}
 use Rattle.well_founded.specs.EmptyObjects.{answer_at, node_has_empty, counted_has_empty}
 
@@ -83,7 +83,7 @@ module _ (K L P Q : ℕ → Type 0) (r : Range) (k : (c : ℕ) → K c → L c) 
   or-more part f (inl z) = inl z
   or-more part f (inr h) = inr (f h)
 
-  pub holds-more : (n : Node) → ((part : ℕ) → IsPart n part → P part → Q part) → Holds K P r n → Holds L Q r n
+  pub holds-more : (n : Node) → ((part : ℕ) → IsPartOfNode n part → P part → Q part) → Holds K P r n → Holds L Q r n
   holds-more (Node.Empty word) f h = tt
   holds-more (Node.Atom word) f h = h
   holds-more (Node.Class c) f h = k c h

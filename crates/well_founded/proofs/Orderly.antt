@@ -9,7 +9,7 @@ use Rattle.class_system.specs.NodeOrder.Spans.{tree}
 use Rattle.class_system.specs.NodeOrder.SpanEach.{done, next}
 use Rattle.class_system.specs.Sound.{IsSound, IsTextRange, HasTextRange}
 use Rattle.class_system.proofs.Soundness.{part_below, body_in_range, has_range}
-use Rattle.well_founded.specs.Foundedness.{IsCountedOf, IsPart, Counts}
+use Rattle.well_founded.specs.Foundedness.{IsCountedOf, IsPartOfNode, Counts}
 
 -- A high, where there is one, is at most 64.
 abbrev pub IsFew : Option ℕ → Type 0
@@ -24,15 +24,15 @@ pub record IsSoundRange (r : Range) : Type 0 where
 
 -- What foundedness rests on: parts stand below their node, references and bodies are there, a union has two parts or more, each node has a range, a counted one that of the text rule, and each node is a body or a part.
 pub record IsOrderly (s : Spec) : Type 0 where
-  pub below : (e part : ℕ) (n : Node) → node_at s e ≡ Some n → IsPart n part → part < e
+  pub below : (e part : ℕ) (n : Node) → node_at s e ≡ Some n → IsPartOfNode n part → part < e
   pub classes : (e c : ℕ) → node_at s e ≡ Some (Node.Class c) → (body : ℕ) × (body_of s c ≡ Some body)
   pub bodies : (c body : ℕ) → body_of s c ≡ Some body → body < length s.nodes
   pub unions : (e : ℕ) (parts : List ℕ) → node_at s e ≡ Some (Node.Union parts) → 2 ≤ length parts
   pub ranged : (e : ℕ) (n : Node) → node_at s e ≡ Some n → (r : Range) × (range_at s e ≡ Some r)
   pub ranges : (e part : ℕ) (r : Range) → Counts s e part r → IsSoundRange r
-  pub placed : (e : ℕ) (n : Node) → node_at s e ≡ Some n → ((c : ℕ) × (body_of s c ≡ Some e)) ⊎ ((f : ℕ) × (m : Node) × (node_at s f ≡ Some m) × IsPart m e)
+  pub placed : (e : ℕ) (n : Node) → node_at s e ≡ Some n → ((c : ℕ) × (body_of s c ≡ Some e)) ⊎ ((f : ℕ) × (m : Node) × (node_at s f ≡ Some m) × IsPartOfNode m e)
 
-part-there : (n : Node) (part : ℕ) → IsPart n part → HasPart n part
+part-there : (n : Node) (part : ℕ) → IsPartOfNode n part → HasPart n part
 part-there (Node.Union parts) part i = record { place = i.0; is_there = i.1 }
 part-there (Node.Product parts) part i = record { place = i.0; is_there = i.1 }
 part-there (Node.Seq p) part z = record { place = 0; is_there = ap Some z }
@@ -44,7 +44,7 @@ one-part : (p part i : ℕ) → slice_get (p ∷ []) i ≡ Some part → p ≡ p
 one-part p part zero g = cc
 one-part p part (suc i) g = absurd (cc)
 
-there-part : (n : Node) (part i : ℕ) → slice_get (parts_of n) i ≡ Some part → IsPart n part
+there-part : (n : Node) (part i : ℕ) → slice_get (parts_of n) i ≡ Some part → IsPartOfNode n part
 there-part (Node.Empty w) part i g = absurd (cc)
 there-part (Node.Atom w) part i g = absurd (cc)
 there-part (Node.Class c) part i g = absurd (cc)
@@ -56,7 +56,7 @@ there-part (Node.Cyc p) part i g = one-part p part i g
 
 -- A node of this number is a part of some node.
 abbrev Held : List Node → ℕ → Type 0
-Held nodes e = (f : ℕ) × (m : Node) × (slice_get nodes f ≡ Some m) × IsPart m e
+Held nodes e = (f : ℕ) × (m : Node) × (slice_get nodes f ≡ Some m) × IsPartOfNode m e
 
 -- Each node of a tree but the last is a part, and each node of trees in a row is a last one or a part.
 mutual
@@ -103,5 +103,5 @@ orderly s sound = record {
     class-body : (c : ℕ) → c < length s.names → (body : ℕ) × (body_of s c ≡ Some body)
     class-body c h = (get_or s.bodies c 0, slice_get-get_or s.bodies c 0 (omega (arith, sound.bodies)))
 
-    place : (e : ℕ) → e < length s.nodes → ((c : ℕ) × (body_of s c ≡ Some e)) ⊎ ((f : ℕ) × (m : Node) × (node_at s f ≡ Some m) × IsPart m e)
+    place : (e : ℕ) → e < length s.nodes → ((c : ℕ) × (body_of s c ≡ Some e)) ⊎ ((f : ℕ) × (m : Node) × (node_at s f ≡ Some m) × IsPartOfNode m e)
     place e h = elim (held-each s.nodes 0 s.bodies (length s.nodes) sound.order e (omega arith) h) [ inl k ↦ inl (k.0, k.1) | inr k ↦ inr k ]

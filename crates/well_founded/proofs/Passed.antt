@@ -6,10 +6,10 @@ use Rattle.bz_model.specs.Spec.{Spec, Node, node_at}
 use Rattle.class_system.specs.Views.{number}
 use Rattle.class_system.specs.declared.ids.ExprId.{ExprId}
 use Rattle.well_founded.specs.declared.class_set.ClassSet.{ClassSet}
-use Rattle.well_founded.specs.Foundedness.{IsPart, Under}
+use Rattle.well_founded.specs.Foundedness.{IsPartOfNode, Under}
 use Rattle.well_founded.proofs.Orderly.{IsOrderly}
 use Rattle.well_founded.specs.Marking.{AreMarked}
-use Rattle.well_founded.specs.Rounds.{Passes, PassesAt}
+use Rattle.well_founded.specs.Rounds.{PassesToClass, PassesAt}
 use Rattle.well_founded.specs.Ways.{IsIn, Points, OnePoints}
 use Rattle.well_founded.proofs.Rounds.{some-node, under-round, under-passes}
 use Rattle.well_founded.proofs.Refused.{node-there}
@@ -20,11 +20,11 @@ pub record PassedTo (s : Spec) (sets : List ClassSet) (e : ℕ) : Type 0 where
   pub one_each : length sets ≡ e
   pub passed : (f d : ℕ) → f < e → Points sets f d ↔ Under s d f
 
-pub passes-at : (s : Spec) (d : ℕ) (P : ℕ → Type 0) (e : ℕ) (n : Node) → node_at s e ≡ Some n → PassesAt s d P e → Passes s d P e n
-passes-at s d P e n q g = subst (λ m. Passes s d P e m) (some-node (sym g.is_node ∙ q)) g.passes
+pub passes-at : (s : Spec) (d : ℕ) (P : ℕ → Type 0) (e : ℕ) (n : Node) → node_at s e ≡ Some n → PassesAt s d P e → PassesToClass s d P e n
+passes-at s d P e n q g = subst (λ m. PassesToClass s d P e m) (some-node (sym g.is_node ∙ q)) g.passes
 
 -- A node passes more where its parts do.
-pub passes-more : (s : Spec) (d : ℕ) (P Q : ℕ → Type 0) (e : ℕ) (n : Node) → ((part : ℕ) → IsPart n part → P part → Q part) → Passes s d P e n → Passes s d Q e n
+pub passes-more : (s : Spec) (d : ℕ) (P Q : ℕ → Type 0) (e : ℕ) (n : Node) → ((part : ℕ) → IsPartOfNode n part → P part → Q part) → PassesToClass s d P e n → PassesToClass s d Q e n
 passes-more s d P Q e (Node.Empty w) f h = h
 passes-more s d P Q e (Node.Atom w) f h = h
 passes-more s d P Q e (Node.Class c) f h = h

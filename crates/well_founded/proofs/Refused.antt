@@ -5,7 +5,7 @@ use Rattle.std.proofs.lemmas.Option.{slice_get_within, slice_get-get_or}
 use Rattle.bz_model.specs.Spec.{Spec, Node, node_at, body_of, IsInRange, IsWithinHigh}
 use Rattle.bz_model.specs.Measures.{tree_nodes}
 use Rattle.bz_model.specs.WellFounded.{IsWellFounded}
-use Rattle.well_founded.specs.Foundedness.{Counts, IsCountedOf, IsPart, Least, LeastEach, HasSome, LacksObject, RepeatsZero}
+use Rattle.well_founded.specs.Foundedness.{Counts, IsCountedOf, IsPartOfNode, Least, LeastEach, HasSome, LacksObject, RepeatsZero}
 use Rattle.well_founded.proofs.Orderly.{IsOrderly}
 use Rattle.well_founded.proofs.Having.{Of, form_of, belongs-of}
 use Rattle.well_founded.proofs.Least.{size-form, tree_nodes-form, copies, count-copies, of-copies, sizes-copies, Found, found, found-each, no-atom, belongs-some}
@@ -47,7 +47,7 @@ module _ (s : Spec) (sound : IsOrderly s) (objects : (c body : ℕ) → body_of 
   counted-filled : (e part : ℕ) (n : Node) → node_at s e ≡ Some n → IsCountedOf n part → HasSome s part → HasSome s e
   counted-filled e part n q z l = let r = sound.ranged e n q in Least.counted {r = r.0} (record { node = n; is_node = q; of_part = z; is_range = r.1 }) l
 
-  filled-node : (e : ℕ) (n : Node) → node_at s e ≡ Some n → ((part : ℕ) → IsPart n part → HasSome s part) → HasSome s e
+  filled-node : (e : ℕ) (n : Node) → node_at s e ≡ Some n → ((part : ℕ) → IsPartOfNode n part → HasSome s part) → HasSome s e
   filled-node e (Node.Empty w) q ih = Least.empty w q
   filled-node e (Node.Atom w) q ih = Least.atom w q tt
   filled-node e (Node.Class c) q ih = let b = sound.classes e c q in Least.class c b.0 q b.1 (objects c b.0 b.1)
@@ -65,14 +65,14 @@ module _ (s : Spec) (sound : IsOrderly s) (objects : (c body : ℕ) → body_of 
       let t = node-there s part (omega arith) in
       filled k part t.0 (omega arith) t.1)
 
-  part-least : (e part : ℕ) (n : Node) → node_at s e ≡ Some n → IsPart n part → HasSome s part
+  part-least : (e part : ℕ) (n : Node) → node_at s e ≡ Some n → IsPartOfNode n part → HasSome s part
   part-least e part n q i =
       let b : part < e = sound.below e part n q i in
       let w : e < length s.nodes = slice_get_within s.nodes e n q in
       let t = node-there s part (omega arith) in
       filled (suc part) part t.0 (omega arith) t.1
 
-  part-found : (e part : ℕ) (n : Node) → node_at s e ≡ Some n → IsPart n part → Found s (Unit {0}) part
+  part-found : (e part : ℕ) (n : Node) → node_at s e ≡ Some n → IsPartOfNode n part → Found s (Unit {0}) part
   part-found e part n q i = found s (Unit {0}) sound (part-least e part n q i)
 
   -- A node with a part whose objects are unbounded has unbounded ones itself.
@@ -89,7 +89,7 @@ module _ (s : Spec) (sound : IsOrderly s) (objects : (c body : ℕ) → body_of 
       let b = found-each s (Unit {0}) sound (each-tail (each-back k.before (e ∷ k.after) w)) in
       unbounded-plug (plug-product s f k.before e k.after a.objects b.objects (subst (λ xs. node_at s f ≡ Some (Node.Product xs)) k.is q) a.has b.has) u
 
-  up : (f e : ℕ) (m : Node) → node_at s f ≡ Some m → IsPart m e → Unbounded s e → Unbounded s f
+  up : (f e : ℕ) (m : Node) → node_at s f ≡ Some m → IsPartOfNode m e → Unbounded s e → Unbounded s f
   up f e (Node.Union parts) q i u = unbounded-plug (plug-union s f parts i.0 e q i.1) u
   up f e (Node.Product parts) q i u = up-product f e parts q (split parts i.0 e i.1) (each-from parts (λ j part g. part-least f part (Node.Product parts) q (j, g))) u
   up f e (Node.Seq p) q i u = up-counted f e (Node.Seq p) q i (part-found f e (Node.Seq p) q i) u

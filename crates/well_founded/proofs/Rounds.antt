@@ -3,7 +3,7 @@ use Rattle.std.proofs.Common.{◌≡◌, ◌≢◌, ℕ, zero, suc, ◌≤◌, �
 use Rattle.std.specs.List.{slice_get}
 use Rattle.bz_model.specs.Spec.{Spec, Node, Range, node_at, range_at}
 use Rattle.well_founded.specs.Foundedness.{Counts, IsCountedOf, Least, LeastEach, HasEmpty, Under}
-use Rattle.well_founded.specs.Rounds.{Gets, IsClosed, Passes}
+use Rattle.well_founded.specs.Rounds.{Gets, IsClosed, PassesToClass}
 use Rattle.well_founded.proofs.Refused.{each-from}
 
 -- Two nodes are equal where the optional values that hold them are equal.
@@ -98,7 +98,7 @@ at-end [] p ps = refl
 at-end (x ∷ xs) p ps = at-end xs p ps
 
 -- The way down to a reference, node by node.
-pub under-round : (s : Spec) (d e : ℕ) (n : Node) → node_at s e ≡ Some n → Passes s d (Under s d) e n → Under s d e
+pub under-round : (s : Spec) (d e : ℕ) (n : Node) → node_at s e ≡ Some n → PassesToClass s d (Under s d) e n → Under s d e
 under-round s d e (Node.Empty w) q g = elim g [ ]
 under-round s d e (Node.Atom w) q g = elim g [ ]
 under-round s d e (Node.Class c) q g = Under.here (subst (λ x. node_at s e ≡ Some (Node.Class x)) g q)
@@ -110,10 +110,10 @@ under-round s d e (Node.Seq p) q g = Under.in_counted (counts-of (Node.Seq p) g.
 under-round s d e (Node.Set p) q g = Under.in_counted (counts-of (Node.Set p) g.0 q refl g.1) g.2 g.3
 under-round s d e (Node.Cyc p) q g = Under.in_counted (counts-of (Node.Cyc p) g.0 q refl g.1) g.2 g.3
 
-along : (s : Spec) (d e : ℕ) (m n : Node) → node_at s e ≡ Some m → node_at s e ≡ Some n → Passes s d (Under s d) e m → Passes s d (Under s d) e n
-along s d e m n p q g = subst (λ x. Passes s d (Under s d) e x) (some-node (sym p ∙ q)) g
+along : (s : Spec) (d e : ℕ) (m n : Node) → node_at s e ≡ Some m → node_at s e ≡ Some n → PassesToClass s d (Under s d) e m → PassesToClass s d (Under s d) e n
+along s d e m n p q g = subst (λ x. PassesToClass s d (Under s d) e x) (some-node (sym p ∙ q)) g
 
-counted-passes : (s : Spec) (d e : ℕ) (n : Node) (part : ℕ) (r : Range) → IsCountedOf n part → range_at s e ≡ Some r → (r.low ≤ 1) ⊎ HasEmpty s part → Under s d part → Passes s d (Under s d) e n
+counted-passes : (s : Spec) (d e : ℕ) (n : Node) (part : ℕ) (r : Range) → IsCountedOf n part → range_at s e ≡ Some r → (r.low ≤ 1) ⊎ HasEmpty s part → Under s d part → PassesToClass s d (Under s d) e n
 counted-passes s d e (Node.Seq p) part r z is h u = (r, is, subst (λ x. (r.low ≤ 1) ⊎ HasEmpty s x) (sym z) h, subst (λ x. Under s d x) (sym z) u)
 counted-passes s d e (Node.Set p) part r z is h u = (r, is, subst (λ x. (r.low ≤ 1) ⊎ HasEmpty s x) (sym z) h, subst (λ x. Under s d x) (sym z) u)
 counted-passes s d e (Node.Cyc p) part r z is h u = (r, is, subst (λ x. (r.low ≤ 1) ⊎ HasEmpty s x) (sym z) h, subst (λ x. Under s d x) (sym z) u)
@@ -121,7 +121,7 @@ counted-passes s d e _ part r z is h u = elim z [ ]
 
 -- A node with class d under it is a reference to d, or has d under a part, with objects of size 0
 -- beside it.
-pub under-passes : (s : Spec) (d e : ℕ) (n : Node) → node_at s e ≡ Some n → Under s d e → Passes s d (Under s d) e n
+pub under-passes : (s : Spec) (d e : ℕ) (n : Node) → node_at s e ≡ Some n → Under s d e → PassesToClass s d (Under s d) e n
 under-passes s d e n q (Under.here p) = along s d e (Node.Class d) n p q refl
 under-passes s d e n q (Under.in_union parts i part p g u) = along s d e (Node.Union parts) n p q (i, part, g, u)
 under-passes s d e n q (Under.in_product before part after p l r u) = along s d e (Node.Product (before ++ (part ∷ after))) n p q (length before, part, at-end before part after, others s part l r, u)

@@ -10,7 +10,7 @@ use Rattle.well_founded.proofs.Orderly.{IsOrderly}
 use Rattle.well_founded.specs.Rounds.{Gets}
 use Rattle.class_system.specs.NodeResults.{node_results, ranged_nodes}
 use Rattle.class_system.proofs.Results.{zip-at, length-node_results}
-use Rattle.well_founded.specs.EmptyObjects.{repeated, answer_at, node_has_empty, nodes_with_empty, more_with_empty, classes_with_empty, has_empty}
+use Rattle.well_founded.specs.EmptyObjects.{iterated, answer_at, node_has_empty, nodes_with_empty, more_with_empty, classes_with_empty, has_empty}
 use Rattle.well_founded.proofs.Least.{empty-belongs, belongs-empty}
 use Rattle.well_founded.proofs.Rounds.{least-round, in-closed}
 use Rattle.well_founded.specs.Marking.{IsMarked}
@@ -230,7 +230,7 @@ none-marked (suc n) (suc i) h = none-marked n i h
 module _ (s : Spec) (sound : IsOrderly s) where
   -- the classes marked after k rounds
   abbrev stage : ℕ → List Bool
-  stage k = repeated (more_with_empty s) k (replicate (length s.bodies) false)
+  stage k = iterated (more_with_empty s) k (replicate (length s.bodies) false)
 
   more-below : (cl dl : List Bool) → Below cl dl → Below (more_with_empty s cl) (more_with_empty s dl)
   more-below cl dl b = below-map (answer_at (nodes_with_empty s cl)) (answer_at (nodes_with_empty s dl)) (λ e m. marks-more s sound cl dl (below-marked b) (suc e) e (omega arith) m) s.bodies

@@ -6,9 +6,9 @@ use Rattle.bz_model.specs.Spec.{Node, Range, Spec}
 use Rattle.class_system.specs.NodeResults.{node_results, ranged_nodes}
 
 -- The result of n steps.
-abbrev pub repeated : {V : Type 0} → (V → V) → ℕ → V → V
-repeated step zero v = v
-repeated step (suc n) v = step (repeated step n v)
+abbrev pub iterated : {V : Type 0} → (V → V) → ℕ → V → V
+iterated step zero v = v
+iterated step (suc n) v = step (iterated step n v)
 
 -- The answer at a place, no past the end.
 abbrev pub answer_at : List Bool → ℕ → Bool
@@ -42,7 +42,7 @@ more_with_empty s classes = map (answer_at (nodes_with_empty s classes)) s.bodie
 -- The classes that have one: as many steps as there are classes find all of them.
 abbrev pub classes_with_empty : Spec → List Bool
 classes_with_empty s =
-    repeated (more_with_empty s) (length s.bodies) (replicate (length s.bodies) false)
+    iterated (more_with_empty s) (length s.bodies) (replicate (length s.bodies) false)
 
 -- The node has an object of size 0.
 abbrev pub has_empty : Spec → (node : ℕ) → Bool

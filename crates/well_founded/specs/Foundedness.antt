@@ -10,13 +10,13 @@ IsCountedOf (Node.Cyc p) part = p ≡ part
 IsCountedOf _ part = ⊥
 
 -- This is a part of the node.
-abbrev pub IsPart : Node → ℕ → Type 0
-IsPart (Node.Union parts) part = (i : ℕ) × (slice_get parts i ≡ Some part)
-IsPart (Node.Product parts) part = (i : ℕ) × (slice_get parts i ≡ Some part)
-IsPart (Node.Seq p) part = p ≡ part
-IsPart (Node.Set p) part = p ≡ part
-IsPart (Node.Cyc p) part = p ≡ part
-IsPart _ part = ⊥
+abbrev pub IsPartOfNode : Node → ℕ → Type 0
+IsPartOfNode (Node.Union parts) part = (i : ℕ) × (slice_get parts i ≡ Some part)
+IsPartOfNode (Node.Product parts) part = (i : ℕ) × (slice_get parts i ≡ Some part)
+IsPartOfNode (Node.Seq p) part = p ≡ part
+IsPartOfNode (Node.Set p) part = p ≡ part
+IsPartOfNode (Node.Cyc p) part = p ≡ part
+IsPartOfNode _ part = ⊥
 
 -- The node of this number is a counted one, of this part and with this range.
 pub record Counts (s : Spec) (e part : ℕ) (r : Range) : Type 0 where

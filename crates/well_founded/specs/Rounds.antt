@@ -22,18 +22,19 @@ pub record IsClosed (s : Spec) (A : Type 0) (P : ℕ → Type 0) : Type 0 where
 
 -- The node e is or holds a reference to class d with objects of size 0 beside it, where P holds of
 -- the parts that do.
-abbrev pub Passes : Spec → ℕ → (ℕ → Type 0) → ℕ → Node → Type 0
-Passes s d P e (Node.Empty word) = ⊥
-Passes s d P e (Node.Atom word) = ⊥
-Passes s d P e (Node.Class c) = c ≡ d
-Passes s d P e (Node.Union parts) = (i : ℕ) × (part : ℕ) × (slice_get parts i ≡ Some part) × P part
-Passes s d P e (Node.Product parts) = (i : ℕ) × (part : ℕ) × (slice_get parts i ≡ Some part)
+abbrev pub PassesToClass : Spec → ℕ → (ℕ → Type 0) → ℕ → Node → Type 0
+PassesToClass s d P e (Node.Empty word) = ⊥
+PassesToClass s d P e (Node.Atom word) = ⊥
+PassesToClass s d P e (Node.Class c) = c ≡ d
+PassesToClass s d P e (Node.Union parts) = (i : ℕ) × (part : ℕ) × (slice_get parts i ≡ Some part)
+    × P part
+PassesToClass s d P e (Node.Product parts) = (i : ℕ) × (part : ℕ) × (slice_get parts i ≡ Some part)
     × ((j q : ℕ) → slice_get parts j ≡ Some q → j ≢ i → HasEmpty s q) × P part
-Passes s d P e (Node.Seq part) = (r : Range) × (range_at s e ≡ Some r)
+PassesToClass s d P e (Node.Seq part) = (r : Range) × (range_at s e ≡ Some r)
     × ((r.low ≤ 1) ⊎ HasEmpty s part) × P part
-Passes s d P e (Node.Set part) = (r : Range) × (range_at s e ≡ Some r)
+PassesToClass s d P e (Node.Set part) = (r : Range) × (range_at s e ≡ Some r)
     × ((r.low ≤ 1) ⊎ HasEmpty s part) × P part
-Passes s d P e (Node.Cyc part) = (r : Range) × (range_at s e ≡ Some r)
+PassesToClass s d P e (Node.Cyc part) = (r : Range) × (range_at s e ≡ Some r)
     × ((r.low ≤ 1) ⊎ HasEmpty s part) × P part
 
 -- The node of this number gets an object.
@@ -46,4 +47,4 @@ pub record GetsAt (s : Spec) (A : Type 0) (P : ℕ → Type 0) (e : ℕ) : Type 
 pub record PassesAt (s : Spec) (d : ℕ) (P : ℕ → Type 0) (e : ℕ) : Type 0 where
   pub node : Node
   pub is_node : node_at s e ≡ Some node
-  pub passes : Passes s d P e node
+  pub passes : PassesToClass s d P e node

@@ -1,7 +1,7 @@
 use Rattle.std.proofs.Common.{◌≡◌, ◌∙◌, subst}
 use Rattle.bit_tape.specs.Tape.{TapeSource, CountsFault}
 use Rattle.choice_draw.proofs.Ticks.{oracle-none, oracle-more}
-use Rattle.sample_command.specs.UnderWay.{CanTurn, GoesOn, IsAtEnd, has_failed}
+use Rattle.sample_command.specs.UnderWay.{CanTurn, DrawingGoesOn, IsAtEnd, has_failed}
 use Rattle.bulk_command.specs.NoFiles.{empty_files, no_faults}
 use Rattle.bulk_command.specs.Running.{IsRunning}
 use Rattle.bulk_command.proofs.RunTurns.{moved-four}
@@ -43,7 +43,7 @@ returns-in-Some-clause-under_way g c = λ p.
 pub returns-in-Some-clause-ended : goal.returns-in-Some-clause-ended
 returns-in-Some-clause-ended g c =
     let inv = c.turns.invariant in
-    let end = subst (GoesOn c.args.founded.now (g.O.Oracle.x c.turns.oracle) (g.O.Oracle.table c.turns.oracle) empty_files c.turns.drawing.limits c.turns.drawing c.turn_once.new.drawing c.turn_once.new.tape) c.in-Some.is c.in-Ok.ensures.goes_on in
+    let end = subst (DrawingGoesOn c.args.founded.now (g.O.Oracle.x c.turns.oracle) (g.O.Oracle.table c.turns.oracle) empty_files c.turns.drawing.limits c.turns.drawing c.turn_once.new.drawing c.turn_once.new.tape) c.in-Some.is c.in-Ok.ensures.goes_on in
     subst (λ t. IsAtEnd t c.args.drawing.now.limits c.turn_once.new.drawing c.in-Some.ending) inv.oracle.table (subst (λ l. IsAtEnd (g.O.Oracle.table c.turns.oracle) l c.turn_once.new.drawing c.in-Some.ending) inv.can_turn.within end)
 
 pub returns-in-Some-clause-oracle : goal.returns-in-Some-clause-oracle
@@ -56,7 +56,7 @@ returns-in-Some-clause-reads g c = subst (λ (s : TapeSource). CountsFault (has_
 pub turns-preserved : goal.turns-preserved
 turns-preserved g c =
     let inv = c.turns.invariant in
-    let on = subst (GoesOn c.args.founded.now (g.O.Oracle.x c.turns.oracle) (g.O.Oracle.table c.turns.oracle) empty_files c.turns.drawing.limits c.turns.drawing c.turn_once.new.drawing c.turn_once.new.tape) c.in_default-turned.is c.in-Ok.ensures.goes_on in
+    let on = subst (DrawingGoesOn c.args.founded.now (g.O.Oracle.x c.turns.oracle) (g.O.Oracle.table c.turns.oracle) empty_files c.turns.drawing.limits c.turns.drawing c.turn_once.new.drawing c.turn_once.new.tape) c.in_default-turned.is c.in-Ok.ensures.goes_on in
     record {
       can_turn = moved-four (λ x t l s. CanTurn c.args.founded.now x empty_files l c.turn_once.new.drawing c.turn_once.new.tape) (g.O.Oracle.x c.args.oracle.now) (g.O.Oracle.x c.turns.oracle) (g.O.Oracle.table c.args.oracle.now) (g.O.Oracle.table c.turns.oracle) c.args.drawing.now.limits c.turns.drawing.limits c.args.tape.now.source c.turns.tape.source inv.oracle.x inv.oracle.table inv.can_turn.within inv.source on.0;
       oracle = oracle-more g.O.Oracle.spec g.O.Oracle.x g.O.Oracle.table g.O.Oracle.cost g.O.Oracle.raised c.args.oracle.now c.turns.oracle c.turn_once.new.oracle c.args.steps.now c.turns.steps c.turn_once.new.steps c.requires.costs (c.turn_once.ensures.levels inv.six) inv.oracle c.turn_once.ensures.oracle;

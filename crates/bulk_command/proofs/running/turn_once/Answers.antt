@@ -1,6 +1,6 @@
 use Rattle.std.proofs.Common.{refl, ap, subst}
 use Rattle.std.specs.Prelude.{Bool}
-use Rattle.bit_tape.specs.Tape.{TapeState, CountsFault, bits_of}
+use Rattle.bit_tape.specs.Tape.{TapeState, CountsFault, bits_of_source}
 use Rattle.size_window.specs.declared.turned.Turned.TheVariants as answer
 use Rattle.sample_command.proofs.OneTurn.{can-turn-on, at-end, same-fault}
 use Rattle.bulk_command.specs.NoFiles.{empty_files, no_faults}
@@ -16,7 +16,7 @@ returns-in-Going-clause-under_way g c = λ p.
 
 pub returns-in-Going-clause-goes_on : goal.returns-in-Going-clause-goes_on
 returns-in-Going-clause-goes_on g c =
-    can-turn-on c.args.founded.now (g.O.Oracle.x c.args.oracle.now) g.row.F (g.O.Oracle.table c.args.oracle.now) c.args.drawing.now.limits (bits_of c.args.tape.now.source empty_files) empty_files c.args.drawing.now c.turn.new.self c.args.tape.now c.turn.new.tape answer.Going
+    can-turn-on c.args.founded.now (g.O.Oracle.x c.args.oracle.now) g.row.F (g.O.Oracle.table c.args.oracle.now) c.args.drawing.now.limits (bits_of_source c.args.tape.now.source empty_files) empty_files c.args.drawing.now c.turn.new.self c.args.tape.now c.turn.new.tape answer.Going
     (record { law = c.a_turn_continues_a_trace.ensures; sound = c.requires.can_turn.sound; within = c.requires.can_turn.within; turn = c.in-Going.ensures.turned (λ e. absurd (cc)); counted = c.in-Going.ensures.counted })
     c.requires.can_turn refl refl c.turn.ensures.drawing c.turn.ensures.tape.belongs
 
@@ -29,7 +29,7 @@ returns-in-Kept-clause-under_way g c = λ p.
 
 pub returns-in-Kept-clause-goes_on : goal.returns-in-Kept-clause-goes_on
 returns-in-Kept-clause-goes_on g c =
-    can-turn-on c.args.founded.now (g.O.Oracle.x c.args.oracle.now) g.row.F (g.O.Oracle.table c.args.oracle.now) c.args.drawing.now.limits (bits_of c.args.tape.now.source empty_files) empty_files c.args.drawing.now c.turn.new.self c.args.tape.now c.turn.new.tape (answer.Kept c.in-Kept._entry)
+    can-turn-on c.args.founded.now (g.O.Oracle.x c.args.oracle.now) g.row.F (g.O.Oracle.table c.args.oracle.now) c.args.drawing.now.limits (bits_of_source c.args.tape.now.source empty_files) empty_files c.args.drawing.now c.turn.new.self c.args.tape.now c.turn.new.tape (answer.Kept c.in-Kept._entry)
     (record { law = c.a_turn_continues_a_trace.ensures; sound = c.requires.can_turn.sound; within = c.requires.can_turn.within; turn = c.in-Kept.ensures.turned (λ e. absurd (cc)); counted = c.in-Kept.ensures.counted })
     c.requires.can_turn refl refl c.turn.ensures.drawing c.turn.ensures.tape.belongs
 

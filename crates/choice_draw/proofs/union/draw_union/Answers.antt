@@ -2,7 +2,7 @@
 use Rattle.std.proofs.Common.{◌≡◌, ◌+◌, ◌≤◌, false, true, map, Some, None, arith, sym, ◌∙◌, ap}
 use Rattle.std.proofs.lemmas.List.{length-map}
 use Rattle.bz_model.specs.Spec.{Node}
-use Rattle.bit_tape.specs.Tape.{bits_of}
+use Rattle.bit_tape.specs.Tape.{bits_of_source}
 use Rattle.bit_tape.proofs.Leaving.{leaves-none, leaves-more}
 use Rattle.class_system.specs.Views.{number}
 use Rattle.choice_draw.specs.Decision.{Choice, union_decision}
@@ -20,7 +20,7 @@ bits-init g c = record {
   raised = omega arith;
   oracle = oracle-none g.O.Oracle.spec g.O.Oracle.x g.O.Oracle.table g.O.Oracle.cost g.O.Oracle.raised c.args.oracle.now c.args.steps.now;
   tape = leaves-none g.S.Shelf.content g.S.Shelf.faults c.args.shelf.now c.args.tape.now c.requires.belongs;
-  draws = draw-begins (union_decision c.args.system.now (g.O.Oracle.table c.args.oracle.now) c.args.node.0) (bits_of c.args.tape.now.source (g.S.Shelf.content c.args.shelf.now)) c.args.tape.now.used;
+  draws = draw-begins (union_decision c.args.system.now (g.O.Oracle.table c.args.oracle.now) c.args.node.0) (bits_of_source c.args.tape.now.source (g.S.Shelf.content c.args.shelf.now)) c.args.tape.now.used;
 }
 
 pub decide_by_table-requires-clause-node : goal.decide_by_table-requires-clause-node
@@ -41,7 +41,7 @@ bits-preserved g c =
       raised = omega (arith, kept.raised, c.raise.ensures.raised, c.level_at.ensures.exact, one_more);
       oracle = oracle-more g.O.Oracle.spec g.O.Oracle.x g.O.Oracle.table g.O.Oracle.cost g.O.Oracle.raised c.args.oracle.now c.bits.oracle c.raise.new.self c.args.steps.now c.bits.steps c.raise.new.steps c.known.ensures.costs six kept.oracle (record { spec = c.raise.ensures.spec; x = c.raise.ensures.x; table = c.raise.ensures.table; cost = c.raise.ensures.cost; rises = rises; ticks = c.raise.ensures.ticks });
       tape = leaves-more g.S.Shelf.content g.S.Shelf.faults false c.args.shelf.now c.bits.shelf c.next_bit.new.shelf c.args.tape.now c.bits.tape c.next_bit.new.self kept.tape c.in-Bit.ensures.tape;
-      draws = draw-on (union_decision c.args.system.now (g.O.Oracle.table c.args.oracle.now) c.args.node.0) (bits_of c.args.tape.now.source (g.S.Shelf.content c.args.shelf.now)) c.args.tape.now.used c.bits.cell c.bits.tape.used kept.draws c.in-Bit.bit c.half_of-cell.result c.next_bit.new.self.used (omega arith) told c.half_of-cell.ensures.exact c.in-Bit.ensures.leaves decided;
+      draws = draw-on (union_decision c.args.system.now (g.O.Oracle.table c.args.oracle.now) c.args.node.0) (bits_of_source c.args.tape.now.source (g.S.Shelf.content c.args.shelf.now)) c.args.tape.now.used c.bits.cell c.bits.tape.used kept.draws c.in-Bit.bit c.half_of-cell.result c.next_bit.new.self.used (omega arith) told c.half_of-cell.ensures.exact c.in-Bit.ensures.leaves decided;
     }
 
 pub returns-in-Some-clause-drawn : goal.returns-in-Some-clause-drawn
@@ -49,7 +49,7 @@ returns-in-Some-clause-drawn g c =
     let kept = c.bits.invariant in
     let told = rw (kept.tape.source, kept.tape.content) at c.in-Bit.ensures.tells in
     let decided = decision-by c.args.system.now (g.O.Oracle.table c.args.oracle.now) (g.O.Oracle.table c.raise.new.self) c.args.node.0 (map number c.parts_of-parts.result.now) c.half_of-cell.result (Some (Choice.Take c.in-Some.option)) (c.raise.ensures.table ∙ kept.oracle.table) c.parts_of-parts.ensures.parts c.in-Some.ensures.exact in
-    draw-decides (union_decision c.args.system.now (g.O.Oracle.table c.args.oracle.now) c.args.node.0) (bits_of c.args.tape.now.source (g.S.Shelf.content c.args.shelf.now)) c.args.tape.now.used c.bits.cell c.bits.tape.used kept.draws c.in-Bit.bit c.half_of-cell.result (Choice.Take c.from-value.result) c.next_bit.new.self.used (omega arith) kept.used told c.half_of-cell.ensures.exact c.half_of-cell.ensures.cell c.in-Bit.ensures.leaves
+    draw-decides (union_decision c.args.system.now (g.O.Oracle.table c.args.oracle.now) c.args.node.0) (bits_of_source c.args.tape.now.source (g.S.Shelf.content c.args.shelf.now)) c.args.tape.now.used c.bits.cell c.bits.tape.used kept.draws c.in-Bit.bit c.half_of-cell.result (Choice.Take c.from-value.result) c.next_bit.new.self.used (omega arith) kept.used told c.half_of-cell.ensures.exact c.half_of-cell.ensures.cell c.in-Bit.ensures.leaves
     (decided ∙ ap (λ i. Some (Choice.Take i)) (sym c.from-value.ensures))
 
 pub returns-in-Some-clause-ideal : goal.returns-in-Some-clause-ideal
@@ -74,16 +74,16 @@ pub returns-in-Ended-clause-drawn : goal.returns-in-Ended-clause-drawn
 returns-in-Ended-clause-drawn g c =
     let kept = c.bits.invariant in
     let told = rw (kept.tape.source, kept.tape.content) at c.in-Ended.ensures.tells in
-    draw-ends (union_decision c.args.system.now (g.O.Oracle.table c.args.oracle.now) c.args.node.0) (bits_of c.args.tape.now.source (g.S.Shelf.content c.args.shelf.now)) c.args.tape.now.used c.bits.cell c.bits.tape.used kept.draws c.next_bit.new.self.used (omega arith) kept.used told (ap (λ t. t.used) c.in-Ended.ensures.leaves)
+    draw-ends (union_decision c.args.system.now (g.O.Oracle.table c.args.oracle.now) c.args.node.0) (bits_of_source c.args.tape.now.source (g.S.Shelf.content c.args.shelf.now)) c.args.tape.now.used c.bits.cell c.bits.tape.used kept.draws c.next_bit.new.self.used (omega arith) kept.used told (ap (λ t. t.used) c.in-Ended.ensures.leaves)
 
 pub returns-in-Ended-clause-tape : goal.returns-in-Ended-clause-tape
 returns-in-Ended-clause-tape g c = leaves-more g.S.Shelf.content g.S.Shelf.faults false c.args.shelf.now c.bits.shelf c.next_bit.new.shelf c.args.tape.now c.bits.tape c.next_bit.new.self c.bits.invariant.tape c.in-Ended.ensures.tape
 
 pub returns-in-ReadFault-clause-drawn : goal.returns-in-ReadFault-clause-drawn
-returns-in-ReadFault-clause-drawn g c = draw-fails (union_decision c.args.system.now (g.O.Oracle.table c.args.oracle.now) c.args.node.0) (bits_of c.args.tape.now.source (g.S.Shelf.content c.args.shelf.now)) c.args.tape.now.used c.bits.cell c.bits.tape.used c.bits.invariant.draws c.next_bit.new.self.used (omega arith) c.bits.invariant.used (ap (λ t. t.used) c.in-ReadFault.ensures.leaves)
+returns-in-ReadFault-clause-drawn g c = draw-fails (union_decision c.args.system.now (g.O.Oracle.table c.args.oracle.now) c.args.node.0) (bits_of_source c.args.tape.now.source (g.S.Shelf.content c.args.shelf.now)) c.args.tape.now.used c.bits.cell c.bits.tape.used c.bits.invariant.draws c.next_bit.new.self.used (omega arith) c.bits.invariant.used (ap (λ t. t.used) c.in-ReadFault.ensures.leaves)
 
 pub returns-in-ReadFault-clause-tape : goal.returns-in-ReadFault-clause-tape
 returns-in-ReadFault-clause-tape g c = leaves-more g.S.Shelf.content g.S.Shelf.faults true c.args.shelf.now c.bits.shelf c.next_bit.new.shelf c.args.tape.now c.bits.tape c.next_bit.new.self c.bits.invariant.tape c.in-ReadFault.ensures.tape
 
 pub returns-clause-drawn : goal.returns-clause-drawn
-returns-clause-drawn g c = draw-straddles (union_decision c.args.system.now (g.O.Oracle.table c.args.oracle.now) c.args.node.0) (bits_of c.args.tape.now.source (g.S.Shelf.content c.args.shelf.now)) c.args.tape.now.used c.bits.cell c.bits.tape.used c.bits.invariant.draws (omega arith) c.bits.invariant.below c.bits.invariant.used
+returns-clause-drawn g c = draw-straddles (union_decision c.args.system.now (g.O.Oracle.table c.args.oracle.now) c.args.node.0) (bits_of_source c.args.tape.now.source (g.S.Shelf.content c.args.shelf.now)) c.args.tape.now.used c.bits.cell c.bits.tape.used c.bits.invariant.draws (omega arith) c.bits.invariant.below c.bits.invariant.used

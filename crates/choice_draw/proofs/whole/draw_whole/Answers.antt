@@ -1,6 +1,6 @@
 -- The draw over the bits given goes on bit by bit as the definition's does.
 use Rattle.std.proofs.Common.{arith, sym, ap, false}
-use Rattle.bit_tape.specs.Tape.{bits_of}
+use Rattle.bit_tape.specs.Tape.{bits_of_source}
 use Rattle.bit_tape.proofs.Leaving.{leaves-none, leaves-more}
 use Rattle.choice_draw.specs.Decision.{whole_decision}
 use Rattle.choice_draw.proofs.GivenDraws.{draw-begins, draw-on, draw-decides, draw-ends, draw-fails, draw-straddles}
@@ -12,7 +12,7 @@ bits-init g c = record {
   below = omega arith;
   used = omega arith;
   tape = leaves-none g.S.Shelf.content g.S.Shelf.faults c.args.shelf.now c.args.tape.now c.requires.belongs;
-  draws = draw-begins (whole_decision c.args.m) (bits_of c.args.tape.now.source (g.S.Shelf.content c.args.shelf.now)) c.args.tape.now.used;
+  draws = draw-begins (whole_decision c.args.m) (bits_of_source c.args.tape.now.source (g.S.Shelf.content c.args.shelf.now)) c.args.tape.now.used;
 }
 
 pub bits-preserved : goal.bits-preserved
@@ -24,23 +24,23 @@ bits-preserved g c =
       below = c.half_of-cell.ensures.cell.below;
       used = omega (arith, kept.used, c.in-Bit.ensures.leaves, ap (λ h. h.b) c.half_of-cell.ensures.exact);
       tape = leaves-more g.S.Shelf.content g.S.Shelf.faults false c.args.shelf.now c.bits.shelf c.next_bit.new.shelf c.args.tape.now c.bits.tape c.next_bit.new.self kept.tape c.in-Bit.ensures.tape;
-      draws = draw-on (whole_decision c.args.m) (bits_of c.args.tape.now.source (g.S.Shelf.content c.args.shelf.now)) c.args.tape.now.used c.bits.cell c.bits.tape.used kept.draws c.in-Bit.bit c.half_of-cell.result c.next_bit.new.self.used (omega arith) told c.half_of-cell.ensures.exact c.in-Bit.ensures.leaves (sym c.in_default.ensures.exact);
+      draws = draw-on (whole_decision c.args.m) (bits_of_source c.args.tape.now.source (g.S.Shelf.content c.args.shelf.now)) c.args.tape.now.used c.bits.cell c.bits.tape.used kept.draws c.in-Bit.bit c.half_of-cell.result c.next_bit.new.self.used (omega arith) told c.half_of-cell.ensures.exact c.in-Bit.ensures.leaves (sym c.in_default.ensures.exact);
     }
 
 pub returns-in-Some-clause-drawn : goal.returns-in-Some-clause-drawn
 returns-in-Some-clause-drawn g c =
     let kept = c.bits.invariant in
     let told = rw (kept.tape.source, kept.tape.content) at c.in-Bit.ensures.tells in
-    draw-decides (whole_decision c.args.m) (bits_of c.args.tape.now.source (g.S.Shelf.content c.args.shelf.now)) c.args.tape.now.used c.bits.cell c.bits.tape.used kept.draws c.in-Bit.bit c.half_of-cell.result c.in-Some.value c.next_bit.new.self.used (omega arith) kept.used told c.half_of-cell.ensures.exact c.half_of-cell.ensures.cell c.in-Bit.ensures.leaves (sym c.in-Some.ensures.exact)
+    draw-decides (whole_decision c.args.m) (bits_of_source c.args.tape.now.source (g.S.Shelf.content c.args.shelf.now)) c.args.tape.now.used c.bits.cell c.bits.tape.used kept.draws c.in-Bit.bit c.half_of-cell.result c.in-Some.value c.next_bit.new.self.used (omega arith) kept.used told c.half_of-cell.ensures.exact c.half_of-cell.ensures.cell c.in-Bit.ensures.leaves (sym c.in-Some.ensures.exact)
 
 pub returns-in-Ended-clause-drawn : goal.returns-in-Ended-clause-drawn
 returns-in-Ended-clause-drawn g c =
     let kept = c.bits.invariant in
     let told = rw (kept.tape.source, kept.tape.content) at c.in-Ended.ensures.tells in
-    draw-ends (whole_decision c.args.m) (bits_of c.args.tape.now.source (g.S.Shelf.content c.args.shelf.now)) c.args.tape.now.used c.bits.cell c.bits.tape.used kept.draws c.next_bit.new.self.used (omega arith) kept.used told (ap (λ t. t.used) c.in-Ended.ensures.leaves)
+    draw-ends (whole_decision c.args.m) (bits_of_source c.args.tape.now.source (g.S.Shelf.content c.args.shelf.now)) c.args.tape.now.used c.bits.cell c.bits.tape.used kept.draws c.next_bit.new.self.used (omega arith) kept.used told (ap (λ t. t.used) c.in-Ended.ensures.leaves)
 
 pub returns-in-ReadFault-clause-drawn : goal.returns-in-ReadFault-clause-drawn
-returns-in-ReadFault-clause-drawn g c = draw-fails (whole_decision c.args.m) (bits_of c.args.tape.now.source (g.S.Shelf.content c.args.shelf.now)) c.args.tape.now.used c.bits.cell c.bits.tape.used c.bits.invariant.draws c.next_bit.new.self.used (omega arith) c.bits.invariant.used (ap (λ t. t.used) c.in-ReadFault.ensures.leaves)
+returns-in-ReadFault-clause-drawn g c = draw-fails (whole_decision c.args.m) (bits_of_source c.args.tape.now.source (g.S.Shelf.content c.args.shelf.now)) c.args.tape.now.used c.bits.cell c.bits.tape.used c.bits.invariant.draws c.next_bit.new.self.used (omega arith) c.bits.invariant.used (ap (λ t. t.used) c.in-ReadFault.ensures.leaves)
 
 pub returns-clause-drawn : goal.returns-clause-drawn
-returns-clause-drawn g c = draw-straddles (whole_decision c.args.m) (bits_of c.args.tape.now.source (g.S.Shelf.content c.args.shelf.now)) c.args.tape.now.used c.bits.cell c.bits.tape.used c.bits.invariant.draws (omega arith) c.bits.invariant.below c.bits.invariant.used
+returns-clause-drawn g c = draw-straddles (whole_decision c.args.m) (bits_of_source c.args.tape.now.source (g.S.Shelf.content c.args.shelf.now)) c.args.tape.now.used c.bits.cell c.bits.tape.used c.bits.invariant.draws (omega arith) c.bits.invariant.below c.bits.invariant.used

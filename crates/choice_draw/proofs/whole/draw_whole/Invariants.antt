@@ -1,5 +1,5 @@
 use Rattle.std.proofs.Common.{◌≡◌, ◌+◌, ◌-◌, ◌^◌, ◌<◌, ◌≤◌, false}
-use Rattle.bit_tape.specs.Tape.{LeavesTape, bits_of}
+use Rattle.bit_tape.specs.Tape.{LeavesTape, bits_of_source}
 use Rattle.choice_draw.specs.Decision.{whole_decision}
 use Rattle.choice_draw.proofs.GivenDraws.{IsUnderWay}
 use Rattle.choice_draw.proofs.whole.draw_whole.Given as goal
@@ -11,7 +11,7 @@ invariant-bits g l = record {
   below : l.cell.k < 2 ^ l.cell.b;
   used : l.tape.used ≡ l.fn.tape.used + l.cell.b;
   tape : LeavesTape g.S.Shelf.content g.S.Shelf.faults false l.fn.shelf l.shelf l.fn.tape l.tape;
-  draws : IsUnderWay (whole_decision l.m) (bits_of l.fn.tape.source (g.S.Shelf.content l.fn.shelf)) l.fn.tape.used l.cell l.tape.used;
+  draws : IsUnderWay (whole_decision l.m) (bits_of_source l.fn.tape.source (g.S.Shelf.content l.fn.shelf)) l.fn.tape.used l.cell l.tape.used;
 }
 
 abbrev pub decreases-bits : goal.decreases-bits

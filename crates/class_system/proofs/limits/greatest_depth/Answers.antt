@@ -1,7 +1,7 @@
 use Rattle.std.proofs.Common.{◌≡◌, ◌<◌, ◌+◌, arith, sym, ◌∙◌, ap, refl, length}
 use Rattle.std.proofs.lemmas.List.{length-map}
 use Rattle.class_system.specs.Views.{spec_node}
-use Rattle.class_system.specs.Limits.{greatest, node_depth}
+use Rattle.class_system.specs.Limits.{greatest_of, node_depth}
 use Rattle.class_system.proofs.Soundness.{node_listed, part_below, has_range}
 use Rattle.class_system.proofs.Results.{results-more, results-all}
 use Rattle.class_system.proofs.Depths.{greatest_so_far}
@@ -17,7 +17,7 @@ depth_above-depth-requires-clause-in_range c = record {
 
 pub depth_above-depth-requires-clause-small : goal.depth_above-depth-requires-clause-small
 depth_above-depth-requires-clause-small c =
-    let same : greatest c.deref.result.now ≡ c.loop-item.most = ap greatest c.deref.ensures.value ∙ sym c.loop-item.invariant.greatest_is in
+    let same : greatest_of c.deref.result.now ≡ c.loop-item.most = ap greatest_of c.deref.ensures.value ∙ sym c.loop-item.invariant.greatest_is in
     omega (arith, same, c.loop-item.invariant.few)
 
 pub loop-item-preserved : goal.loop-item-preserved
@@ -36,6 +36,6 @@ loop-item-preserved c =
 pub returns : goal.returns
 returns c = record {
   depth =
-      c.loop-item.invariant.greatest_is ∙ ap greatest (results-all node_depth c.args.draft.now c.loop-item.item-index _ c.loop-item.invariant.found
+      c.loop-item.invariant.greatest_is ∙ ap greatest_of (results-all node_depth c.args.draft.now c.loop-item.item-index _ c.loop-item.invariant.found
       (omega (arith, c.loop-item-test.false, length-map c.nodes-item-items.result.now spec_node, ap length c.nodes-item-items.ensures.nodes)));
 }

@@ -1,7 +1,7 @@
 use Rattle.std.proofs.Common.{◌≡◌, ◌≢◌, ◌≤◌, [], Some, None}
 use Rattle.bz_model.specs.Oracle.{AreCosts, LeavesOracle}
 use Rattle.bit_tape.specs.Bits.{file_bit}
-use Rattle.bit_tape.specs.Tape.{Belongs}
+use Rattle.bit_tape.specs.Tape.{BelongsToShelf}
 use Rattle.shape_sampler.specs.State.{SessionBelongs}
 use Rattle.entry_replay.proofs.Attempts.{IsUnderWay}
 use Rattle.entry_replay.proofs.replay.attempt.Given as goal
@@ -13,7 +13,7 @@ invariant-visits g l = record {
   whole : l.session.whole ≡ l.fn.session.whole;
   pending : l.session.pending ≢ [];
   stopped : l.session.stopped ≡ None;
-  belongs : Belongs (λ name. Some l.shelf) l.tape;
+  belongs : BelongsToShelf (λ name. Some l.shelf) l.tape;
   source : l.tape.source ≡ l.fn.tape.source;
   shelf : l.shelf ≡ l.fn.shelf;
   oracle : LeavesOracle g.O.Oracle.spec g.O.Oracle.x g.O.Oracle.table g.O.Oracle.cost g.O.Oracle.raised l.fn.oracle l.oracle l.fn.steps l.steps;

@@ -3,7 +3,7 @@ use Rattle.std.proofs.Common.{◌≡◌, ◌+◌, ◌-◌, ◌++◌, length, rem
 use Rattle.std.proofs.lemmas.List.Edits.{length-remove}
 use Rattle.std.specs.List.{AllByRecursion}
 use Rattle.bz_model.specs.Cell.{IsCell}
-use Rattle.bit_tape.specs.Tape.{bits_of}
+use Rattle.bit_tape.specs.Tape.{bits_of_source}
 use Rattle.bit_tape.proofs.Leaving.{leaves-none, leaves-more}
 use Rattle.labelling.specs.Answer.{AreIdealLabels}
 use Rattle.labelling.specs.LabelsByBits.{bits_in}
@@ -24,8 +24,8 @@ atoms-init g c =
       each = subst (λ p. AllByRecursion (λ d. IsCell d.k d.b) p.cells) (sym begun) tt;
       used = (let e : c.args.tape.now.used ≡ c.args.tape.now.used + 0 = omega arith in e) ∙ ap (λ p. c.args.tape.now.used + bits_in p.cells) (sym begun);
       names = subst (λ p. NamesIdeally c.args.n p) (sym begun) (names-first c.args.n);
-      goes = subst (λ p. IsGivenSoFar (bits_of c.args.tape.now.source (g.S.Shelf.content c.args.shelf.now)) c.args.n c.args.tape.now.used c.args.n p c.args.tape.now.used) (sym begun)
-          (given-first (bits_of c.args.tape.now.source (g.S.Shelf.content c.args.shelf.now)) c.args.n c.args.tape.now.used);
+      goes = subst (λ p. IsGivenSoFar (bits_of_source c.args.tape.now.source (g.S.Shelf.content c.args.shelf.now)) c.args.n c.args.tape.now.used c.args.n p c.args.tape.now.used) (sym begun)
+          (given-first (bits_of_source c.args.tape.now.source (g.S.Shelf.content c.args.shelf.now)) c.args.n c.args.tape.now.used);
       tape = leaves-none g.S.Shelf.content g.S.Shelf.faults c.args.shelf.now c.args.tape.now c.requires.belongs;
     }
 
@@ -33,7 +33,7 @@ pub returns-in-Straddles-clause-labelled : goal.returns-in-Straddles-clause-labe
 returns-in-Straddles-clause-labelled g c =
     let kept = c.atoms.invariant in
     let told = rw (kept.tape.source, kept.tape.content) at c.in-Straddles.ensures.drawn in
-    given-straddles (bits_of c.args.tape.now.source (g.S.Shelf.content c.args.shelf.now)) c.args.n c.args.tape.now.used c.atoms.m c.atoms.progress c.atoms.tape.used kept.goes kept.used c.atoms-test.true c.in-Straddles.cell c.draw_whole.new.tape.used told
+    given-straddles (bits_of_source c.args.tape.now.source (g.S.Shelf.content c.args.shelf.now)) c.args.n c.args.tape.now.used c.atoms.m c.atoms.progress c.atoms.tape.used kept.goes kept.used c.atoms-test.true c.in-Straddles.cell c.draw_whole.new.tape.used told
 
 pub returns-in-Straddles-clause-tape : goal.returns-in-Straddles-clause-tape
 returns-in-Straddles-clause-tape g c = leaves-more g.S.Shelf.content g.S.Shelf.faults false c.args.shelf.now c.atoms.shelf c.draw_whole.new.shelf c.args.tape.now c.atoms.tape c.draw_whole.new.tape c.atoms.invariant.tape c.in-Straddles.ensures.tape
@@ -48,7 +48,7 @@ pub returns-in-Ended-clause-labelled : goal.returns-in-Ended-clause-labelled
 returns-in-Ended-clause-labelled g c =
     let kept = c.atoms.invariant in
     let told = rw (kept.tape.source, kept.tape.content) at c.in-Ended.ensures.drawn in
-    given-ended (bits_of c.args.tape.now.source (g.S.Shelf.content c.args.shelf.now)) c.args.n c.args.tape.now.used c.atoms.m c.atoms.progress c.atoms.tape.used kept.goes kept.used c.atoms-test.true c.draw_whole.new.tape.used told
+    given-ended (bits_of_source c.args.tape.now.source (g.S.Shelf.content c.args.shelf.now)) c.args.n c.args.tape.now.used c.atoms.m c.atoms.progress c.atoms.tape.used kept.goes kept.used c.atoms-test.true c.draw_whole.new.tape.used told
 
 pub returns-in-Ended-clause-tape : goal.returns-in-Ended-clause-tape
 returns-in-Ended-clause-tape g c = leaves-more g.S.Shelf.content g.S.Shelf.faults false c.args.shelf.now c.atoms.shelf c.draw_whole.new.shelf c.args.tape.now c.atoms.tape c.draw_whole.new.tape c.atoms.invariant.tape c.in-Ended.ensures.tape
@@ -63,7 +63,7 @@ pub returns-in-ReadFault-clause-labelled : goal.returns-in-ReadFault-clause-labe
 returns-in-ReadFault-clause-labelled g c =
     let kept = c.atoms.invariant in
     let told = rw (kept.tape.source, kept.tape.content) at c.in-ReadFault.ensures.drawn in
-    given-failed (bits_of c.args.tape.now.source (g.S.Shelf.content c.args.shelf.now)) c.args.n c.args.tape.now.used c.atoms.m c.atoms.progress c.atoms.tape.used kept.goes kept.used c.atoms-test.true c.draw_whole.new.tape.used told
+    given-failed (bits_of_source c.args.tape.now.source (g.S.Shelf.content c.args.shelf.now)) c.args.n c.args.tape.now.used c.atoms.m c.atoms.progress c.atoms.tape.used kept.goes kept.used c.atoms-test.true c.draw_whole.new.tape.used told
 
 pub returns-in-ReadFault-clause-tape : goal.returns-in-ReadFault-clause-tape
 returns-in-ReadFault-clause-tape g c = leaves-more g.S.Shelf.content g.S.Shelf.faults true c.args.shelf.now c.atoms.shelf c.draw_whole.new.shelf c.args.tape.now c.atoms.tape c.draw_whole.new.tape c.atoms.invariant.tape c.in-ReadFault.ensures.tape
@@ -92,15 +92,15 @@ atoms-preserved g c =
       each = subst (λ p. AllByRecursion (λ d. IsCell d.k d.b) p.cells) (sym now) (each-more (λ d. IsCell d.k d.b) c.atoms.progress.cells c.in-Value.cell kept.each c.in-Value.ensures.drawn.cell);
       used = (let e : c.draw_whole.new.tape.used ≡ c.args.tape.now.used + bits_in next.cells = omega (arith, c.in-Value.ensures.drawn.uses) in e) ∙ ap (λ p. c.args.tape.now.used + bits_in p.cells) (sym now);
       names = subst (λ p. NamesIdeally c.args.n p) (sym now) (names-on c.args.n c.atoms.m c.in-Value.value c.atoms.progress c.in-Value.cell kept.names kept.remaining c.atoms-test.true below c.in-Value.ensures.decided);
-      goes = subst (λ p. IsGivenSoFar (bits_of c.args.tape.now.source (g.S.Shelf.content c.args.shelf.now)) c.args.n c.args.tape.now.used (c.atoms.m - 1) p c.draw_whole.new.tape.used) (sym now)
-          (given-on (bits_of c.args.tape.now.source (g.S.Shelf.content c.args.shelf.now)) c.args.n c.args.tape.now.used c.atoms.m c.atoms.progress c.atoms.tape.used kept.goes kept.used c.atoms-test.true c.in-Value.value c.in-Value.cell c.draw_whole.new.tape.used told);
+      goes = subst (λ p. IsGivenSoFar (bits_of_source c.args.tape.now.source (g.S.Shelf.content c.args.shelf.now)) c.args.n c.args.tape.now.used (c.atoms.m - 1) p c.draw_whole.new.tape.used) (sym now)
+          (given-on (bits_of_source c.args.tape.now.source (g.S.Shelf.content c.args.shelf.now)) c.args.n c.args.tape.now.used c.atoms.m c.atoms.progress c.atoms.tape.used kept.goes kept.used c.atoms-test.true c.in-Value.value c.in-Value.cell c.draw_whole.new.tape.used told);
       tape = leaves-more g.S.Shelf.content g.S.Shelf.faults false c.args.shelf.now c.atoms.shelf c.draw_whole.new.shelf c.args.tape.now c.atoms.tape c.draw_whole.new.tape kept.tape c.in-Value.ensures.tape;
     }
 
 pub returns-clause-labelled : goal.returns-clause-labelled
 returns-clause-labelled g c =
     let kept = c.atoms.invariant in
-    given-done (bits_of c.args.tape.now.source (g.S.Shelf.content c.args.shelf.now)) c.args.n c.args.tape.now.used c.atoms.m c.atoms.progress c.atoms.tape.used kept.goes kept.used (omega arith) kept.remaining c.finish-labels.result.0 c.finish-labels.result.1 c.finish-labels.ensures.labels c.finish-labels.ensures.cells
+    given-done (bits_of_source c.args.tape.now.source (g.S.Shelf.content c.args.shelf.now)) c.args.n c.args.tape.now.used c.atoms.m c.atoms.progress c.atoms.tape.used kept.goes kept.used (omega arith) kept.remaining c.finish-labels.result.0 c.finish-labels.result.1 c.finish-labels.ensures.labels c.finish-labels.ensures.cells
 
 pub returns-clause-ideal : goal.returns-clause-ideal
 returns-clause-ideal g c =

@@ -1,7 +1,7 @@
 use Rattle.std.proofs.Common.{◌≡◌, ◌+◌, ◌-◌, ◌≤◌, false, length}
 use Rattle.std.specs.List.{AllByRecursion}
 use Rattle.bz_model.specs.Cell.{IsCell}
-use Rattle.bit_tape.specs.Tape.{LeavesTape, bits_of}
+use Rattle.bit_tape.specs.Tape.{LeavesTape, bits_of_source}
 use Rattle.labelling.specs.LabelsByBits.{bits_in}
 use Rattle.labelling.proofs.GivenLabels.{IsGivenSoFar}
 use Rattle.labelling.proofs.Naming.{NamesIdeally}
@@ -17,7 +17,7 @@ invariant-atoms g l = record {
   each : AllByRecursion (λ c. IsCell c.k c.b) l.progress.cells;
   used : l.tape.used ≡ l.fn.tape.used + bits_in l.progress.cells;
   names : NamesIdeally l.fn.n l.progress;
-  goes : IsGivenSoFar (bits_of l.fn.tape.source (g.S.Shelf.content l.fn.shelf)) l.fn.n l.fn.tape.used l.m l.progress l.tape.used;
+  goes : IsGivenSoFar (bits_of_source l.fn.tape.source (g.S.Shelf.content l.fn.shelf)) l.fn.n l.fn.tape.used l.m l.progress l.tape.used;
   tape : LeavesTape g.S.Shelf.content g.S.Shelf.faults false l.fn.shelf l.shelf l.fn.tape l.tape;
 }
 

@@ -1,7 +1,7 @@
 -- Each thing is done.
 use Rattle.std.proofs.Common.{◌∷◌, [], refl, sym, ap, subst}
 use Rattle.object_text.specs.declared.print_stack.Todo.TheVariants as todo
-use Rattle.object_text.specs.Output.{grown, parted, closed}
+use Rattle.object_text.specs.Output.{grown, part_printed, form_closed}
 use Rattle.object_text.specs.Printing.{Prints, nodes_of}
 use Rattle.object_text.proofs.Ways.{passes-one, passes-from}
 use Rattle.object_text.proofs.walk.begin.Goals as goal
@@ -20,7 +20,7 @@ returns-in_ok-end_part-in-EndPart c = record {
   begun = record {
     left = refl;
     passes = passes-from (todo.EndPart ∷ c.args.todos.now) (c.args.todo ∷ c.args.todos.now) c.args.todos.now c.args.output.now c.end_part.new.self (ap (λ t. t ∷ c.args.todos.now) c.in-EndPart.is)
-        (passes-one todo.EndPart c.args.todos.now c.args.output.now (parted c.args.output.now) c.end_part.new.self c.in_ok-end_part-in-EndPart.ensures refl (λ s. record { on = λ whole tokens labels p. p }));
+        (passes-one todo.EndPart c.args.todos.now c.args.output.now (part_printed c.args.output.now) c.end_part.new.self c.in_ok-end_part-in-EndPart.ensures refl (λ s. record { on = λ whole tokens labels p. p }));
   };
 }
 
@@ -29,7 +29,7 @@ returns-in_ok-close-in-Close c = record {
   begun = record {
     left = refl;
     passes = passes-from (todo.Close c.in-Close.form ∷ c.args.todos.now) (c.args.todo ∷ c.args.todos.now) c.args.todos.now c.args.output.now c.close.new.self (ap (λ t. t ∷ c.args.todos.now) c.in-Close.is)
-        (passes-one (todo.Close c.in-Close.form) c.args.todos.now c.args.output.now (closed c.in-Close.form c.args.output.now) c.close.new.self c.in_ok-close-in-Close.ensures refl (λ s. record { on = λ whole tokens labels p. p }));
+        (passes-one (todo.Close c.in-Close.form) c.args.todos.now c.args.output.now (form_closed c.in-Close.form c.args.output.now) c.close.new.self c.in_ok-close-in-Close.ensures refl (λ s. record { on = λ whole tokens labels p. p }));
   };
 }
 

@@ -5,7 +5,7 @@ use Rattle.bz_model.specs.Spec.{Node, node_at}
 use Rattle.class_system.specs.Views.{number, spec_node}
 use Rattle.object_store.specs.Tokens.{token_size}
 use Rattle.object_text.specs.Todos.{joined_objects}
-use Rattle.object_text.specs.Output.{grown, opened}
+use Rattle.object_text.specs.Output.{grown, form_opened}
 use Rattle.object_text.specs.Printing.{Prints}
 use Rattle.object_text.proofs.Steps.{of-empty, of-atom}
 use Rattle.object_text.proofs.Tokens.{no_other, prints-pick, prints-count, prints-set, prints-cycle}
@@ -68,7 +68,7 @@ returns-in-Count-token c =
           (λ begun. record {
             on = λ whole rest labels is p.
                 subst (Prints c.args.system.now whole c.begin_parts.new.todos rest (drop (token_size c.args.token) labels)) (sym begun.1)
-                (subst (λ todos. Prints c.args.system.now whole todos rest (drop (token_size c.args.token) labels) (opened c.args.output.now)) (sym begun.0) (prints-set c.args.system.now whole c.args.todos.now c.args.e.0 labels c.args.output.now c.args.token rest c.in-Set.part c.in-Count-token.k at c.in-Count-token.is p));
+                (subst (λ todos. Prints c.args.system.now whole todos rest (drop (token_size c.args.token) labels) (form_opened c.args.output.now)) (sym begun.0) (prints-set c.args.system.now whole c.args.todos.now c.args.e.0 labels c.args.output.now c.args.token rest c.in-Set.part c.in-Count-token.k at c.in-Count-token.is p));
           })
           c.begin_parts.ensures;
     }
@@ -81,7 +81,7 @@ returns-in-Count-token-2 c =
           (λ begun. record {
             on = λ whole rest labels is p.
                 subst (Prints c.args.system.now whole c.begin_parts-in-Cyc.new.todos rest (drop (token_size c.args.token) labels)) (sym begun.1)
-                (subst (λ todos. Prints c.args.system.now whole todos rest (drop (token_size c.args.token) labels) (opened c.args.output.now)) (sym begun.0) (prints-cycle c.args.system.now whole c.args.todos.now c.args.e.0 labels c.args.output.now c.args.token rest c.in-Cyc.part c.in-Count-token-2.k at c.in-Count-token-2.is p));
+                (subst (λ todos. Prints c.args.system.now whole todos rest (drop (token_size c.args.token) labels) (form_opened c.args.output.now)) (sym begun.0) (prints-cycle c.args.system.now whole c.args.todos.now c.args.e.0 labels c.args.output.now c.args.token rest c.in-Cyc.part c.in-Count-token-2.k at c.in-Count-token-2.is p));
           })
           c.begin_parts-in-Cyc.ensures;
     }

@@ -3,7 +3,7 @@ use Rattle.bz_model.specs.Measures.{size}
 use Rattle.object_store.specs.Tokens.{size_of}
 use Rattle.object_store.specs.Walking.{IsNext}
 use Rattle.object_store.proofs.Sizes.{size_of-tokens}
-use Rattle.pointing.specs.Ways.{places, HasPassed}
+use Rattle.pointing.specs.Ways.{level_places, HasPassed}
 use Rattle.pointing.proofs.Searches.{search-start, search-on, search-found, never-ends, never-without}
 use Rattle.pointing.proofs.ways.way_to.Goals as goal
 
@@ -21,7 +21,7 @@ returns-then-branch c =
     let visit = subst (IsNext c.visits.walk c.next.new.self) c.in-Node.is c.in_ok-e.ensures.next in
     let found = c.if-branch.true in
     record {
-      way = λ of. c.in_ok-places-in-Node.ensures.places ∙ ap (λ z. places z.levels) c.search-in-Node.view_is ∙ search-found c.args.system.now of.object c.args.atom c.visits.walk c.next.new.self c.in-Node.e.0 c.in-Node.visit c.visits.search c.pass.new.self c.visits.invariant.system visit
+      way = λ of. c.in_ok-places-in-Node.ensures.places ∙ ap (λ z. level_places z.levels) c.search-in-Node.view_is ∙ search-found c.args.system.now of.object c.args.atom c.visits.walk c.next.new.self c.in-Node.e.0 c.in-Node.visit c.visits.search c.pass.new.self c.visits.invariant.system visit
           (subst (HasPassed c.args.system.now c.in-Node.e.0 c.in-Node.visit c.visits.search c.pass.new.self) found c.in_ok-pass-in-Node.ensures.passed) (c.visits.invariant.on of);
     }
 

@@ -2,7 +2,7 @@ use Rattle.std.proofs.Common.{◌≡◌, ℕ, List, map, length, sym, ◌∙◌,
 use Rattle.std.specs.List.{All}
 use Rattle.bz_model.specs.Fraction.{ratio}
 use Rattle.bz_model.specs.Spec.{Spec}
-use Rattle.bit_tape.specs.Tape.{TapeSource, TapeState, Belongs}
+use Rattle.bit_tape.specs.Tape.{TapeSource, TapeState, BelongsToShelf}
 use Rattle.class_system.specs.Sound.{IsSound}
 use Rattle.oracle_memo.specs.Levels.{level_bounds_from, costs}
 use Rattle.oracle_memo.specs.Memos.{Memory}
@@ -14,8 +14,8 @@ use Rattle.session_pool.specs.Interleaving as session
 use Rattle.size_window.specs.Drawing.{limits_of}
 use Rattle.well_founded.specs.EmptyObjects.{has_empty}
 use Rattle.pool_command.specs.PoolCommand.{pool_of, table_of}
-use Rattle.pool_command.specs.Schedule.{named, all_asked}
-use Rattle.pool_command.specs.UnderWay.{beginning, moment, asked_by}
+use Rattle.pool_command.specs.Schedule.{drawings_named, all_asked}
+use Rattle.pool_command.specs.UnderWay.{pool_beginning, moment, asked_by}
 use Rattle.pool_command.proofs.Ended.{shared_of}
 use Rattle.pool_command.proofs.Printable.{can-print}
 use Rattle.pool_command.proofs.Results.{on-err}
@@ -35,7 +35,7 @@ take_turns-requires-clause-can g c =
       sound = subst IsSound c.system-system.ensures.system c.known.ensures.sound;
       spec = ap (λ (k : Memory). k.spec) c.in_ok-memo.ensures.made;
       drawings = c.in_ok-pool.ensures.belongs (ratio c.in_ok-memo.memo.num c.in_ok-memo.memo.den);
-      tapes = record { each = subst (All (Belongs (g.S.Shelf.content c.args.shelf.now))) (sym same) (tapes-belong (g.S.Shelf.content c.args.shelf.now) c.args.names.now) };
+      tapes = record { each = subst (All (BelongsToShelf (g.S.Shelf.content c.args.shelf.now))) (sym same) (tapes-belong (g.S.Shelf.content c.args.shelf.now) c.args.names.now) };
       number = members-counted c.in_ok-pool.pool c.args.names.now same;
     }
 
@@ -48,12 +48,12 @@ returns-in_err-order-clause-err g c = on-err c.from_residual-in_err-order.result
     let content = g.S.Shelf.content c.args.shelf.now in
     let counts = g.S.Shelf.faults c.args.shelf.now in
     let names = c.args.names.now in
-    let b = beginning (shared_of p content) limits (map TapeSource.Named names) counts c.args.steps.now in
+    let b = pool_beginning (shared_of p content) limits (map TapeSource.Named names) counts c.args.steps.now in
     let start = memo-starts c.a_trace_starts_with_its_drawing.ensures t c.args.base limits content names counts c.args.steps.now c.args.steps.now c.in_ok-memo.memo c.in_ok-tapes.tapes.items c.in_ok-pool.pool c.in_ok-memo.ensures.made c.in_ok-tapes.ensures c.in_ok-pool.ensures.new c.in_ok-pool.ensures.alone (omega arith) in
     let sound = subst IsSound c.system-system.ensures.system c.known.ensures.sound in
     let chosen = c.a_table_has_its_chooser.ensures.chooses c.args.founded.now g.row.F (table_of p) (has_empty c.args.founded.now) (λ part. c.a_table_has_its_chooser.ensures.computed c.args.founded.now part sound) in
     let broken = c.in_err-order.ensures.broken b start in
-    so-far-told p content counts before names c.args.steps.now chosen below broken.asked (moment (session.setting c.take_turns.new.oracle.spec (ratio c.take_turns.new.oracle.num c.take_turns.new.oracle.den) g.row.F (level_bounds_from (setting c.take_turns.new.oracle.spec c.take_turns.new.oracle.num c.take_turns.new.oracle.den g.row.F) c.take_turns.new.oracle.start c.take_turns.new.oracle.base) (g.S.Shelf.content c.take_turns.new.shelf)) (g.S.Shelf.faults c.take_turns.new.shelf) costs c.take_turns.new.oracle.raised c.take_turns.new.steps c.take_turns.new.pool) broken.so_far c.take_turns.ensures.can.number c.args.schedule.now)
+    so-far-told p content counts before names c.args.steps.now chosen below broken.asked (moment (session.shared_setting c.take_turns.new.oracle.spec (ratio c.take_turns.new.oracle.num c.take_turns.new.oracle.den) g.row.F (level_bounds_from (setting c.take_turns.new.oracle.spec c.take_turns.new.oracle.num c.take_turns.new.oracle.den g.row.F) c.take_turns.new.oracle.start c.take_turns.new.oracle.base) (g.S.Shelf.content c.take_turns.new.shelf)) (g.S.Shelf.faults c.take_turns.new.shelf) costs c.take_turns.new.oracle.raised c.take_turns.new.steps c.take_turns.new.pool) broken.so_far c.take_turns.ensures.can.number c.args.schedule.now)
 
 -- what was kept can be printed
 pub page-requires-clause-printable : goal.page-requires-clause-printable
@@ -64,7 +64,7 @@ page-requires-clause-printable g c =
     let content = g.S.Shelf.content c.args.shelf.now in
     let counts = g.S.Shelf.faults c.args.shelf.now in
     let names = c.args.names.now in
-    let b = beginning (shared_of p content) limits (map TapeSource.Named names) counts c.args.steps.now in
+    let b = pool_beginning (shared_of p content) limits (map TapeSource.Named names) counts c.args.steps.now in
     let start = memo-starts c.a_trace_starts_with_its_drawing.ensures t c.args.base limits content names counts c.args.steps.now c.args.steps.now c.in_ok-memo.memo c.in_ok-tapes.tapes.items c.in_ok-pool.pool c.in_ok-memo.ensures.made c.in_ok-tapes.ensures c.in_ok-pool.ensures.new c.in_ok-pool.ensures.alone (omega arith) in
     let sound = subst IsSound c.system-system.ensures.system c.known.ensures.sound in
     let chosen = c.a_table_has_its_chooser.ensures.chooses c.args.founded.now g.row.F (table_of p) (has_empty c.args.founded.now) (λ part. c.a_table_has_its_chooser.ensures.computed c.args.founded.now part sound) in
@@ -80,12 +80,12 @@ returns-in_err-text-clause-err g c = on-err c.from_residual-in_err-text.result (
     let content = g.S.Shelf.content c.args.shelf.now in
     let counts = g.S.Shelf.faults c.args.shelf.now in
     let names = c.args.names.now in
-    let b = beginning (shared_of p content) limits (map TapeSource.Named names) counts c.args.steps.now in
+    let b = pool_beginning (shared_of p content) limits (map TapeSource.Named names) counts c.args.steps.now in
     let start = memo-starts c.a_trace_starts_with_its_drawing.ensures t c.args.base limits content names counts c.args.steps.now c.args.steps.now c.in_ok-memo.memo c.in_ok-tapes.tapes.items c.in_ok-pool.pool c.in_ok-memo.ensures.made c.in_ok-tapes.ensures c.in_ok-pool.ensures.new c.in_ok-pool.ensures.alone (omega arith) in
     let sound = subst IsSound c.system-system.ensures.system c.known.ensures.sound in
     let chosen = c.a_table_has_its_chooser.ensures.chooses c.args.founded.now g.row.F (table_of p) (has_empty c.args.founded.now) (λ part. c.a_table_has_its_chooser.ensures.computed c.args.founded.now part sound) in
     let far = (c.in_ok-order.ensures.ended b start).under_way.so_far in
-    so-far-told p content counts before names c.args.steps.now chosen below (all_asked (asked_by c.take_turns.new.pool) (named (length names) c.args.schedule.now) (length names)) (moment (session.setting c.take_turns.new.oracle.spec (ratio c.take_turns.new.oracle.num c.take_turns.new.oracle.den) g.row.F (level_bounds_from (setting c.take_turns.new.oracle.spec c.take_turns.new.oracle.num c.take_turns.new.oracle.den g.row.F) c.take_turns.new.oracle.start c.take_turns.new.oracle.base) (g.S.Shelf.content c.take_turns.new.shelf)) (g.S.Shelf.faults c.take_turns.new.shelf) costs c.take_turns.new.oracle.raised c.take_turns.new.steps c.take_turns.new.pool) far c.take_turns.ensures.can.number c.args.schedule.now)
+    so-far-told p content counts before names c.args.steps.now chosen below (all_asked (asked_by c.take_turns.new.pool) (drawings_named (length names) c.args.schedule.now) (length names)) (moment (session.shared_setting c.take_turns.new.oracle.spec (ratio c.take_turns.new.oracle.num c.take_turns.new.oracle.den) g.row.F (level_bounds_from (setting c.take_turns.new.oracle.spec c.take_turns.new.oracle.num c.take_turns.new.oracle.den g.row.F) c.take_turns.new.oracle.start c.take_turns.new.oracle.base) (g.S.Shelf.content c.take_turns.new.shelf)) (g.S.Shelf.faults c.take_turns.new.shelf) costs c.take_turns.new.oracle.raised c.take_turns.new.steps c.take_turns.new.pool) far c.take_turns.ensures.can.number c.args.schedule.now)
 
 -- all have ended, and their text is made
 pub returns-clause-ok : goal.returns-clause-ok
@@ -96,7 +96,7 @@ returns-clause-ok g c = λ before below.
     let content = g.S.Shelf.content c.args.shelf.now in
     let counts = g.S.Shelf.faults c.args.shelf.now in
     let names = c.args.names.now in
-    let b = beginning (shared_of p content) limits (map TapeSource.Named names) counts c.args.steps.now in
+    let b = pool_beginning (shared_of p content) limits (map TapeSource.Named names) counts c.args.steps.now in
     let start = memo-starts c.a_trace_starts_with_its_drawing.ensures t c.args.base limits content names counts c.args.steps.now c.args.steps.now c.in_ok-memo.memo c.in_ok-tapes.tapes.items c.in_ok-pool.pool c.in_ok-memo.ensures.made c.in_ok-tapes.ensures c.in_ok-pool.ensures.new c.in_ok-pool.ensures.alone (omega arith) in
     let sound = subst IsSound c.system-system.ensures.system c.known.ensures.sound in
     let chosen = c.a_table_has_its_chooser.ensures.chooses c.args.founded.now g.row.F (table_of p) (has_empty c.args.founded.now) (λ part. c.a_table_has_its_chooser.ensures.computed c.args.founded.now part sound) in
@@ -107,6 +107,6 @@ returns-clause-ok g c = λ before below.
     c.in_ok-header.ensures
     ∙ ap (λ (s : Spec). drawn_header (version_line 2) (setting s c.args.x.num c.args.x.den g.row.F) c.values.result.now limits) c.system-system.ensures.system
     ∙ ap (λ (entries : List ℕ). drawn_header (version_line 2) t entries limits) c.values.ensures.entries in
-    ended-told p content counts before names c.args.steps.now chosen below (all_asked (asked_by c.take_turns.new.pool) (named (length names) c.args.schedule.now) (length names)) (moment (session.setting c.take_turns.new.oracle.spec (ratio c.take_turns.new.oracle.num c.take_turns.new.oracle.den) g.row.F (level_bounds_from (setting c.take_turns.new.oracle.spec c.take_turns.new.oracle.num c.take_turns.new.oracle.den g.row.F) c.take_turns.new.oracle.start c.take_turns.new.oracle.base) (g.S.Shelf.content c.take_turns.new.shelf)) (g.S.Shelf.faults c.take_turns.new.shelf) costs c.take_turns.new.oracle.raised c.take_turns.new.steps c.take_turns.new.pool) over.under_way.so_far c.take_turns.ensures.can.number
+    ended-told p content counts before names c.args.steps.now chosen below (all_asked (asked_by c.take_turns.new.pool) (drawings_named (length names) c.args.schedule.now) (length names)) (moment (session.shared_setting c.take_turns.new.oracle.spec (ratio c.take_turns.new.oracle.num c.take_turns.new.oracle.den) g.row.F (level_bounds_from (setting c.take_turns.new.oracle.spec c.take_turns.new.oracle.num c.take_turns.new.oracle.den g.row.F) c.take_turns.new.oracle.start c.take_turns.new.oracle.base) (g.S.Shelf.content c.take_turns.new.shelf)) (g.S.Shelf.faults c.take_turns.new.shelf) costs c.take_turns.new.oracle.raised c.take_turns.new.steps c.take_turns.new.pool) over.under_way.so_far c.take_turns.ensures.can.number
     page.1.lines page.1.lists over.ended laws sound c.requires.limits
     c.args.schedule.now c.as_slice.result.now c.in_ok-header.header.items page.0 c.in_ok-text.text.items c.first_status.result c.requires.number.0 (c.as_slice.ensures.value ∙ over.under_way.order_is) header page.1.text_is page.2 c.first_status.ensures

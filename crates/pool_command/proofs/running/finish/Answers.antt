@@ -1,6 +1,6 @@
 use Rattle.std.proofs.Common.{◌<◌, ◌++◌, true, false, refl, sym, ◌∙◌, subst, arith}
 use Rattle.std.specs.Prelude.{replicate}
-use Rattle.session_pool.specs.Interleaving.{setting}
+use Rattle.session_pool.specs.Interleaving.{shared_setting}
 use Rattle.pool_command.specs.UnderWay.{moment}
 use Rattle.pool_command.proofs.Orders.{finish-start, finish-more, finish-end, going-at, ended-at, none-by, fewer-left}
 use Rattle.pool_command.proofs.Results.{on-err}
@@ -13,7 +13,7 @@ turns-init g c = record {
   content = refl;
   counts = λ name. omega arith;
   others = λ other differs. refl;
-  under_way = λ b asked p. finish-start b asked (moment (setting (g.O.Oracle.spec c.args.oracle.now) (g.O.Oracle.x c.args.oracle.now) g.row.F (g.O.Oracle.table c.args.oracle.now) (g.S.Shelf.content c.args.shelf.now)) (g.S.Shelf.faults c.args.shelf.now) (g.O.Oracle.cost c.args.oracle.now) (g.O.Oracle.raised c.args.oracle.now) c.args.steps.now c.args.pool.now) c.args.order.now.items c.args.number p;
+  under_way = λ b asked p. finish-start b asked (moment (shared_setting (g.O.Oracle.spec c.args.oracle.now) (g.O.Oracle.x c.args.oracle.now) g.row.F (g.O.Oracle.table c.args.oracle.now) (g.S.Shelf.content c.args.shelf.now)) (g.S.Shelf.faults c.args.shelf.now) (g.O.Oracle.cost c.args.oracle.now) (g.O.Oracle.raised c.args.oracle.now) c.args.steps.now c.args.pool.now) c.args.order.now.items c.args.number p;
 }
 
 -- a turn less is left
@@ -35,7 +35,7 @@ turns-preserved g c =
       others = λ other differs. c.in_ok-ask.ensures.asked.others other differs ∙ inv.others other differs;
       under_way = λ b asked p.
           let f = inv.under_way b asked p in
-          finish-more b asked (moment (setting (g.O.Oracle.spec c.turns.oracle) (g.O.Oracle.x c.turns.oracle) g.row.F (g.O.Oracle.table c.turns.oracle) (g.S.Shelf.content c.turns.shelf)) (g.S.Shelf.faults c.turns.shelf) (g.O.Oracle.cost c.turns.oracle) (g.O.Oracle.raised c.turns.oracle) c.turns.steps c.turns.pool) (moment (setting (g.O.Oracle.spec c.ask.new.oracle) (g.O.Oracle.x c.ask.new.oracle) g.row.F (g.O.Oracle.table c.ask.new.oracle) (g.S.Shelf.content c.ask.new.shelf)) (g.S.Shelf.faults c.ask.new.shelf) (g.O.Oracle.cost c.ask.new.oracle) (g.O.Oracle.raised c.ask.new.oracle) c.ask.new.steps c.ask.new.pool) c.turns.order.items c.ask.new.order.items c.args.number f c.in_ok-ask.ensures.asked
+          finish-more b asked (moment (shared_setting (g.O.Oracle.spec c.turns.oracle) (g.O.Oracle.x c.turns.oracle) g.row.F (g.O.Oracle.table c.turns.oracle) (g.S.Shelf.content c.turns.shelf)) (g.S.Shelf.faults c.turns.shelf) (g.O.Oracle.cost c.turns.oracle) (g.O.Oracle.raised c.turns.oracle) c.turns.steps c.turns.pool) (moment (shared_setting (g.O.Oracle.spec c.ask.new.oracle) (g.O.Oracle.x c.ask.new.oracle) g.row.F (g.O.Oracle.table c.ask.new.oracle) (g.S.Shelf.content c.ask.new.shelf)) (g.S.Shelf.faults c.ask.new.shelf) (g.O.Oracle.cost c.ask.new.oracle) (g.O.Oracle.raised c.ask.new.oracle) c.ask.new.steps c.ask.new.pool) c.turns.order.items c.ask.new.order.items c.args.number f c.in_ok-ask.ensures.asked
           (c.in_ok-ask.ensures.under_way b (asked ++ replicate f.0 c.args.number) f.1)
           (subst (λ n. c.args.number < n) (sym inv.can.number) c.requires.number)
           (going-at c.turns.pool c.args.number c.result.result.ending c.result.ensures.ending (none-by c.result.result.ending c.is_none.result true c.is_none.ensures c.turns-test.true));
@@ -49,7 +49,7 @@ returns-in_err-ask-clause-broken g c = on-err c.from_residual.result (λ b asked
 pub returns-clause-under_way : goal.returns-clause-under_way
 returns-clause-under_way g c = λ b asked p.
     let inv = c.turns.invariant in
-    finish-end b asked (moment (setting (g.O.Oracle.spec c.turns.oracle) (g.O.Oracle.x c.turns.oracle) g.row.F (g.O.Oracle.table c.turns.oracle) (g.S.Shelf.content c.turns.shelf)) (g.S.Shelf.faults c.turns.shelf) (g.O.Oracle.cost c.turns.oracle) (g.O.Oracle.raised c.turns.oracle) c.turns.steps c.turns.pool) c.turns.order.items c.args.number (inv.under_way b asked p)
+    finish-end b asked (moment (shared_setting (g.O.Oracle.spec c.turns.oracle) (g.O.Oracle.x c.turns.oracle) g.row.F (g.O.Oracle.table c.turns.oracle) (g.S.Shelf.content c.turns.shelf)) (g.S.Shelf.faults c.turns.shelf) (g.O.Oracle.cost c.turns.oracle) (g.O.Oracle.raised c.turns.oracle) c.turns.steps c.turns.pool) c.turns.order.items c.args.number (inv.under_way b asked p)
     (ended-at c.turns.pool c.args.number c.result.result.ending c.result.ensures.ending (subst (λ n. c.args.number < n) (sym inv.can.number) c.requires.number) (none-by c.result.result.ending c.is_none.result false c.is_none.ensures c.turns-test.false))
 
 pub returns-clause-finished : goal.returns-clause-finished

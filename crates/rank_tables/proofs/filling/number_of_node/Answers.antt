@@ -7,7 +7,7 @@ use Rattle.bz_model.specs.Totals.{IsDistinct}
 use Rattle.class_system.specs.Views.{number}
 use Rattle.class_system.proofs.Soundness.{class_in_range, product_parts}
 use Rattle.rank_tables.specs.Capped.{Tells}
-use Rattle.rank_tables.specs.Filling.{class_number}
+use Rattle.rank_tables.specs.Filling.{count_of_class}
 use Rattle.rank_tables.specs.Grids.{number_at, number_of}
 use Rattle.rank_tables.specs.Visits as visits
 use Rattle.rank_tables.specs.TableRule.{tuples}
@@ -68,7 +68,7 @@ unreachable-requires c = two-modes (sym c.requires.unlabelled ∙ elim c.in-Set.
 
 pub returns-in-Class-clause-number : goal.returns-in-Class-clause-number
 returns-in-Class-clause-number c =
-    tells-kind c.args.system.now (λ k m. class_number c.args.classes.now k) (number_at c.args.rows.now) c.args.e.0 c.args.n _ _ (node-is c.args.system.now c.args.e.0 c.node.result.now _ c.node.ensures.node c.in-Class.is)
+    tells-kind c.args.system.now (λ k m. count_of_class c.args.classes.now k) (number_at c.args.rows.now) c.args.e.0 c.args.n _ _ (node-is c.args.system.now c.args.e.0 c.node.result.now _ c.node.ensures.node c.in-Class.is)
     (subst (λ o. Tells (get_or c.args.classes.now c.in-Class.c.0 None) (number_of (unwrap_or o (Some 0)))) (sym (slice_get-get_or c.args.classes.now c.in-Class.c.0 None (let k = class_in_range c.args.system.now c.known.ensures.sound c.args.e.0 c.in-Class.c.0 (node-is c.args.system.now c.args.e.0 c.node.result.now _ c.node.ensures.node c.in-Class.is) in omega arith))) (tells-itself (get_or c.args.classes.now c.in-Class.c.0 None)))
 
 pub returns-in-Product-clause-number : goal.returns-in-Product-clause-number
@@ -77,7 +77,7 @@ returns-in-Product-clause-number c =
     let two = product_parts c.args.system.now c.known.ensures.sound c.args.e.0 _ at in
     let same = mapped-length c.in-Product.parts in
     let items : length c.items-items.result.now ≡ length c.in-Product.parts = ap length c.items-items.ensures.items in
-    tells-kind c.args.system.now (λ k m. class_number c.args.classes.now k) (number_at c.args.rows.now) c.args.e.0 c.args.n _ _ at
+    tells-kind c.args.system.now (λ k m. count_of_class c.args.classes.now k) (number_at c.args.rows.now) c.args.e.0 c.args.n _ _ at
     (subst (λ ps. Tells c.at.result (tuples (number_at c.args.rows.now) (map number ps) c.args.n)) c.items-items.ensures.items
     (subst (λ v. Tells v (tuples (number_at c.args.rows.now) (map number c.items-items.result.now) c.args.n)) (sym c.at.ensures.exact)
     (first-tail (number_at c.args.rows.now) c.set_suffixes.new.self c.items-items.result.now (record { 0 = 0 }) c.args.n (omega arith) c.set_suffixes.ensures.suffixes)))

@@ -2,7 +2,7 @@ use Rattle.std.proofs.Common.{◌≡◌, length, arith, sym, ap, ◌∙◌, subs
 use Rattle.std.proofs.lemmas.List.{length-replicate}
 use Rattle.std.proofs.lemmas.Bool.{OnFalse_at}
 use Rattle.well_founded.proofs.Rows.{written-back}
-use Rattle.rank_tables.specs.Filling.{class_number}
+use Rattle.rank_tables.specs.Filling.{count_of_class}
 use Rattle.rank_tables.proofs.LaidOut.{laid_out}
 use Rattle.rank_tables.proofs.Settling.{AreReachedAt, none-reached, taken-reached, pass-settled, below-kept}
 use Rattle.rank_tables.proofs.Passed.{lesser-kept, unchanged, changed-twice}
@@ -27,7 +27,7 @@ returns-then-not-take_bodies-clause-settled c =
     let lent : length c.deref_mut.result.now ≡ length c.passes.classes.items = ap length c.deref_mut.ensures.value in
     pass-settled c.args.system.now (laid_out c.args.system.now c.known.ensures.sound) c.requires.rankable c.args.n c.pass.new.rows c.pass.new.tails c.deref.result.now
     (below-kept c.args.system.now (laid_out c.args.system.now c.known.ensures.sound) c.args.n c.args.rows.now c.pass.new.rows c.requires.rows.inside (changed-twice c.args.n c.args.rows.now c.passes.rows c.pass.new.rows c.passes.invariant.in_rows c.pass.ensures.rows) c.requires.filled.settled)
-    (subst (λ z. AreReachedAt c.args.system.now c.args.n (class_number z)) (sym c.deref.ensures.value) c.passes.invariant.reached)
+    (subst (λ z. AreReachedAt c.args.system.now c.args.n (count_of_class z)) (sym c.deref.ensures.value) c.passes.invariant.reached)
     c.pass.ensures.passed c.take_bodies.new.classes (omega arith) c.take_bodies.ensures.taken
     (OnFalse_at c.if-not-take_bodies.true c.take_bodies.ensures.same ∙ c.deref_mut.ensures.value ∙ sym c.deref.ensures.value)
 
@@ -42,9 +42,9 @@ passes-preserved c =
       in_rows = changed-twice c.args.n c.args.rows.now c.passes.rows c.pass.new.rows c.passes.invariant.in_rows c.pass.ensures.rows;
       in_tails = changed-twice c.args.n c.args.tails.now c.passes.tails c.pass.new.tails c.passes.invariant.in_tails c.pass.ensures.tails;
       long = ap length back ∙ as_long ∙ lent ∙ long;
-      reached = subst (λ z. AreReachedAt c.args.system.now c.args.n (class_number z)) (sym back)
+      reached = subst (λ z. AreReachedAt c.args.system.now c.args.n (count_of_class z)) (sym back)
           (taken-reached c.args.system.now (laid_out c.args.system.now c.known.ensures.sound) c.requires.rankable c.args.n c.pass.new.rows c.pass.new.tails c.deref.result.now
           (below-kept c.args.system.now (laid_out c.args.system.now c.known.ensures.sound) c.args.n c.args.rows.now c.pass.new.rows c.requires.rows.inside (changed-twice c.args.n c.args.rows.now c.passes.rows c.pass.new.rows c.passes.invariant.in_rows c.pass.ensures.rows) c.requires.filled.settled)
-          (subst (λ z. AreReachedAt c.args.system.now c.args.n (class_number z)) (sym c.deref.ensures.value) c.passes.invariant.reached)
+          (subst (λ z. AreReachedAt c.args.system.now c.args.n (count_of_class z)) (sym c.deref.ensures.value) c.passes.invariant.reached)
           c.pass.ensures.passed c.take_bodies.new.classes (omega arith) c.take_bodies.ensures.taken);
     }

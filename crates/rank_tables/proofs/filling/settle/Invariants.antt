@@ -1,5 +1,5 @@
 use Rattle.std.proofs.Common.{◌≡◌, length}
-use Rattle.rank_tables.specs.Filling.{ChangesSize, class_number}
+use Rattle.rank_tables.specs.Filling.{ChangesSize, count_of_class}
 use Rattle.rank_tables.proofs.Settling.{AreReachedAt}
 use Rattle.rank_tables.proofs.filling.settle.Given as goal
 
@@ -8,5 +8,5 @@ invariant-passes l = record {
   in_rows : ChangesSize l.fn.n l.initial.rows l.rows;
   in_tails : ChangesSize l.fn.n l.initial.tails l.tails;
   long : length l.classes.items ≡ length l.system.names;
-  reached : AreReachedAt l.system l.fn.n (class_number l.classes.items);
+  reached : AreReachedAt l.system l.fn.n (count_of_class l.classes.items);
 }

@@ -7,7 +7,7 @@ use Rattle.class_system.proofs.Soundness.{class_in_range, body_in_range, product
 use Rattle.class_system.proofs.Results.{mapped-at}
 use Rattle.object_store.specs.declared.token.Token.TheVariants as token
 use Rattle.rank_tables.specs.Grids.{number_at, AreSuffixes}
-use Rattle.rank_tables.specs.TableRule.{tuples, entry_of}
+use Rattle.rank_tables.specs.TableRule.{tuples, entry_of_body}
 use Rattle.rank_tables.specs.Unranking.{AreTupleTasks}
 use Rattle.rank_tables.proofs.Cells.{part-small}
 use Rattle.rank_tables.specs.Visits as visits
@@ -96,7 +96,7 @@ pub returns-in_ok-push-in-Class : goal.returns-in_ok-push-in-Class
 returns-in_ok-push-in-Class c = record {
   replaced = class-replaced c.args.system.now (number_at c.args.counts.now) c.args.counts.now.sizes c.args.task c.requires.task c.args.tasks.now c.args.shape.now.items c.in-Class.c.0 (record { node = c.body.result; size = c.args.task.size; number = c.args.task.number }) c.push-in-Class.new.self c.args.shape.now.items (node-is c.args.system.now c.args.task.node.0 c.node.result.now _ c.node.ensures.node c.in-Class.is) c.body.ensures.body
       (body_in_range c.args.system.now c.known.ensures.sound c.in-Class.c.0 c.body.result.0 c.body.ensures.body) refl refl
-      ((c.requires.counted.rows c.args.task.node.0 c.args.task.size _ c.requires.task.fits (node-is c.args.system.now c.args.task.node.0 c.node.result.now _ c.node.ensures.node c.in-Class.is)) ∙ ap (λ o. entry_of (number_at c.args.counts.now) o c.args.task.size) c.body.ensures.body)
+      ((c.requires.counted.rows c.args.task.node.0 c.args.task.size _ c.requires.task.fits (node-is c.args.system.now c.args.task.node.0 c.node.result.now _ c.node.ensures.node c.in-Class.is)) ∙ ap (λ o. entry_of_body (number_at c.args.counts.now) o c.args.task.size) c.body.ensures.body)
       c.in_ok-push-in-Class.ensures.ok refl;
 }
 

@@ -1,8 +1,8 @@
 use Rattle.std.proofs.Common.{◌≡◌, [], take}
 use Rattle.class_system.specs.NodeResults.{node_results, ranged_nodes}
-use Rattle.rounded_map.specs.RoundedMap.{setting, value_down}
+use Rattle.rounded_map.specs.RoundedMap.{setting, node_value_down}
 use Rattle.rounded_map.proofs.lower.eval_lo.Given as goal
 
 -- the values of the nodes so far
 abbrev pub invariant-loop-e : goal.invariant-loop-e
-invariant-loop-e g l = take l.e l.nodes ≡ node_results (value_down (setting l.system l.fn.x.num l.fn.x.den g.row.F) l.classes) [] (take l.e (ranged_nodes l.system))
+invariant-loop-e g l = take l.e l.nodes ≡ node_results (node_value_down (setting l.system l.fn.x.num l.fn.x.den g.row.F) l.classes) [] (take l.e (ranged_nodes l.system))

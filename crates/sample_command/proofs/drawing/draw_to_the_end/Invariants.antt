@@ -1,6 +1,6 @@
 use Rattle.std.proofs.Common.{◌+◌, ◌-◌, ◌≤◌, ℕ, List}
 use Rattle.std.specs.Prelude.{Option, false}
-use Rattle.bit_tape.specs.Tape.{LeavesTape, bits_of}
+use Rattle.bit_tape.specs.Tape.{LeavesTape, bits_of_source}
 use Rattle.bz_model.specs.Oracle.{LeavesOracle}
 use Rattle.sample_command.specs.UnderWay.{CanTurn, IsUnderWay}
 use Rattle.sample_command.proofs.drawing.draw_to_the_end.Given as goal
@@ -14,8 +14,8 @@ invariant-turns g l = record {
   tape : LeavesTape g.S.Shelf.content g.S.Shelf.faults false l.initial.shelf l.shelf l.initial.tape l.tape;
   writes : g.K.Sink.faults l.initial.out ≤ g.K.Sink.faults l.out;
   under_way : (header : List ℕ) (start : Option (List ℕ))
-      → IsUnderWay l.founded (g.O.Oracle.x l.initial.oracle) g.row.F (g.O.Oracle.table l.initial.oracle) l.initial.drawing.limits (bits_of l.initial.tape.source (g.S.Shelf.content l.initial.shelf)) l.initial.drawing l.initial.tape.used (g.O.Oracle.raised l.initial.oracle) header start (g.K.Sink.written l.initial.out) l.initial.page.items
-      → IsUnderWay l.founded (g.O.Oracle.x l.initial.oracle) g.row.F (g.O.Oracle.table l.initial.oracle) l.initial.drawing.limits (bits_of l.initial.tape.source (g.S.Shelf.content l.initial.shelf)) l.drawing l.tape.used (g.O.Oracle.raised l.oracle) header start (g.K.Sink.written l.out) l.page.items;
+      → IsUnderWay l.founded (g.O.Oracle.x l.initial.oracle) g.row.F (g.O.Oracle.table l.initial.oracle) l.initial.drawing.limits (bits_of_source l.initial.tape.source (g.S.Shelf.content l.initial.shelf)) l.initial.drawing l.initial.tape.used (g.O.Oracle.raised l.initial.oracle) header start (g.K.Sink.written l.initial.out) l.initial.page.items
+      → IsUnderWay l.founded (g.O.Oracle.x l.initial.oracle) g.row.F (g.O.Oracle.table l.initial.oracle) l.initial.drawing.limits (bits_of_source l.initial.tape.source (g.S.Shelf.content l.initial.shelf)) l.drawing l.tape.used (g.O.Oracle.raised l.oracle) header start (g.K.Sink.written l.out) l.page.items;
 }
 
 -- as many turns as may still be made, and one that ends

@@ -1,5 +1,5 @@
 use Rattle.std.proofs.Common.{◌≤◌, ◌+◌, List, ℕ, refl, subst}
-use Rattle.bit_tape.specs.Tape.{bits_of}
+use Rattle.bit_tape.specs.Tape.{bits_of_source}
 use Rattle.bit_tape.proofs.Leaving.{counts-kept}
 use Rattle.bz_model.specs.Oracle.{cost_between}
 use Rattle.class_system.specs.Sound.{IsSound}
@@ -35,7 +35,7 @@ returns-in-Ok-draw_to_the_end-clause-ends g c =
     let now = c.draw_to_the_end.new.drawing in
     let used = c.draw_to_the_end.new.tape.used in
     let raised = g.O.Oracle.raised c.draw_to_the_end.new.oracle in
-    let told = bits_of c.args.tape.source (g.S.Shelf.content c.args.shelf.now) in
+    let told = bits_of_source c.args.tape.source (g.S.Shelf.content c.args.shelf.now) in
     let tape = met c.args.tape.source (g.S.Shelf.content c.args.shelf.now) (g.S.Shelf.faults c.args.shelf.now) (g.S.Shelf.faults c.draw_to_the_end.new.shelf) in
     let sound = subst IsSound c.system.ensures.system c.known.ensures.sound in
     let chosen = c.a_table_has_its_chooser.ensures.chooses s g.row.F table (has_empty s) (λ part. c.a_table_has_its_chooser.ensures.computed s part sound) in
@@ -63,7 +63,7 @@ returns-clause-ends g c =
     let now = c.draw_to_the_end.new.drawing in
     let used = c.draw_to_the_end.new.tape.used in
     let raised = g.O.Oracle.raised c.draw_to_the_end.new.oracle in
-    let told = bits_of c.args.tape.source (g.S.Shelf.content c.args.shelf.now) in
+    let told = bits_of_source c.args.tape.source (g.S.Shelf.content c.args.shelf.now) in
     let tape = met c.args.tape.source (g.S.Shelf.content c.args.shelf.now) (g.S.Shelf.faults c.args.shelf.now) (g.S.Shelf.faults c.draw_to_the_end.new.shelf) in
     let sound = subst IsSound c.system.ensures.system c.known.ensures.sound in
     let chosen = c.a_table_has_its_chooser.ensures.chooses s g.row.F table (has_empty s) (λ part. c.a_table_has_its_chooser.ensures.computed s part sound) in

@@ -1,5 +1,5 @@
 use Rattle.std.proofs.Common.{refl, sym, subst, ap, append-nil, []}
-use Rattle.bit_tape.specs.Tape.{TapeState, Belongs, bits_of}
+use Rattle.bit_tape.specs.Tape.{TapeState, BelongsToShelf, bits_of_source}
 use Rattle.size_window.specs.Turn.{entry_of}
 use Rattle.size_window.specs.declared.turned.Turned.TheVariants as answer
 use Rattle.sample_command.specs.UnderWay.{IsUnderWay}
@@ -10,7 +10,7 @@ use Rattle.sample_command.proofs.drawing.turn_once.Goals as goal
 -- what is kept is of class 0
 pub append_entry-requires-clause-is_of : goal.append_entry-requires-clause-is_of
 append_entry-requires-clause-is_of g c =
-    entry-is-of c.args.founded.now (g.O.Oracle.x c.args.oracle.now) g.row.F (g.O.Oracle.table c.args.oracle.now) c.args.drawing.now.limits (bits_of c.args.tape.now.source (g.S.Shelf.content c.args.shelf.now)) c.args.drawing.now c.turn.new.self c.args.tape.now.used c.turn.new.tape.used (answer.Kept c.in-Kept.entry)
+    entry-is-of c.args.founded.now (g.O.Oracle.x c.args.oracle.now) g.row.F (g.O.Oracle.table c.args.oracle.now) c.args.drawing.now.limits (bits_of_source c.args.tape.now.source (g.S.Shelf.content c.args.shelf.now)) c.args.drawing.now c.turn.new.self c.args.tape.now.used c.turn.new.tape.used (answer.Kept c.in-Kept.entry)
     (record { law = c.a_turn_continues_a_trace.ensures; sound = c.requires.can_turn.sound; within = c.requires.can_turn.within; turn = c.in-Kept.ensures.turned (λ e. absurd (cc)); counted = c.in-Kept.ensures.counted })
     (entry_of c.in-Kept.entry) c.requires.can_turn.so_far refl
 
@@ -21,7 +21,7 @@ append_entry-requires-clause-labels g c = c.in-Kept.ensures.labels
 -- the drawing goes on, and nothing was kept
 pub returns-in-Going-clause-under_way : goal.returns-in-Going-clause-under_way
 returns-in-Going-clause-under_way g c = λ header start now p.
-    let told = bits_of c.args.tape.now.source (g.S.Shelf.content c.args.shelf.now) in
+    let told = bits_of_source c.args.tape.now.source (g.S.Shelf.content c.args.shelf.now) in
     subst (IsUnderWay c.args.founded.now (g.O.Oracle.x c.args.oracle.now) g.row.F (g.O.Oracle.table c.args.oracle.now) c.args.drawing.now.limits told c.turn.new.self c.turn.new.tape.used (g.O.Oracle.raised c.turn.new.oracle) header start now) (append-nil c.args.page.now.items)
     (under-way-on c.args.founded.now (g.O.Oracle.x c.args.oracle.now) g.row.F (g.O.Oracle.table c.args.oracle.now) c.args.drawing.now.limits told c.args.drawing.now c.turn.new.self c.args.tape.now.used c.turn.new.tape.used answer.Going
     (record { law = c.a_turn_continues_a_trace.ensures; sound = c.requires.can_turn.sound; within = c.requires.can_turn.within; turn = c.in-Going.ensures.turned (λ e. absurd (cc)); counted = c.in-Going.ensures.counted })
@@ -29,16 +29,16 @@ returns-in-Going-clause-under_way g c = λ header start now p.
 
 pub returns-in-Going-clause-goes_on : goal.returns-in-Going-clause-goes_on
 returns-in-Going-clause-goes_on g c =
-    can-turn-on c.args.founded.now (g.O.Oracle.x c.args.oracle.now) g.row.F (g.O.Oracle.table c.args.oracle.now) c.args.drawing.now.limits (bits_of c.args.tape.now.source (g.S.Shelf.content c.args.shelf.now)) (g.S.Shelf.content c.args.shelf.now) c.args.drawing.now c.turn.new.self c.args.tape.now c.turn.new.tape answer.Going
+    can-turn-on c.args.founded.now (g.O.Oracle.x c.args.oracle.now) g.row.F (g.O.Oracle.table c.args.oracle.now) c.args.drawing.now.limits (bits_of_source c.args.tape.now.source (g.S.Shelf.content c.args.shelf.now)) (g.S.Shelf.content c.args.shelf.now) c.args.drawing.now c.turn.new.self c.args.tape.now c.turn.new.tape answer.Going
     (record { law = c.a_turn_continues_a_trace.ensures; sound = c.requires.can_turn.sound; within = c.requires.can_turn.within; turn = c.in-Going.ensures.turned (λ e. absurd (cc)); counted = c.in-Going.ensures.counted })
     c.requires.can_turn refl refl c.turn.ensures.drawing
-    (subst (λ k. Belongs k c.turn.new.tape) c.turn.ensures.tape.content c.turn.ensures.tape.belongs)
+    (subst (λ k. BelongsToShelf k c.turn.new.tape) c.turn.ensures.tape.content c.turn.ensures.tape.belongs)
 
 -- an object was kept, and its lines are appended
 pub returns-in-Ok-clause-under_way : goal.returns-in-Ok-clause-under_way
 returns-in-Ok-clause-under_way g c =
     let (more, of, lines) = c.in-Ok.ensures.ok in
-    let told = bits_of c.args.tape.now.source (g.S.Shelf.content c.args.shelf.now) in
+    let told = bits_of_source c.args.tape.now.source (g.S.Shelf.content c.args.shelf.now) in
     λ header start now p.
     subst (IsUnderWay c.args.founded.now (g.O.Oracle.x c.args.oracle.now) g.row.F (g.O.Oracle.table c.args.oracle.now) c.args.drawing.now.limits told c.turn.new.self c.turn.new.tape.used (g.O.Oracle.raised c.turn.new.oracle) header start now) (sym lines)
     (under-way-on c.args.founded.now (g.O.Oracle.x c.args.oracle.now) g.row.F (g.O.Oracle.table c.args.oracle.now) c.args.drawing.now.limits told c.args.drawing.now c.turn.new.self c.args.tape.now.used c.turn.new.tape.used (answer.Kept c.in-Kept.entry)
@@ -47,22 +47,22 @@ returns-in-Ok-clause-under_way g c =
 
 pub returns-in-Ok-clause-goes_on : goal.returns-in-Ok-clause-goes_on
 returns-in-Ok-clause-goes_on g c =
-    can-turn-on c.args.founded.now (g.O.Oracle.x c.args.oracle.now) g.row.F (g.O.Oracle.table c.args.oracle.now) c.args.drawing.now.limits (bits_of c.args.tape.now.source (g.S.Shelf.content c.args.shelf.now)) (g.S.Shelf.content c.args.shelf.now) c.args.drawing.now c.turn.new.self c.args.tape.now c.turn.new.tape (answer.Kept c.in-Kept.entry)
+    can-turn-on c.args.founded.now (g.O.Oracle.x c.args.oracle.now) g.row.F (g.O.Oracle.table c.args.oracle.now) c.args.drawing.now.limits (bits_of_source c.args.tape.now.source (g.S.Shelf.content c.args.shelf.now)) (g.S.Shelf.content c.args.shelf.now) c.args.drawing.now c.turn.new.self c.args.tape.now c.turn.new.tape (answer.Kept c.in-Kept.entry)
     (record { law = c.a_turn_continues_a_trace.ensures; sound = c.requires.can_turn.sound; within = c.requires.can_turn.within; turn = c.in-Kept.ensures.turned (λ e. absurd (cc)); counted = c.in-Kept.ensures.counted })
     c.requires.can_turn refl refl c.turn.ensures.drawing
-    (subst (λ k. Belongs k c.turn.new.tape) c.turn.ensures.tape.content c.turn.ensures.tape.belongs)
+    (subst (λ k. BelongsToShelf k c.turn.new.tape) c.turn.ensures.tape.content c.turn.ensures.tape.belongs)
 
 -- an object was kept, and there is no memory for its lines
 pub returns-in-Kept-clause-broken : goal.returns-in-Kept-clause-broken
 returns-in-Kept-clause-broken g c = λ header start now p.
-    broken-on c.args.founded.now (g.O.Oracle.x c.args.oracle.now) g.row.F (g.O.Oracle.table c.args.oracle.now) c.args.drawing.now.limits (bits_of c.args.tape.now.source (g.S.Shelf.content c.args.shelf.now)) c.args.drawing.now c.turn.new.self c.args.tape.now.used c.turn.new.tape.used (answer.Kept c.in-Kept.entry)
+    broken-on c.args.founded.now (g.O.Oracle.x c.args.oracle.now) g.row.F (g.O.Oracle.table c.args.oracle.now) c.args.drawing.now.limits (bits_of_source c.args.tape.now.source (g.S.Shelf.content c.args.shelf.now)) c.args.drawing.now c.turn.new.self c.args.tape.now.used c.turn.new.tape.used (answer.Kept c.in-Kept.entry)
     (record { law = c.a_turn_continues_a_trace.ensures; sound = c.requires.can_turn.sound; within = c.requires.can_turn.within; turn = c.in-Kept.ensures.turned (λ e. absurd (cc)); counted = c.in-Kept.ensures.counted })
     (g.O.Oracle.raised c.args.oracle.now) (g.O.Oracle.raised c.turn.new.oracle) c.turn.ensures.raised header start now c.args.page.now.items p
 
 -- the drawing has come to its end
 pub returns-in-Finished-clause-under_way : goal.returns-in-Finished-clause-under_way
 returns-in-Finished-clause-under_way g c = λ header start now p.
-    let told = bits_of c.args.tape.now.source (g.S.Shelf.content c.args.shelf.now) in
+    let told = bits_of_source c.args.tape.now.source (g.S.Shelf.content c.args.shelf.now) in
     subst (IsUnderWay c.args.founded.now (g.O.Oracle.x c.args.oracle.now) g.row.F (g.O.Oracle.table c.args.oracle.now) c.args.drawing.now.limits told c.turn.new.self c.turn.new.tape.used (g.O.Oracle.raised c.turn.new.oracle) header start now) (append-nil c.args.page.now.items)
     (under-way-on c.args.founded.now (g.O.Oracle.x c.args.oracle.now) g.row.F (g.O.Oracle.table c.args.oracle.now) c.args.drawing.now.limits told c.args.drawing.now c.turn.new.self c.args.tape.now.used c.turn.new.tape.used (answer.Finished c.in-Finished.ending)
     (record { law = c.a_turn_continues_a_trace.ensures; sound = c.requires.can_turn.sound; within = c.requires.can_turn.within; turn = c.in-Finished.ensures.turned (λ e. absurd (cc)); counted = c.in-Finished.ensures.counted })
@@ -77,4 +77,4 @@ returns-in-Finished-clause-goes_on g c =
 pub returns-clause-broken : goal.returns-clause-broken
 returns-clause-broken g c = λ header start now p.
     let still = c.in-OutOfMemory.ensures.no_memory refl in
-    broken-still c.args.founded.now (g.O.Oracle.x c.args.oracle.now) g.row.F (g.O.Oracle.table c.args.oracle.now) c.args.drawing.now.limits (bits_of c.args.tape.now.source (g.S.Shelf.content c.args.shelf.now)) c.args.drawing.now c.turn.new.self c.args.tape.now.used c.turn.new.tape.used (g.O.Oracle.raised c.args.oracle.now) (g.O.Oracle.raised c.turn.new.oracle) header start now c.args.page.now.items still.0 (ap (λ (t : TapeState). t.used) still.1) (ap g.O.Oracle.raised still.2) p
+    broken-still c.args.founded.now (g.O.Oracle.x c.args.oracle.now) g.row.F (g.O.Oracle.table c.args.oracle.now) c.args.drawing.now.limits (bits_of_source c.args.tape.now.source (g.S.Shelf.content c.args.shelf.now)) c.args.drawing.now c.turn.new.self c.args.tape.now.used c.turn.new.tape.used (g.O.Oracle.raised c.args.oracle.now) (g.O.Oracle.raised c.turn.new.oracle) header start now c.args.page.now.items still.0 (ap (λ (t : TapeState). t.used) still.1) (ap g.O.Oracle.raised still.2) p

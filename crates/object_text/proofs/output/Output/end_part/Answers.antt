@@ -2,7 +2,7 @@
 use Rattle.std.specs.Prelude.{slice_set}
 use Rattle.std.proofs.Common.{ap, refl, List, reverse, ◌-◌, ◌∙◌, ◌++◌, ◌∷◌, []}
 use Rattle.bz_model.specs.ObjectText.{PartText}
-use Rattle.object_text.specs.Output.{OpenParts, parted}
+use Rattle.object_text.specs.Output.{OpenParts, part_printed}
 use Rattle.object_text.proofs.LastFrames.{part-in-last}
 use Rattle.object_text.proofs.output.Output.end_part.Goals as goal
 
@@ -15,4 +15,4 @@ returns c =
     let after : List OpenParts = reverse (slice_set c.self.inside.frames.items (c.self.inside.frames.len - 1) (record { least = c.frame.inside.least; text = c.frame.inside.text.items; parts = c.push.new.self.items })) in
     ap (λ t. record { least = 0; text = t; frames = after }) (ap (λ v. v.items) c.replace.ensures.after ∙ c.new.ensures.items)
     ∙ ap (λ fs. record { least = 0; text = []; frames = fs }) put
-    ∙ ap parted c.self.view_is
+    ∙ ap part_printed c.self.view_is

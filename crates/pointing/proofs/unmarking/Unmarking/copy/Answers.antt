@@ -1,6 +1,6 @@
 use Rattle.std.proofs.Common.{◌≡◌, suc, ◌-◌, ◌++◌, arith, ◌∙◌, ap, subst}
 use Rattle.pointing.specs.Writing.{token_at}
-use Rattle.pointing.specs.Unmarking.{due_copies, Passes, Reads}
+use Rattle.pointing.specs.Unmarking.{due_copies, CopiesObjects, ReadsDue}
 use Rattle.pointing.proofs.UnmarkVisits.{copied-read}
 use Rattle.pointing.proofs.unmarking.Unmarking.copy.Goals as goal
 
@@ -18,6 +18,6 @@ returns c =
             (ap (λ z. z.told) c.self.view_is)
             (c.in_ok-write_token.ensures.written ∙ ap (λ z. z.written ++ token_at c.args.visit) c.self.view_is)
             shows
-            (subst (λ m. Passes m (Reads s whole atom old.dues old.told) os old.written) one_more h);
+            (subst (λ m. CopiesObjects m (ReadsDue s whole atom old.dues old.told) os old.written) one_more h);
       };
     }

@@ -2,7 +2,7 @@ use Rattle.std.proofs.Common.{inl, inr, refl, ◌∙◌, ap, subst}
 use Rattle.bz_model.specs.Object.Object.{SeqOf, SetOf, CycOf}
 use Rattle.bz_model.specs.Spec.{Node}
 use Rattle.object_store.specs.Waiting.{Shows}
-use Rattle.pointing.specs.Ways.{opened}
+use Rattle.pointing.specs.Ways.{level_opened}
 use Rattle.pointing.proofs.Searches.{tuple-passed, list-passed}
 use Rattle.pointing.proofs.ways.Search.pass.Goals as goal
 
@@ -11,7 +11,7 @@ returns-in_ok-open-in-Product c = record {
   passed = record {
     on = λ es os ts fs us shows lt.
         tuple-passed c.args.system.now c.args.e.0 es os ts fs us c.args.self.now.levels c.args.self.now.before lt c.parts_of.result (record { levels = c.open.new.self; before = c.self.inside.before })
-        (c.in_ok-open-in-Product.ensures.opened ∙ ap (λ l. opened c.parts_of.result l.levels) c.self.view_is) (ap (λ l. l.before) c.self.view_is) c.parts_of.ensures.exact
+        (c.in_ok-open-in-Product.ensures.opened ∙ ap (λ l. level_opened c.parts_of.result l.levels) c.self.view_is) (ap (λ l. l.before) c.self.view_is) c.parts_of.ensures.exact
         (subst (λ v. Shows c.args.system.now c.args.e.0 es os ts v fs us) c.in-Product.is shows);
   };
 }
@@ -22,7 +22,7 @@ returns-in_ok-open-in-Seq c =
     let e = c.args.e.0 in
     let old = c.args.self.now in
     let parts = c.in-Seq.parts in
-    let opens = c.in_ok-open-in-Seq.ensures.opened ∙ ap (λ l. opened parts l.levels) c.self.view_is in
+    let opens = c.in_ok-open-in-Seq.ensures.opened ∙ ap (λ l. level_opened parts l.levels) c.self.view_is in
     let same = ap (λ l. l.before) c.self.view_is in
     record {
       passed = record {

@@ -1,7 +1,7 @@
 -- A step is the visit of the first pending node.
 use Rattle.std.proofs.Common.{◌≤◌, length, Some, sym, ◌∙◌, ap, subst}
 use Rattle.bz_model.specs.Spec.{Spec}
-use Rattle.bit_tape.specs.Tape.{bits_of}
+use Rattle.bit_tape.specs.Tape.{bits_of_source}
 use Rattle.class_system.specs.Views.{spec_node}
 use Rattle.shape_sampler.specs.State.{SessionBelongs}
 use Rattle.shape_sampler.specs.Answer.{IsVisitOfAll, IsIdealAnswer}
@@ -17,7 +17,7 @@ pub visit_plain-requires-clause-no_union : goal.visit_plain-requires-clause-no_u
 visit_plain-requires-clause-no_union g c = no-union c.system-system.result.now c.in-Some-first.e.0 c.node.result.now c.node.ensures.node c.in_default-node.not-Union
 
 pub returns-clause-exact : goal.returns-clause-exact
-returns-clause-exact g c = λ running. plain-by-bits c.args.founded.now g.row.F (g.O.Oracle.table c.args.oracle.now) (bits_of c.args.tape.now.source (g.S.Shelf.content c.args.shelf.now)) c.args.self.now c.visit_plain.new.self c.visit_plain.result c.args.tape.now.used c.visit_plain.ensures.plain (λ ne. subst (λ (s : Spec). IsVisitOfAll s c.args.self.now c.visit_plain.result c.visit_plain.new.self) c.system-system.ensures.system (c.visit_plain.ensures.exact ne))
+returns-clause-exact g c = λ running. plain-by-bits c.args.founded.now g.row.F (g.O.Oracle.table c.args.oracle.now) (bits_of_source c.args.tape.now.source (g.S.Shelf.content c.args.shelf.now)) c.args.self.now c.visit_plain.new.self c.visit_plain.result c.args.tape.now.used c.visit_plain.ensures.plain (λ ne. subst (λ (s : Spec). IsVisitOfAll s c.args.self.now c.visit_plain.result c.visit_plain.new.self) c.system-system.ensures.system (c.visit_plain.ensures.exact ne))
 
 pub returns-clause-tape : goal.returns-clause-tape
 returns-clause-tape g c = plain-tape g.S.Shelf.content g.S.Shelf.faults c.args.shelf.now c.args.tape.now c.visit_plain.result c.args.self.now.stopped c.visit_plain.ensures.plain c.requires.tape

@@ -4,7 +4,7 @@ use Rattle.class_system.specs.Views.{number}
 use Rattle.bz_model.specs.Spec.{node_at}
 use Rattle.choice_draw.specs.Decision.{union_parts}
 use Rattle.choice_draw.specs.Answer.{OnValue}
-use Rattle.bit_tape.specs.Tape.{LeavesTape, bits_of}
+use Rattle.bit_tape.specs.Tape.{LeavesTape, bits_of_source}
 use Rattle.shape_sampler.specs.State.{SessionState}
 use Rattle.shape_sampler.specs.contracts.session.Session.{the_view}
 use Rattle.shape_sampler.proofs.Union.{settle, answer-leaves, answer-draws, answer-by-bits, answer-session, cell-of, draw-few, draw-fault}
@@ -27,7 +27,7 @@ pub returns-clause-exact : goal.returns-clause-exact
 returns-clause-exact g c =
     let now : SessionState = record { root = c.self.inside.root.0; whole = c.self.inside.whole; pending = c.put_drawn.new.pending.items; tokens = c.put_drawn.new.shape.items; cells = c.put_drawn.new.cells.items; room = c.self.inside.room; stopped = c.stop_of-self-inside.result } in
     let settled = settle c.args.node (map number c.args.parts.now) c.draw_union-drawn.result (the_view c.self.inside) c.args.self.now now c.answer_to-answer.result c.reserve_drawn.new.pending.items c.reserve_drawn.new.shape.items c.reserve_drawn.new.cells.items c.self.view_is refl refl refl c.reserve_drawn.ensures.pending c.reserve_drawn.ensures.tokens c.reserve_drawn.ensures.cells c.put_drawn.ensures.pending c.put_drawn.ensures.tokens c.put_drawn.ensures.cells c.stop_of-self-inside.ensures c.answer_to-answer.ensures in
-    answer-by-bits c.args.node (map number c.args.parts.now) c.args.self.now now c.requires.first c.draw_union-drawn.result c.answer_to-answer.result c.answer_to-answer.ensures settled c.args.system.now c.requires.union g.row.F (g.O.Oracle.table c.args.oracle.now) (bits_of c.args.tape.now.source (g.S.Shelf.content c.args.shelf.now)) c.args.tape.now.used c.draw_union-drawn.new.tape.used c.draw_union-drawn.ensures.drawn
+    answer-by-bits c.args.node (map number c.args.parts.now) c.args.self.now now c.requires.first c.draw_union-drawn.result c.answer_to-answer.result c.answer_to-answer.ensures settled c.args.system.now c.requires.union g.row.F (g.O.Oracle.table c.args.oracle.now) (bits_of_source c.args.tape.now.source (g.S.Shelf.content c.args.shelf.now)) c.args.tape.now.used c.draw_union-drawn.new.tape.used c.draw_union-drawn.ensures.drawn
 
 pub returns-clause-session : goal.returns-clause-session
 returns-clause-session g c = λ b.
@@ -46,4 +46,4 @@ pub returns-clause-tape : goal.returns-clause-tape
 returns-clause-tape g c = subst (λ b. LeavesTape g.S.Shelf.content g.S.Shelf.faults b c.args.shelf.now c.draw_union-drawn.new.shelf c.args.tape.now c.draw_union-drawn.new.tape) (draw-fault c.args.node c.draw_union-drawn.result c.answer_to-answer.result c.args.self.now.stopped c.requires.running c.answer_to-answer.ensures) c.draw_union-drawn.ensures.tape
 
 pub returns-then-is_err-clause-exact : goal.returns-then-is_err-clause-exact
-returns-then-is_err-clause-exact g c = none-given c.args.system.now g.row.F (g.O.Oracle.table c.args.oracle.now) (bits_of c.args.tape.now.source (g.S.Shelf.content c.args.shelf.now)) c.args.self.now _ c.args.tape.now.used
+returns-then-is_err-clause-exact g c = none-given c.args.system.now g.row.F (g.O.Oracle.table c.args.oracle.now) (bits_of_source c.args.tape.now.source (g.S.Shelf.content c.args.shelf.now)) c.args.self.now _ c.args.tape.now.used

@@ -1,6 +1,6 @@
 -- One turn.
 use Rattle.std.proofs.Common.{◌≡◌, ◌<◌, ◌≤◌, length, Some, sym, ◌∙◌, ap, subst, arith}
-use Rattle.bit_tape.specs.Tape.{bits_of}
+use Rattle.bit_tape.specs.Tape.{bits_of_source}
 use Rattle.bz_model.specs.Spec.{Spec}
 use Rattle.class_system.specs.Views.{spec_mode}
 use Rattle.size_window.specs.Drawing.{DrawingState, DrawingBelongs, shape_of, none_waiting}
@@ -14,7 +14,7 @@ use Rattle.size_window.proofs.LabelTurns.{shape-fits, labels-belong, labels-kept
 use Rattle.size_window.proofs.drawing.Drawing.turn.Goals as goal
 
 pub returns-in-Some-clause-turned : goal.returns-in-Some-clause-turned
-returns-in-Some-clause-turned g c = idle-turn c.args.founded.now (g.O.Oracle.x c.args.oracle.now) g.row.F (g.O.Oracle.table c.args.oracle.now) (bits_of c.args.tape.now.source (g.S.Shelf.content c.args.shelf.now)) c.args.self.now c.requires.drawing c.args.tape.now.used c.in-Some.turned c.idle_turn.new.self c.in-Some.ensures
+returns-in-Some-clause-turned g c = idle-turn c.args.founded.now (g.O.Oracle.x c.args.oracle.now) g.row.F (g.O.Oracle.table c.args.oracle.now) (bits_of_source c.args.tape.now.source (g.S.Shelf.content c.args.shelf.now)) c.args.self.now c.requires.drawing c.args.tape.now.used c.in-Some.turned c.idle_turn.new.self c.in-Some.ensures
 
 pub returns-in-Some-clause-drawing : goal.returns-in-Some-clause-drawing
 returns-in-Some-clause-drawing g c = idle-belongs c.args.founded.now (g.O.Oracle.x c.args.oracle.now) c.args.self.now c.requires.drawing c.in-Some.turned c.idle_turn.new.self c.in-Some.ensures
@@ -32,7 +32,7 @@ pub returns-in-Some-take_waiting-clause-turned : goal.returns-in-Some-take_waiti
 returns-in-Some-take_waiting-clause-turned g c =
     let w = left-then c.args.self.now c.idle_turn.new.self c.idle_turn.result c.idle_turn.ensures c.in_default.not-Some in
     let taken = c.in-Some-take_waiting.ensures.taken in
-    let bits = bits_of c.args.tape.now.source (g.S.Shelf.content c.args.shelf.now) in
+    let bits = bits_of_source c.args.tape.now.source (g.S.Shelf.content c.args.shelf.now) in
     let made = shape_of c.in-Some-take_waiting.made in
     let shape : c.args.self.now.waiting ≡ Some (shape_of c.in-Some-take_waiting.made) = ap (λ (d : DrawingState). d.waiting) (sym w.1) ∙ taken.0 in
     let labelled : IsLabelTurn bits made (none_waiting c.args.self.now) c.args.tape.now.used c.label.result c.label.new.self c.label.new.tape.used = subst (λ d. IsLabelTurn bits made d c.args.tape.now.used c.label.result c.label.new.self c.label.new.tape.used) (taken.1 ∙ ap none_waiting w.1) c.label.ensures.labelled in
@@ -42,7 +42,7 @@ pub returns-in-Some-take_waiting-clause-kept : goal.returns-in-Some-take_waiting
 returns-in-Some-take_waiting-clause-kept g c =
     let w = left-then c.args.self.now c.idle_turn.new.self c.idle_turn.result c.idle_turn.ensures c.in_default.not-Some in
     let taken = c.in-Some-take_waiting.ensures.taken in
-    let bits = bits_of c.args.tape.now.source (g.S.Shelf.content c.args.shelf.now) in
+    let bits = bits_of_source c.args.tape.now.source (g.S.Shelf.content c.args.shelf.now) in
     let made = shape_of c.in-Some-take_waiting.made in
     let shape : c.args.self.now.waiting ≡ Some (shape_of c.in-Some-take_waiting.made) = ap (λ (d : DrawingState). d.waiting) (sym w.1) ∙ taken.0 in
     let labelled : IsLabelTurn bits made (none_waiting c.args.self.now) c.args.tape.now.used c.label.result c.label.new.self c.label.new.tape.used = subst (λ d. IsLabelTurn bits made d c.args.tape.now.used c.label.result c.label.new.self c.label.new.tape.used) (taken.1 ∙ ap none_waiting w.1) c.label.ensures.labelled in
@@ -52,7 +52,7 @@ pub returns-in-Some-take_waiting-clause-drawing : goal.returns-in-Some-take_wait
 returns-in-Some-take_waiting-clause-drawing g c =
     let w = left-then c.args.self.now c.idle_turn.new.self c.idle_turn.result c.idle_turn.ensures c.in_default.not-Some in
     let taken = c.in-Some-take_waiting.ensures.taken in
-    let bits = bits_of c.args.tape.now.source (g.S.Shelf.content c.args.shelf.now) in
+    let bits = bits_of_source c.args.tape.now.source (g.S.Shelf.content c.args.shelf.now) in
     let made = shape_of c.in-Some-take_waiting.made in
     let shape : c.args.self.now.waiting ≡ Some (shape_of c.in-Some-take_waiting.made) = ap (λ (d : DrawingState). d.waiting) (sym w.1) ∙ taken.0 in
     let labelled : IsLabelTurn bits made (none_waiting c.args.self.now) c.args.tape.now.used c.label.result c.label.new.self c.label.new.tape.used = subst (λ d. IsLabelTurn bits made d c.args.tape.now.used c.label.result c.label.new.self c.label.new.tape.used) (taken.1 ∙ ap none_waiting w.1) c.label.ensures.labelled in
@@ -117,4 +117,4 @@ returns-clause-turned g c =
     let table = g.O.Oracle.table c.step-answer.new.oracle in
     let outcome = ◌∙◌ {b = outcome_of table c.step-answer.result} c.outcome_by-outcome.ensures (ap (λ t. outcome_of t c.step-answer.result) c.step-answer.ensures.oracle.table) in
     turn-then c.args.founded.now (g.O.Oracle.x c.args.oracle.now) c.args.self.now (the_view c.self.inside) (c.self.view_is ∙ nothing.1 ∙ w.1) c.requires.drawing v c.step-answer.new.self c.step-answer.ensures.session c.step-answer.result c.step-answer.ensures.leaves c.step-answer.ensures.ideal (g.O.Oracle.table c.args.oracle.now) (spec_mode c.mode.result) mode c.outcome_by-outcome.result outcome c.step-answer.new.tape.used c.settle.result c.settle.new.self settled
-    g.row.F (bits_of c.args.tape.now.source (g.S.Shelf.content c.args.shelf.now)) c.args.tape.now.used c.step-answer.ensures.used.0 c.step-answer.ensures.draws c.step-answer.ensures.exact
+    g.row.F (bits_of_source c.args.tape.now.source (g.S.Shelf.content c.args.shelf.now)) c.args.tape.now.used c.step-answer.ensures.used.0 c.step-answer.ensures.draws c.step-answer.ensures.exact
