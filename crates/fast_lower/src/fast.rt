@@ -16,6 +16,7 @@ use bz_model::steps::Steps;
 use class_system::ids::{ClassId, ExprId};
 use newton_upper::Base;
 use oracle_memo::eval_there;
+use rounded_map::laws::bodies_are_nodes;
 use rounded_map::{eval_lo, is_contracting};
 use std::alloc::{AllocError, Global};
 use std::marker::Model;
@@ -97,6 +98,7 @@ impl<const F: u32> Fast<F> {
     {
         let system = founded.system();
         system.known();
+        bodies_are_nodes();
         if let Some(class) = first_zero(&weights) {
             return Err(FastFault::ZeroWeight(class));
         }

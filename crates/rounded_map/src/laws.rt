@@ -1,10 +1,11 @@
-//! Laws of the rounded map: what its values bound, what they are reached by, and that upper values
-//! are monotone.
+//! Laws of the rounded map: where bodies have their values, what values bound, what they are reached
+//! by, and that upper values are monotone.
 //!
 //! Each law is a function without effect, whose clauses hold of all values that they name.
 ghost use Rattle.std.specs.Prelude.{◌≡◌, ℕ, suc, ◌<◌, List, length, replicate, Some, IsTrue, ◌↔◌};
 ghost use Rattle.bz_model.specs.Fraction.{Fraction};
 ghost use Rattle.bz_model.specs.Spec.{Spec};
+ghost use Rattle.class_system.specs.Each.{Each};
 ghost use Rattle.class_system.specs.Sound.{IsSound};
 ghost use Rattle.fixed_enclosure.specs.UpperValues.{AreNoGreater, AreAtMost};
 ghost use Rattle.rounded_map.specs.RoundedMap.{Setting, setting, value_at, repeated, values_down};
@@ -12,6 +13,12 @@ ghost use Rattle.rounded_map.specs.RoundedMap.{values_up, sweep_down, sweep_up, 
 ghost use Rattle.rounded_map.specs.RoundedMap.{IsPostFixed};
 ghost use Rattle.rounded_map.specs.Bounding.{AreAbove, AreAboveWithin, AreBelow, ValuesAbove};
 ghost use Rattle.rounded_map.specs.Bounding.{ValuesAboveWithin, ValuesBelow};
+
+/// The body of each class is one of the nodes, so that it has a value where each node has one.
+pub fn bodies_are_nodes()
+    ensures { (s : Spec) → IsSound s → (bodies : List ℕ) (n : ℕ) → bodies ≡ s.bodies
+        → n ≡ length s.nodes → Each (λ body. body < n) bodies }
+{}
 
 /// Where the entries bound the classes, the upper values bound the nodes. By height: of one height
 /// more; and of height 0 whatever the entries are.

@@ -4,7 +4,6 @@ use Rattle.bz_model.specs.Fraction.{ratio}
 use Rattle.class_system.specs.Views.{number}
 use Rattle.rounded_map.specs.Bounding.{AreBelow}
 use Rattle.rounded_map.specs.RoundedMap.{setting}
-use Rattle.rounded_map.proofs.EachNode.{bodies_inside}
 use Rattle.oracle_memo.proofs.Raising.{written-whole}
 use Rattle.fast_lower.proofs.Checking as checking
 use Rattle.fast_lower.proofs.fast.Fast.check.Goals as goal
@@ -12,7 +11,7 @@ use Rattle.fast_lower.proofs.fast.Fast.check.Goals as goal
 pub first_above_body-requires-clause-bodies : goal.first_above_body-requires-clause-bodies
 first_above_body-requires-clause-bodies g c =
     let s = c.system-system.result.now in
-    bodies_inside s c.known.ensures.sound _ _ c.bodies.ensures.bodies
+    c.bodies_are_nodes.ensures s c.known.ensures.sound _ _ c.bodies.ensures.bodies
     (ap length (c.deref-5.ensures.value ∙ written-whole _ _ _ (omega arith) ∙ c.eval_lo.ensures.values) ∙ checking.length-values_down (setting s c.args.x.num c.args.x.den g.row.F) c.known.ensures.sound c.deref-3.result.now)
 
 pub returns-in-Some-first_above_body-clause-fault : goal.returns-in-Some-first_above_body-clause-fault
