@@ -126,6 +126,7 @@ impl Drawing {
     /// answered exactly where the count of faults of the tape's name rose, by one. The memory of a
     /// turn is taken before its first bit; `OutOfMemory` leaves drawing, tape, oracle and shelf as
     /// they were, and counts no turn.
+    #[inline(always)]
     pub fn turn<const F: u32, O: Oracle<F>, S: Shelf, L: Ledger>(
         &mut self,
         founded: &Founded,
@@ -179,6 +180,9 @@ impl Drawing {
             return self.label(made, tape, shelf);
         }
         let answer = self.session.step(founded, oracle, tape, shelf, steps);
+        if let Stepped::Moved = answer {
+            return self.go_on();
+        }
         let outcome = outcome_by(answer, oracle);
         self.settle(founded.system().mode(), outcome, tape.used())
     }
