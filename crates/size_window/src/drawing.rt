@@ -126,7 +126,6 @@ impl Drawing {
     /// answered exactly where the count of faults of the tape's name rose, by one. The memory of a
     /// turn is taken before its first bit; `OutOfMemory` leaves drawing, tape, oracle and shelf as
     /// they were, and counts no turn.
-    #[inline(always)]
     pub fn turn<const F: u32, O: Oracle<F>, S: Shelf, L: Ledger>(
         &mut self,
         founded: &Founded,
