@@ -51,6 +51,7 @@ impl Pending {
     }
 
     /// Takes memory for at least `more` further runs. What waits stays as it was in any case.
+    #[inline(always)]
     pub fn reserve(&mut self, more: usize) -> Result<(), AllocError>
         ensures items { self.new.items ≡ self.old.items }
         ensures spare { OnOk result (more ≤ self.new.spare) }
@@ -59,6 +60,7 @@ impl Pending {
     }
 
     /// Forgets all that waits. Gives no memory back.
+    #[inline(always)]
     pub fn clear(&mut self)
         ensures items { self.new.items ≡ [] }
         ensures spare { self.old.spare ≤ self.new.spare }
@@ -67,6 +69,7 @@ impl Pending {
     }
 
     /// Whether nothing waits. Takes no memory.
+    #[inline(always)]
     pub fn is_empty(&self) -> bool
         ensures { IsTrue result ↔ (self.now.items ≡ []) }
     {
@@ -74,6 +77,7 @@ impl Pending {
     }
 
     /// The next node; None exactly where nothing waits. Takes no memory.
+    #[inline(always)]
     pub fn first(&self) -> Option<ExprId>
         ensures { option_map number result ≡ slice_get self.now.items 0 }
     {
@@ -82,6 +86,7 @@ impl Pending {
     }
 
     /// Takes the next node; None exactly where nothing waits. Takes no memory.
+    #[inline(always)]
     pub fn pop(&mut self) -> Option<ExprId>
         ensures items { self.old.items ≡ option_to_list (option_map number result)
             ++ self.new.items }
@@ -101,6 +106,7 @@ impl Pending {
     /// Puts a node in front, so many times.
     ///
     /// A refusal leaves what waits as it was, and none comes where there is spare room.
+    #[inline(always)]
     pub fn push(&mut self, node: ExprId, times: u32) -> Result<(), AllocError>
         ensures ok { OnOk result (self.new.items ≡ replicate times node.0 ++ self.old.items) }
         ensures err { OnErr result (self.new.items ≡ self.old.items) }
@@ -116,6 +122,7 @@ impl Pending {
     /// Puts nodes in front, in their order.
     ///
     /// A refusal may leave some of them there, and none comes where there is spare room for each.
+    #[inline(always)]
     pub fn push_all(&mut self, nodes: &[ExprId]) -> Result<(), AllocError>
         ensures ok { OnOk result (self.new.items ≡ map number nodes.now ++ self.old.items) }
         ensures room { length nodes.now ≤ self.old.spare → IsOk result }

@@ -48,6 +48,7 @@ impl Shape {
     }
 
     /// Forgets all tokens. Gives no memory back.
+    #[inline(always)]
     pub fn clear(&mut self)
         ensures items { self.new.items ≡ [] }
         ensures spare { self.old.spare ≤ self.new.spare }
@@ -57,6 +58,7 @@ impl Shape {
     }
 
     /// Takes memory for at least `more` further tokens. The list stays as it was in any case.
+    #[inline(always)]
     pub fn reserve(&mut self, more: usize) -> Result<(), AllocError>
         ensures items { self.new.items ≡ self.old.items }
         ensures spare { OnOk result (more ≤ self.new.spare) }
@@ -66,6 +68,7 @@ impl Shape {
 
     /// Appends a token. A refusal leaves the list as it was, and none comes where there is spare
     /// room.
+    #[inline(always)]
     pub fn push(&mut self, t: Token) -> Result<(), AllocError>
         ensures ok { OnOk result (self.new.items ≡ self.old.items ++ t ∷ []) }
         ensures err { OnErr result (self.new.items ≡ self.old.items) }
@@ -78,6 +81,7 @@ impl Shape {
     }
 
     /// The number of atoms, which is the number of dots. Takes no memory and no walk.
+    #[inline(always)]
     pub fn size(&self) -> u64
         ensures { result ≡ size_of self.now.items }
     {

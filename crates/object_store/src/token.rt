@@ -18,6 +18,7 @@ impl Token {
     ghost use Rattle.object_store.specs.Tokens.{token_size};
 
     /// The number of atoms that the token stands for: one for a dot, none for another.
+    #[inline(always)]
     pub fn atoms(self) -> u64
         ensures { result ≡ token_size self }
     {

@@ -177,6 +177,7 @@ impl<'a, const F: u32> Memo<'a, F> {
     }
 
     /// Raises all levels up to this one. Takes no memory.
+    #[inline(always)]
     pub fn raise_to<L: Ledger>(&mut self, level: u8, steps: &mut Steps<L>)
         requires level { level ≤ 6 }
         ensures raised { self.new ≡ record self.old { raised = max self.old.raised level } }
@@ -190,6 +191,8 @@ impl<'a, const F: u32> Memo<'a, F> {
     }
 
     /// Raises one level more.
+    #[cold]
+    #[inline(never)]
     fn raise_next<L: Ledger>(&mut self, steps: &mut Steps<L>)
         requires below { self.old.raised < 6 }
         ensures next { self.new ≡ record self.old { raised = self.old.raised + 1 } }
@@ -230,10 +233,12 @@ impl<'a, const F: u32> Oracle<F> for Memo<'a, F> {
 
     ghost cost = { λ m. costs };
 
+    #[inline(always)]
     fn raise<L: Ledger>(&mut self, level: u8, steps: &mut Steps<L>) {
         self.raise_to(level, steps);
     }
 
+    #[inline(always)]
     fn bounds(&self, node: u32, level: u8) -> Option<Bounds> {
         if level == 0 || level > self.raised {
             return None;

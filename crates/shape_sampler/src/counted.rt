@@ -22,6 +22,7 @@ use object_store::token::Token;
 use well_founded::examination::Founded;
 
 /// The part of a sequence, set or cycle; None exactly where the node is none of them.
+#[inline(always)]
 pub(crate) fn counted_part(system: &System, node: ExprId) -> Option<ExprId>
     requires in_range { node.0 < length system.now.nodes }
     ensures part { IfSome result (λ part. HasCountedPart system.now node.0 part.0) }

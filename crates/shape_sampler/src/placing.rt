@@ -17,6 +17,7 @@ use object_store::token::Token;
 use std::alloc::AllocError;
 
 /// Appends a token.
+#[inline(always)]
 pub(crate) fn put_token(shape: &mut Shape, token: Token)
     requires { 0 < shape.old.spare }
     ensures { shape.new.items ≡ shape.old.items ++ token ∷ [] }
@@ -28,6 +29,7 @@ pub(crate) fn put_token(shape: &mut Shape, token: Token)
 }
 
 /// Puts nodes in the place of the first pending one.
+#[inline(always)]
 pub(crate) fn replace_first(pending: &mut Pending, nodes: &[ExprId])
     requires spare { length nodes.now ≤ pending.old.spare }
     ensures { (e : ℕ) (rest : List ℕ) → pending.old.items ≡ e ∷ rest
@@ -41,6 +43,7 @@ pub(crate) fn replace_first(pending: &mut Pending, nodes: &[ExprId])
 }
 
 /// The answer after a visit: whether nodes are still pending.
+#[inline(always)]
 pub(crate) fn answer(pending: &Pending) -> Stepped
     ensures { result ≡ answer_for pending.now.items }
 {
@@ -52,6 +55,7 @@ pub(crate) fn answer(pending: &Pending) -> Stepped
 }
 
 /// Takes memory for what a draw puts: one node or a run of equal ones, a token and a cell.
+#[inline(always)]
 pub(crate) fn reserve_drawn(
     pending: &mut Pending,
     shape: &mut Shape,
@@ -70,6 +74,7 @@ pub(crate) fn reserve_drawn(
 }
 
 /// Puts what was drawn at a union: the option's token, its cell and its part.
+#[inline(always)]
 pub(crate) fn put_drawn(
     pending: &mut Pending,
     shape: &mut Shape,
@@ -96,6 +101,7 @@ pub(crate) fn put_drawn(
 }
 
 /// The answer to a draw at a union.
+#[inline(always)]
 pub(crate) fn answer_to(node: ExprId, drawn: Drawn) -> Stepped
     ensures { result ≡ union_answer node drawn }
 {
@@ -108,6 +114,7 @@ pub(crate) fn answer_to(node: ExprId, drawn: Drawn) -> Stepped
 }
 
 /// What an answer leaves a session stopped by.
+#[inline(always)]
 pub(crate) fn stop_of(answer: Stepped) -> Option<Stepped>
     ensures { result ≡ stop_after answer }
 {

@@ -106,6 +106,7 @@ impl Session {
 
     /// Starts an attempt: the body of class 0 is pending, tokens and cells are empty, the room is
     /// whole, and nothing stopped it. A refusal leaves the session as it was.
+    #[inline(always)]
     pub fn begin(&mut self) -> Result<(), AllocError>
         ensures ok { OnOk result (self.new ≡ begun_state self.old) }
         ensures err { OnErr result (self.new ≡ self.old) }
@@ -123,6 +124,7 @@ impl Session {
     }
 
     /// The tokens so far. Takes no memory.
+    #[inline(always)]
     pub fn shape(&self) -> &Shape
         ensures { result.now.items ≡ self.now.tokens }
     {
@@ -137,6 +139,7 @@ impl Session {
     }
 
     /// Whether nodes are pending. Takes no memory.
+    #[inline(always)]
     pub fn pending(&self) -> bool
         ensures { IsTrue result ↔ (self.now.pending ≢ []) }
     {
@@ -145,6 +148,7 @@ impl Session {
 
     /// Moves the tokens and the cells out, where nothing is pending, and leaves both empty. Takes
     /// no memory.
+    #[inline(always)]
     pub fn take_made(&mut self) -> (Shape, Cells)
         requires made { self.old.pending ≡ [] }
         ensures shape { result.0.items ≡ self.old.tokens }
@@ -156,6 +160,24 @@ impl Session {
         let shape = replace(&mut self.shape, Shape::new(self.alloc));
         let cells = replace(&mut self.cells, Cells::new(self.alloc));
         (shape, cells)
+    }
+
+    /// Takes back lists that were moved out, so that later attempts need no new memory for theirs.
+    /// Takes no memory.
+    ///
+    /// Their items are forgotten. Each takes the place of the session's own list exactly where that
+    /// is empty.
+    pub fn take_back(&mut self, mut shape: Shape, mut cells: Cells)
+        ensures { self.new ≡ self.old }
+    {
+        if self.shape.tokens().is_empty() {
+            shape.clear();
+            self.shape = shape;
+        }
+        if self.cells.items().is_empty() {
+            cells.clear();
+            self.cells = cells;
+        }
     }
 
     /// Visits the first pending node, by its kind.
@@ -228,6 +250,7 @@ impl Session {
     }
 
     /// Visits a node that takes no number.
+    #[inline(always)]
     fn visit_plain(&mut self, system: &System, node: ExprId) -> Stepped
         requires in_range { node.0 < length system.now.nodes }
         requires no_union { ¬ IsUnion system.now node.0 }
@@ -254,6 +277,7 @@ impl Session {
     }
 
     /// A neutral leaf adds its token.
+    #[inline(always)]
     fn visit_leaf(&mut self) -> Stepped
         requires running { self.old.stopped ≡ None }
         requires pending { self.old.pending ≢ [] }
@@ -268,6 +292,7 @@ impl Session {
     }
 
     /// An atom adds its token and lowers the room, and is over at room 0.
+    #[inline(always)]
     fn visit_atom(&mut self) -> Stepped
         requires running { self.old.stopped ≡ None }
         requires pending { self.old.pending ≢ [] }
@@ -287,6 +312,7 @@ impl Session {
     }
 
     /// A class puts its body in its place.
+    #[inline(always)]
     fn visit_class(&mut self, body: ExprId) -> Stepped
         requires running { self.old.stopped ≡ None }
         requires pending { self.old.pending ≢ [] }
@@ -300,6 +326,7 @@ impl Session {
     }
 
     /// A product puts its parts in its place, in order.
+    #[inline(always)]
     fn visit_product(&mut self, parts: &[ExprId]) -> Stepped
         requires running { self.old.stopped ≡ None }
         requires pending { self.old.pending ≢ [] }
@@ -368,6 +395,7 @@ impl Session {
     }
 
     /// A sequence, set or cycle draws its number of parts and puts its part in its place so often.
+    #[inline(never)]
     fn visit_counted<const F: u32, O: Oracle<F>, S: Shelf, L: Ledger>(
         &mut self,
         founded: &Founded,

@@ -181,11 +181,24 @@ impl Drawing {
             return self.label(made, tape, shelf);
         }
         let answer = self.session.step(founded, oracle, tape, shelf, steps);
+        if let Stepped::Moved = answer {
+            return self.go_on();
+        }
         let outcome = outcome_by(answer, oracle);
         self.settle(founded.system().mode(), outcome, tape.used())
     }
 
+    /// Takes back a kept object, so that later attempts need no new memory for their tokens and
+    /// cells. Takes no memory.
+    pub fn take_back(&mut self, entry: Entry)
+        ensures { self.new ≡ self.old }
+    {
+        let Entry { shape, cells, .. } = entry;
+        self.session.take_back(shape, cells);
+    }
+
     /// A turn that needs no bit; `None` where a shape is to be labelled or a node to be visited.
+    #[inline(always)]
     fn idle_turn(&mut self) -> Option<Turned>
         requires { self.old.turns ≤ 50000000 }
         ensures { IsIdleTurn self.old result self.new }
@@ -212,6 +225,7 @@ impl Drawing {
     }
 
     /// Ends the drawing.
+    #[inline(always)]
     fn end(&mut self, ending: Ending) -> Turned
         ensures ended { self.new ≡ ended_by self.old ending }
         ensures told { result ≡ Turned.Finished ending }
@@ -221,6 +235,7 @@ impl Drawing {
     }
 
     /// Begins an attempt, in a turn that is counted.
+    #[inline(always)]
     fn begin(&mut self) -> Result<(), AllocError>
         requires { self.old.turns ≤ 50000000 }
         ensures ok { OnOk result (self.new ≡ begun_one self.old) }
@@ -232,16 +247,21 @@ impl Drawing {
     }
 
     /// Takes out the shape that waits for its labels, if one does.
+    #[inline(always)]
     fn take_waiting(&mut self) -> Option<Made>
         ensures taken { IfSome result (λ made. (self.old.waiting ≡ Some (shape_of made))
             × (self.new ≡ none_waiting self.old)) }
         ensures nothing { IfNone result ((self.old.waiting ≡ None) × (self.new ≡ self.old)) }
     {
-        replace(&mut self.waiting, None)
+        match &self.waiting {
+            Some(_) => replace(&mut self.waiting, None),
+            None => None,
+        }
     }
 
     /// Labels a shape that waited and keeps it. Where its labelling is cut short it waits on.
     #[tactic(auto, using(crate::proofs::LabelTurns::nothing_labelled))]
+    #[inline(never)]
     fn label<S: Shelf>(&mut self, mut made: Made, tape: &mut Tape, shelf: &mut S) -> Turned
         requires none_waits { self.old.waiting ≡ None }
         requires size { size_of made.shape.items ≤ 1000000 }
@@ -309,6 +329,7 @@ impl Drawing {
     }
 
     /// Does what a visit left to do, so many tape bits being used.
+    #[inline(always)]
     fn settle(&mut self, mode: Mode, outcome: Outcome, used: u64) -> Turned
         requires { MaySettle outcome self.old }
         ensures { Settles (spec_mode mode) outcome used self.old result self.new }
@@ -326,6 +347,7 @@ impl Drawing {
     }
 
     /// Counts a turn.
+    #[inline(always)]
     fn go_on(&mut self) -> Turned
         requires { self.old.turns < 50000000 }
         ensures turns { self.new ≡ counted self.old }
@@ -336,6 +358,7 @@ impl Drawing {
     }
 
     /// Throws the attempt away, in a turn that is counted.
+    #[inline(always)]
     fn throw_away(&mut self) -> Turned
         requires turns { self.old.turns < 50000000 }
         requires thrown { self.old.thrown < 50000000 }
@@ -349,6 +372,7 @@ impl Drawing {
 
     /// Throws a made shape away where it is below the least size. Else it is kept in unlabelled
     /// mode, and waits for its labels in labelled mode.
+    #[inline(always)]
     fn make(&mut self, mode: Mode, used: u64) -> Turned
         requires { MaySettle Outcome.Made self.old }
         ensures { Settles (spec_mode mode) Outcome.Made used self.old result self.new }
@@ -361,6 +385,7 @@ impl Drawing {
     }
 
     /// Keeps a made shape in unlabelled mode; in labelled mode it waits for its labels.
+    #[inline(always)]
     fn keep_or_wait(&mut self, mode: Mode, made: Made, used: u64) -> Turned
         requires none_waits { self.old.waiting ≡ None }
         requires size { size_of made.shape.items ≤ 1000000 }
@@ -378,6 +403,7 @@ impl Drawing {
     }
 
     /// Lets a made shape wait for its labels.
+    #[inline(always)]
     fn wait(&mut self, made: Made) -> Turned
         ensures waits { self.new ≡ waiting_with self.old (shape_of made) }
         ensures told { result ≡ Turned.Going }
@@ -387,6 +413,7 @@ impl Drawing {
     }
 
     /// Keeps a made shape with these labels, so many tape bits being used.
+    #[inline(always)]
     fn keep(&mut self, made: Made, labels: Option<Labels>, used: u64) -> Entry
         requires size { size_of made.shape.items ≤ 1000000 }
         requires kept { self.old.kept < 100000 }
@@ -412,6 +439,7 @@ impl Drawing {
 }
 
 /// What a visit's answer leaves to do. Of a cell that straddles it tells the bounds of level 6.
+#[inline(always)]
 fn outcome_by<const F: u32, O: Oracle<F>>(answer: Stepped, oracle: &O) -> Outcome
     requires raised { IfStraddles answer
         (λ node. (6 ≤ O.raised oracle.now) × (node.0 < length (O.spec oracle.now).nodes)) }

@@ -14,6 +14,7 @@ pub(crate) struct Made {
 }
 
 /// The place before the bits that cells spell, so many being used after them.
+#[inline(always)]
 pub(crate) fn place_before(used: u64, cells: &[Cell]) -> u64
     ensures { result ≡ used - bits_in cells.now }
 {

@@ -1,10 +1,11 @@
 -- One turn.
-use Rattle.std.proofs.Common.{◌≡◌, ◌<◌, ◌≤◌, length, Some, sym, ◌∙◌, ap, subst, arith}
+use Rattle.std.proofs.Common.{◌≡◌, ◌<◌, ◌≤◌, length, Some, refl, sym, ◌∙◌, ap, subst, arith}
 use Rattle.bit_tape.specs.Tape.{bits_of_source}
 use Rattle.bz_model.specs.Spec.{Spec}
 use Rattle.class_system.specs.Views.{spec_mode}
 use Rattle.size_window.specs.Drawing.{DrawingState, DrawingBelongs, shape_of, none_waiting}
 use Rattle.size_window.specs.Turn.{outcome_of, IfStraddles, Settles}
+use Rattle.size_window.specs.declared.turned.Outcome.TheVariants as outcome
 use Rattle.size_window.specs.LabelTurn.{IsLabelTurn}
 use Rattle.size_window.specs.contracts.drawing.Drawing.{the_view}
 use Rattle.size_window.proofs.Turning.{idle-turn}
@@ -117,4 +118,5 @@ returns-clause-turned g c =
     let table = g.O.Oracle.table c.step-answer.new.oracle in
     let outcome = ◌∙◌ {b = outcome_of table c.step-answer.result} c.outcome_by-outcome.ensures (ap (λ t. outcome_of t c.step-answer.result) c.step-answer.ensures.oracle.table) in
     turn-then c.args.founded.now (g.O.Oracle.x c.args.oracle.now) c.args.self.now (the_view c.self.inside) (c.self.view_is ∙ nothing.1 ∙ w.1) c.requires.drawing v c.step-answer.new.self c.step-answer.ensures.session c.step-answer.result c.step-answer.ensures.leaves c.step-answer.ensures.ideal (g.O.Oracle.table c.args.oracle.now) (spec_mode c.mode.result) mode c.outcome_by-outcome.result outcome c.step-answer.new.tape.used c.settle.result c.settle.new.self settled
-    g.row.F (bits_of_source c.args.tape.now.source (g.S.Shelf.content c.args.shelf.now)) c.args.tape.now.used c.step-answer.ensures.used.0 c.step-answer.ensures.draws c.step-answer.ensures.exact
+use Rattle.std.proofs.Common.{◌≡◌, ◌<◌, ◌≤◌, length, Some, refl, sym, ◌∙◌, ap, subst, arith}
+use Rattle.bit_tape.specs.Tape.{bits_of_source}
