@@ -206,7 +206,10 @@ fn turn_once<const F: u32, O: Oracle<F>, L: Ledger>(
     let mut files = NoFiles;
     match drawing.turn(founded, oracle, tape, &mut files, steps) {
         Turned::Going => Ok(None),
-        Turned::Kept(_entry) => Ok(None),
+        Turned::Kept(entry) => {
+            drawing.take_back(entry);
+            Ok(None)
+        }
         Turned::Finished(ending) => Ok(Some(ending)),
         Turned::OutOfMemory => Err(AllocError),
     }

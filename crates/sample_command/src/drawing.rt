@@ -214,7 +214,10 @@ fn turn_once<const F: u32, O: Oracle<F>, S: Shelf, L: Ledger>(
     match drawing.turn(founded, oracle, tape, shelf, steps) {
         Turned::Going => Ok(None),
         Turned::Kept(entry) => match append_entry(alloc, founded, &entry, page) {
-            Ok(()) => Ok(None),
+            Ok(()) => {
+                drawing.take_back(entry);
+                Ok(None)
+            }
             Err(error) => Err(error),
         },
         Turned::Finished(ending) => Ok(Some(ending)),

@@ -1,8 +1,10 @@
-use Rattle.std.proofs.Common.{refl, ap, subst}
+use Rattle.std.proofs.Common.{refl, sym, ap, subst, None}
 use Rattle.std.specs.Prelude.{Bool}
 use Rattle.bit_tape.specs.Tape.{TapeState, CountsFault, bits_of_source}
 use Rattle.size_window.specs.declared.turned.Turned.TheVariants as answer
 use Rattle.sample_command.proofs.OneTurn.{can-turn-on, at-end, same-fault}
+use Rattle.sample_command.specs.UnderWay.{DrawingGoesOn}
+use Rattle.bulk_command.specs.Running.{IsRunning}
 use Rattle.bulk_command.specs.NoFiles.{empty_files, no_faults}
 use Rattle.bulk_command.proofs.RunTurns.{running-on, still-running}
 use Rattle.bulk_command.proofs.running.turn_once.Goals as goal
@@ -23,15 +25,17 @@ returns-in-Going-clause-goes_on g c =
 -- an object was kept, and is let go
 pub returns-in-Kept-clause-under_way : goal.returns-in-Kept-clause-under_way
 returns-in-Kept-clause-under_way g c = λ p.
-    running-on c.args.founded.now (g.O.Oracle.x c.args.oracle.now) g.row.F (g.O.Oracle.table c.args.oracle.now) c.args.drawing.now.limits c.args.tape.now.source c.args.drawing.now c.turn.new.self c.args.tape.now.used c.turn.new.tape.used (answer.Kept c.in-Kept._entry)
-    (record { law = c.a_turn_continues_a_trace.ensures; sound = c.requires.can_turn.sound; within = c.requires.can_turn.within; turn = c.in-Kept.ensures.turned (λ e. absurd (cc)); counted = c.in-Kept.ensures.counted })
-    (g.O.Oracle.raised c.args.oracle.now) (g.O.Oracle.raised c.turn.new.oracle) c.turn.ensures.raised p
+    subst (λ d. IsRunning c.args.founded.now (g.O.Oracle.x c.args.oracle.now) g.row.F (g.O.Oracle.table c.args.oracle.now) c.args.drawing.now.limits c.args.tape.now.source d c.turn.new.tape.used (g.O.Oracle.raised c.turn.new.oracle)) (sym c.take_back.ensures)
+    (running-on c.args.founded.now (g.O.Oracle.x c.args.oracle.now) g.row.F (g.O.Oracle.table c.args.oracle.now) c.args.drawing.now.limits c.args.tape.now.source c.args.drawing.now c.turn.new.self c.args.tape.now.used c.turn.new.tape.used (answer.Kept c.in-Kept.entry)
+        (record { law = c.a_turn_continues_a_trace.ensures; sound = c.requires.can_turn.sound; within = c.requires.can_turn.within; turn = c.in-Kept.ensures.turned (λ e. absurd (cc)); counted = c.in-Kept.ensures.counted })
+        (g.O.Oracle.raised c.args.oracle.now) (g.O.Oracle.raised c.turn.new.oracle) c.turn.ensures.raised p)
 
 pub returns-in-Kept-clause-goes_on : goal.returns-in-Kept-clause-goes_on
 returns-in-Kept-clause-goes_on g c =
-    can-turn-on c.args.founded.now (g.O.Oracle.x c.args.oracle.now) g.row.F (g.O.Oracle.table c.args.oracle.now) c.args.drawing.now.limits (bits_of_source c.args.tape.now.source empty_files) empty_files c.args.drawing.now c.turn.new.self c.args.tape.now c.turn.new.tape (answer.Kept c.in-Kept._entry)
+    subst (λ d. DrawingGoesOn c.args.founded.now (g.O.Oracle.x c.args.oracle.now) (g.O.Oracle.table c.args.oracle.now) empty_files c.args.drawing.now.limits c.args.drawing.now d c.turn.new.tape None) (sym c.take_back.ensures)
+    (can-turn-on c.args.founded.now (g.O.Oracle.x c.args.oracle.now) g.row.F (g.O.Oracle.table c.args.oracle.now) c.args.drawing.now.limits (bits_of_source c.args.tape.now.source empty_files) empty_files c.args.drawing.now c.turn.new.self c.args.tape.now c.turn.new.tape (answer.Kept c.in-Kept.entry)
     (record { law = c.a_turn_continues_a_trace.ensures; sound = c.requires.can_turn.sound; within = c.requires.can_turn.within; turn = c.in-Kept.ensures.turned (λ e. absurd (cc)); counted = c.in-Kept.ensures.counted })
-    c.requires.can_turn refl refl c.turn.ensures.drawing c.turn.ensures.tape.belongs
+    c.requires.can_turn refl refl c.turn.ensures.drawing c.turn.ensures.tape.belongs)
 
 -- the run has come to its end
 pub returns-in-Finished-clause-under_way : goal.returns-in-Finished-clause-under_way

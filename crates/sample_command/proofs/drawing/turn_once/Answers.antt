@@ -1,8 +1,8 @@
-use Rattle.std.proofs.Common.{refl, sym, subst, ap, append-nil, []}
+use Rattle.std.proofs.Common.{refl, sym, subst, ap, append-nil, [], None}
 use Rattle.bit_tape.specs.Tape.{TapeState, BelongsToShelf, bits_of_source}
 use Rattle.size_window.specs.Turn.{entry_of}
 use Rattle.size_window.specs.declared.turned.Turned.TheVariants as answer
-use Rattle.sample_command.specs.UnderWay.{IsUnderWay}
+use Rattle.sample_command.specs.UnderWay.{DrawingGoesOn, IsUnderWay}
 use Rattle.sample_command.proofs.OneTurn.{entry-is-of, can-turn-on, at-end}
 use Rattle.sample_command.proofs.Turns.{under-way-on, broken-on, broken-still}
 use Rattle.sample_command.proofs.drawing.turn_once.Goals as goal
@@ -40,17 +40,19 @@ returns-in-Ok-clause-under_way g c =
     let (more, of, lines) = c.in-Ok.ensures.ok in
     let told = bits_of_source c.args.tape.now.source (g.S.Shelf.content c.args.shelf.now) in
     λ header start now p.
-    subst (IsUnderWay c.args.founded.now (g.O.Oracle.x c.args.oracle.now) g.row.F (g.O.Oracle.table c.args.oracle.now) c.args.drawing.now.limits told c.turn.new.self c.turn.new.tape.used (g.O.Oracle.raised c.turn.new.oracle) header start now) (sym lines)
+    subst (λ d. IsUnderWay c.args.founded.now (g.O.Oracle.x c.args.oracle.now) g.row.F (g.O.Oracle.table c.args.oracle.now) c.args.drawing.now.limits told d c.turn.new.tape.used (g.O.Oracle.raised c.turn.new.oracle) header start now c.append_entry.new.page.items) (sym c.take_back.ensures)
+    (subst (IsUnderWay c.args.founded.now (g.O.Oracle.x c.args.oracle.now) g.row.F (g.O.Oracle.table c.args.oracle.now) c.args.drawing.now.limits told c.turn.new.self c.turn.new.tape.used (g.O.Oracle.raised c.turn.new.oracle) header start now) (sym lines)
     (under-way-on c.args.founded.now (g.O.Oracle.x c.args.oracle.now) g.row.F (g.O.Oracle.table c.args.oracle.now) c.args.drawing.now.limits told c.args.drawing.now c.turn.new.self c.args.tape.now.used c.turn.new.tape.used (answer.Kept c.in-Kept.entry)
     (record { law = c.a_turn_continues_a_trace.ensures; sound = c.requires.can_turn.sound; within = c.requires.can_turn.within; turn = c.in-Kept.ensures.turned (λ e. absurd (cc)); counted = c.in-Kept.ensures.counted })
-    (g.O.Oracle.raised c.args.oracle.now) (g.O.Oracle.raised c.turn.new.oracle) c.turn.ensures.raised header start now c.args.page.now.items p more of)
+    (g.O.Oracle.raised c.args.oracle.now) (g.O.Oracle.raised c.turn.new.oracle) c.turn.ensures.raised header start now c.args.page.now.items p more of))
 
 pub returns-in-Ok-clause-goes_on : goal.returns-in-Ok-clause-goes_on
 returns-in-Ok-clause-goes_on g c =
-    can-turn-on c.args.founded.now (g.O.Oracle.x c.args.oracle.now) g.row.F (g.O.Oracle.table c.args.oracle.now) c.args.drawing.now.limits (bits_of_source c.args.tape.now.source (g.S.Shelf.content c.args.shelf.now)) (g.S.Shelf.content c.args.shelf.now) c.args.drawing.now c.turn.new.self c.args.tape.now c.turn.new.tape (answer.Kept c.in-Kept.entry)
+    subst (λ d. DrawingGoesOn c.args.founded.now (g.O.Oracle.x c.args.oracle.now) (g.O.Oracle.table c.args.oracle.now) (g.S.Shelf.content c.args.shelf.now) c.args.drawing.now.limits c.args.drawing.now d c.turn.new.tape None) (sym c.take_back.ensures)
+    (can-turn-on c.args.founded.now (g.O.Oracle.x c.args.oracle.now) g.row.F (g.O.Oracle.table c.args.oracle.now) c.args.drawing.now.limits (bits_of_source c.args.tape.now.source (g.S.Shelf.content c.args.shelf.now)) (g.S.Shelf.content c.args.shelf.now) c.args.drawing.now c.turn.new.self c.args.tape.now c.turn.new.tape (answer.Kept c.in-Kept.entry)
     (record { law = c.a_turn_continues_a_trace.ensures; sound = c.requires.can_turn.sound; within = c.requires.can_turn.within; turn = c.in-Kept.ensures.turned (λ e. absurd (cc)); counted = c.in-Kept.ensures.counted })
     c.requires.can_turn refl refl c.turn.ensures.drawing
-    (subst (λ k. BelongsToShelf k c.turn.new.tape) c.turn.ensures.tape.content c.turn.ensures.tape.belongs)
+    (subst (λ k. BelongsToShelf k c.turn.new.tape) c.turn.ensures.tape.content c.turn.ensures.tape.belongs))
 
 -- an object was kept, and there is no memory for its lines
 pub returns-in-Kept-clause-broken : goal.returns-in-Kept-clause-broken

@@ -118,5 +118,42 @@ returns-clause-turned g c =
     let table = g.O.Oracle.table c.step-answer.new.oracle in
     let outcome = ◌∙◌ {b = outcome_of table c.step-answer.result} c.outcome_by-outcome.ensures (ap (λ t. outcome_of t c.step-answer.result) c.step-answer.ensures.oracle.table) in
     turn-then c.args.founded.now (g.O.Oracle.x c.args.oracle.now) c.args.self.now (the_view c.self.inside) (c.self.view_is ∙ nothing.1 ∙ w.1) c.requires.drawing v c.step-answer.new.self c.step-answer.ensures.session c.step-answer.result c.step-answer.ensures.leaves c.step-answer.ensures.ideal (g.O.Oracle.table c.args.oracle.now) (spec_mode c.mode.result) mode c.outcome_by-outcome.result outcome c.step-answer.new.tape.used c.settle.result c.settle.new.self settled
-use Rattle.std.proofs.Common.{◌≡◌, ◌<◌, ◌≤◌, length, Some, refl, sym, ◌∙◌, ap, subst, arith}
-use Rattle.bit_tape.specs.Tape.{bits_of_source}
+    g.row.F (bits_of_source c.args.tape.now.source (g.S.Shelf.content c.args.shelf.now)) c.args.tape.now.used c.step-answer.ensures.used.0 c.step-answer.ensures.draws c.step-answer.ensures.exact
+
+-- a node was visited, and nodes are pending
+pub go_on-requires : goal.go_on-requires
+go_on-requires g c =
+    let w = left-then c.args.self.now c.idle_turn.new.self c.idle_turn.result c.idle_turn.ensures c.in_default.not-Some in
+    let nothing = c.in_default-take_waiting.ensures.nothing in
+    let v = left-visits w.0 (ap (λ (d : DrawingState). d.waiting) (sym w.1) ∙ nothing.0) in
+    let may = may-settle-seen c.args.founded.now (g.O.Oracle.x c.args.oracle.now) c.args.self.now (the_view c.self.inside) (c.self.view_is ∙ nothing.1 ∙ w.1) c.requires.drawing v c.step-answer.new.self c.step-answer.ensures.session c.step-answer.result c.step-answer.ensures.leaves c.step-answer.ensures.ideal (g.O.Oracle.table c.step-answer.new.oracle) outcome.Moved (sym (ap (outcome_of (g.O.Oracle.table c.step-answer.new.oracle)) c.in-Moved.is)) in
+    may.turns
+
+pub returns-in-Moved-clause-drawing : goal.returns-in-Moved-clause-drawing
+returns-in-Moved-clause-drawing g c =
+    let w = left-then c.args.self.now c.idle_turn.new.self c.idle_turn.result c.idle_turn.ensures c.in_default.not-Some in
+    let nothing = c.in_default-take_waiting.ensures.nothing in
+    let v = left-visits w.0 (ap (λ (d : DrawingState). d.waiting) (sym w.1) ∙ nothing.0) in
+    belongs-then c.args.founded.now (g.O.Oracle.x c.args.oracle.now) c.args.self.now (the_view c.self.inside) (c.self.view_is ∙ nothing.1 ∙ w.1) c.requires.drawing v c.step-answer.new.self c.step-answer.ensures.session c.step-answer.result c.step-answer.ensures.leaves c.step-answer.ensures.ideal (g.O.Oracle.table c.step-answer.new.oracle) c.args.founded.now.mode refl outcome.Moved (sym (ap (outcome_of (g.O.Oracle.table c.step-answer.new.oracle)) c.in-Moved.is)) c.step-answer.new.tape.used c.go_on.result c.go_on.new.self (c.go_on.ensures.told, c.go_on.ensures.turns)
+
+pub returns-in-Moved-clause-counted : goal.returns-in-Moved-clause-counted
+returns-in-Moved-clause-counted g c =
+    let w = left-then c.args.self.now c.idle_turn.new.self c.idle_turn.result c.idle_turn.ensures c.in_default.not-Some in
+    let nothing = c.in_default-take_waiting.ensures.nothing in
+    let v = left-visits w.0 (ap (λ (d : DrawingState). d.waiting) (sym w.1) ∙ nothing.0) in
+    counted-then c.args.founded.now (g.O.Oracle.x c.args.oracle.now) c.args.self.now (the_view c.self.inside) (c.self.view_is ∙ nothing.1 ∙ w.1) c.requires.drawing v c.step-answer.new.self c.step-answer.ensures.session c.step-answer.result c.step-answer.ensures.leaves c.step-answer.ensures.ideal (g.O.Oracle.table c.step-answer.new.oracle) c.args.founded.now.mode refl outcome.Moved (sym (ap (outcome_of (g.O.Oracle.table c.step-answer.new.oracle)) c.in-Moved.is)) c.step-answer.new.tape.used c.go_on.result c.go_on.new.self (c.go_on.ensures.told, c.go_on.ensures.turns)
+
+pub returns-in-Moved-clause-kept : goal.returns-in-Moved-clause-kept
+returns-in-Moved-clause-kept g c =
+    let w = left-then c.args.self.now c.idle_turn.new.self c.idle_turn.result c.idle_turn.ensures c.in_default.not-Some in
+    let nothing = c.in_default-take_waiting.ensures.nothing in
+    let v = left-visits w.0 (ap (λ (d : DrawingState). d.waiting) (sym w.1) ∙ nothing.0) in
+    kept-then c.args.founded.now (g.O.Oracle.x c.args.oracle.now) c.args.self.now (the_view c.self.inside) (c.self.view_is ∙ nothing.1 ∙ w.1) c.requires.drawing v c.step-answer.new.self c.step-answer.ensures.session c.step-answer.result c.step-answer.ensures.leaves c.step-answer.ensures.ideal (g.O.Oracle.table c.step-answer.new.oracle) c.args.founded.now.mode refl outcome.Moved (sym (ap (outcome_of (g.O.Oracle.table c.step-answer.new.oracle)) c.in-Moved.is)) c.step-answer.new.tape.used c.go_on.result c.go_on.new.self (c.go_on.ensures.told, c.go_on.ensures.turns)
+
+pub returns-in-Moved-clause-turned : goal.returns-in-Moved-clause-turned
+returns-in-Moved-clause-turned g c =
+    let w = left-then c.args.self.now c.idle_turn.new.self c.idle_turn.result c.idle_turn.ensures c.in_default.not-Some in
+    let nothing = c.in_default-take_waiting.ensures.nothing in
+    let v = left-visits w.0 (ap (λ (d : DrawingState). d.waiting) (sym w.1) ∙ nothing.0) in
+    turn-then c.args.founded.now (g.O.Oracle.x c.args.oracle.now) c.args.self.now (the_view c.self.inside) (c.self.view_is ∙ nothing.1 ∙ w.1) c.requires.drawing v c.step-answer.new.self c.step-answer.ensures.session c.step-answer.result c.step-answer.ensures.leaves c.step-answer.ensures.ideal (g.O.Oracle.table c.args.oracle.now) c.args.founded.now.mode refl outcome.Moved (sym (ap (outcome_of (g.O.Oracle.table c.args.oracle.now)) c.in-Moved.is)) c.step-answer.new.tape.used c.go_on.result c.go_on.new.self (c.go_on.ensures.told, c.go_on.ensures.turns)
+    g.row.F (bits_of_source c.args.tape.now.source (g.S.Shelf.content c.args.shelf.now)) c.args.tape.now.used c.step-answer.ensures.used.0 c.step-answer.ensures.draws c.step-answer.ensures.exact
