@@ -124,9 +124,8 @@ pub fn what_has_no_fast_vector_is_refused()
 {}
 
 /// What can be drawn has no other answer than the text of the drawing over the base's levels and
-/// the
-/// tape's bits, with the status of its end. The lower sweeps of the levels start from zero, or with
-/// `--fast` from the base's fast vector.
+/// the tape's bits, with the status of its end. The lower sweeps of the levels start from zero, or
+/// with `--fast` from the base's fast vector.
 pub fn what_can_be_drawn_is_drawn()
     ensures drawn { (w : World) (s : Spec) (x : Fraction) (F : FractionBits) (fast : Bool)
         (turns : ℕ) (limits : Limits) (base start : List ℕ) (bits : ℕ

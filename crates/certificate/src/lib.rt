@@ -15,8 +15,7 @@
 //!
 //! `verify` makes the tests of `specs/Checks.antt` in order, those of entries by `entry_tests`. Its
 //! verdict (`reason`) tells the first that fails (`specs/Verdicts.antt`); a valid certificate is
-//! sound
-//! (`specs/Soundness.antt`). No clause says that memory suffices.
+//! sound (`specs/Soundness.antt`). No clause says that memory suffices.
 #![tactic(auto)]
 
 pub mod certificate;

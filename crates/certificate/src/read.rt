@@ -53,8 +53,7 @@ impl From<AllocError> for Stop {
 /// The certificate that a text is, to the last byte.
 ///
 /// `BadLine` comes exactly where the text is no certificate's, `OutOfMemory` for want of memory
-/// alone.
-/// The specification isn't looked at.
+/// alone. The specification isn't looked at.
 pub fn read(alloc: Global, bytes: &[u8]) -> Result<Certificate, CertFault>
     ensures ok { IfOk result (IsTextOf bytes.now) }
     ensures err { IfErr result (IsRefusal bytes.now) }

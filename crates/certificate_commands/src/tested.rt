@@ -30,8 +30,7 @@ use std::sync::ledger::Ledger;
 use well_founded::examination::Founded;
 
 /// Reads a specification and judges it, reads a certificate, and tests it against the
-/// specification.
-/// What it gives is a valid certificate.
+/// specification. What it gives is a valid certificate.
 pub(crate) fn verified<S: Shelf, L: Ledger>(
     alloc: Global,
     file: &Word,

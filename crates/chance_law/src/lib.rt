@@ -5,8 +5,7 @@
 //! `specs/Chance.antt`). The roundings are relations with one answer, so the bounds are fixed. The
 //! lower bound times the total of any list of distinct objects of the class is at most the object's
 //! weight; the upper bound is 1, or times the total of some such list at least the weight. No
-//! clause
-//! says that memory suffices.
+//! clause says that memory suffices.
 #![tactic(auto)]
 
 pub mod chance;

@@ -46,11 +46,10 @@ pub struct Redrawn {
 /// Makes an object and its labels from exactly the bits that the cells spell.
 ///
 /// `None` exactly where these bits don't make an object with exactly these cells: where a number
-/// that
-/// is drawn has another cell, a bit is left or one more wanted, 60 bits decide nothing, or the
-/// attempt
-/// is over the session's room. The session may have any attempt before. Takes memory for the bits,
-/// the shape, the labels and their cells. After 2^64 - 1 visits it answers as out of memory.
+/// that is drawn has another cell, a bit is left or one more wanted, 60 bits decide nothing, or the
+/// attempt is over the session's room. The session may have any attempt before. Takes memory for
+/// the bits, the shape, the labels and their cells. After 2^64 - 1 visits it answers as out of
+/// memory.
 pub fn replay<const F: u32, O: Oracle<F>, L: Ledger>(
     alloc: Global,
     founded: &Founded,

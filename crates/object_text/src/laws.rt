@@ -1,6 +1,5 @@
 //! Laws of reading and printing: empty functions whose contracts are theorems over the definitions
-//! of
-//! `specs/Reading.antt`, which the contracts of `read` and `print_labelled` cite.
+//! of `specs/Reading.antt`, which the contracts of `read` and `print_labelled` cite.
 ghost use Rattle.std.specs.Prelude.{◌≡◌, ◌≢◌, ℕ, List, [], Option, None};
 ghost use Rattle.bz_model.specs.Spec.{Spec, Mode};
 ghost use Rattle.bz_model.specs.ObjectText.{HasLabels, AreLabelsOf, object_text};

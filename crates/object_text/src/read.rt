@@ -28,9 +28,8 @@ pub struct ReadObject {
 /// Reads a text as that of an object of a class.
 ///
 /// It takes one step for each byte, and one for each class on the way down to a node that isn't
-/// one.
-/// It takes memory for the tokens and the labels, for one entry for each part of a product and each
-/// list on the way down, and in labelled mode for one mark for each label.
+/// one. It takes memory for the tokens and the labels, for one entry for each part of a product and
+/// each list on the way down, and in labelled mode for one mark for each label.
 pub fn read(
     alloc: Global,
     founded: &Founded,

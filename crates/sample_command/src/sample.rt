@@ -28,8 +28,7 @@ use std::sync::ledger::Ledger;
 use well_founded::examination::Founded;
 
 /// Reads a specification, judges it, searches a base at `x`, and draws objects of its first class.
-/// With
-/// `fast` the lower sweeps start from the base's fast vector, where it has one.
+/// With `fast` the lower sweeps start from the base's fast vector, where it has one.
 pub fn sample<S: Shelf, K: Sink, L: Ledger>(
     alloc: Global,
     file: &Word,

@@ -183,18 +183,15 @@ impl Session {
     /// Visits the first pending node, by its kind.
     ///
     /// A neutral leaf adds `Unit`; an atom adds `Dot` and lowers the room, and is `Overshot` at
-    /// room
-    /// 0; a class puts its body in its place and a product its parts; a union draws its option,
-    /// adds `Pick` and puts that part in its place. A sequence, set or cycle draws its number of
-    /// parts, up to the room left, or to 64 where its part has an object of size 0, adds `Count`
-    /// and
-    /// puts its part in its place so often; it is `Overshot` where every number up to the room is
-    /// passed over. The answer is fixed by the bits that were given and the oracle's table, whether
-    /// the
-    /// shelf tells its content or not. `ReadFault` comes exactly where the count of faults of the
-    /// tape's
-    /// name rose, by one. The memory of a visit is taken before its first bit. After `Straddles`,
-    /// `Ended` or `ReadFault` the session answers the same until `begin`, and touches nothing.
+    /// room 0; a class puts its body in its place and a product its parts; a union draws its
+    /// option, adds `Pick` and puts that part in its place. A sequence, set or cycle draws its
+    /// number of parts, up to the room left, or to 64 where its part has an object of size 0, adds
+    /// `Count` and puts its part in its place so often; it is `Overshot` where every number up to
+    /// the room is passed over. The answer is fixed by the bits that were given and the oracle's
+    /// table, whether the shelf tells its content or not. `ReadFault` comes exactly where the count
+    /// of faults of the tape's name rose, by one. The memory of a visit is taken before its first
+    /// bit. After `Straddles`, `Ended` or `ReadFault` the session answers the same until `begin`,
+    /// and touches nothing.
     pub fn step<const F: u32, O: Oracle<F>, S: Shelf, L: Ledger>(
         &mut self,
         founded: &Founded,

@@ -77,8 +77,7 @@ pub fn a_turn_continues_a_trace()
 {}
 
 /// The cells of a course spell the bits that it used over a tape, in order, wherever the shelf
-/// fails;
-/// each of them is a cell, and after them stand the bits of a number that was left open.
+/// fails; each of them is a cell, and after them stand the bits of a number that was left open.
 pub fn a_course_spells_its_bits()
     ensures { (s : Sampling) (faults : ℕ → Option ℕ) (n : ℕ) → IsSpelled (after s faults n) s.tape }
 {}
