@@ -55,8 +55,8 @@ returns-in-Ok-clause-goes_on g c =
     (subst (λ k. BelongsToShelf k c.turn.new.tape) c.turn.ensures.tape.content c.turn.ensures.tape.belongs))
 
 -- an object was kept, and there is no memory for its lines
-pub returns-in-Kept-clause-broken : goal.returns-in-Kept-clause-broken
-returns-in-Kept-clause-broken g c = λ header start now p.
+pub returns-in-Err-clause-broken : goal.returns-in-Err-clause-broken
+returns-in-Err-clause-broken g c = λ header start now p.
     broken-on c.args.founded.now (g.O.Oracle.x c.args.oracle.now) g.row.F (g.O.Oracle.table c.args.oracle.now) c.args.drawing.now.limits (bits_of_source c.args.tape.now.source (g.S.Shelf.content c.args.shelf.now)) c.args.drawing.now c.turn.new.self c.args.tape.now.used c.turn.new.tape.used (answer.Kept c.in-Kept.entry)
     (record { law = c.a_turn_continues_a_trace.ensures; sound = c.requires.can_turn.sound; within = c.requires.can_turn.within; turn = c.in-Kept.ensures.turned (λ e. absurd (cc)); counted = c.in-Kept.ensures.counted })
     (g.O.Oracle.raised c.args.oracle.now) (g.O.Oracle.raised c.turn.new.oracle) c.turn.ensures.raised header start now c.args.page.now.items p
@@ -76,7 +76,7 @@ returns-in-Finished-clause-goes_on g c =
     (λ e. (c.in-Finished.ensures.done c.requires.can_turn.goes_on).0 e) (λ e. ((c.in-Finished.ensures.turn_limit c.requires.can_turn.goes_on).0 e).1) (c.in-Finished.ensures.undecided c.requires.can_turn.goes_on)
 
 -- a turn had no memory
-pub returns-clause-broken : goal.returns-clause-broken
-returns-clause-broken g c = λ header start now p.
+pub returns-in-OutOfMemory-clause-broken : goal.returns-in-OutOfMemory-clause-broken
+returns-in-OutOfMemory-clause-broken g c = λ header start now p.
     let still = c.in-OutOfMemory.ensures.no_memory refl in
     broken-still c.args.founded.now (g.O.Oracle.x c.args.oracle.now) g.row.F (g.O.Oracle.table c.args.oracle.now) c.args.drawing.now.limits (bits_of_source c.args.tape.now.source (g.S.Shelf.content c.args.shelf.now)) c.args.drawing.now c.turn.new.self c.args.tape.now.used c.turn.new.tape.used (g.O.Oracle.raised c.args.oracle.now) (g.O.Oracle.raised c.turn.new.oracle) header start now c.args.page.now.items still.0 (ap (λ (t : TapeState). t.used) still.1) (ap g.O.Oracle.raised still.2) p
