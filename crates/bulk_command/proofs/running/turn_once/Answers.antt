@@ -27,8 +27,8 @@ pub returns-in-Kept-clause-under_way : goal.returns-in-Kept-clause-under_way
 returns-in-Kept-clause-under_way g c = λ p.
     subst (λ d. IsRunning c.args.founded.now (g.O.Oracle.x c.args.oracle.now) g.row.F (g.O.Oracle.table c.args.oracle.now) c.args.drawing.now.limits c.args.tape.now.source d c.turn.new.tape.used (g.O.Oracle.raised c.turn.new.oracle)) (sym c.take_back.ensures)
     (running-on c.args.founded.now (g.O.Oracle.x c.args.oracle.now) g.row.F (g.O.Oracle.table c.args.oracle.now) c.args.drawing.now.limits c.args.tape.now.source c.args.drawing.now c.turn.new.self c.args.tape.now.used c.turn.new.tape.used (answer.Kept c.in-Kept.entry)
-        (record { law = c.a_turn_continues_a_trace.ensures; sound = c.requires.can_turn.sound; within = c.requires.can_turn.within; turn = c.in-Kept.ensures.turned (λ e. absurd (cc)); counted = c.in-Kept.ensures.counted })
-        (g.O.Oracle.raised c.args.oracle.now) (g.O.Oracle.raised c.turn.new.oracle) c.turn.ensures.raised p)
+    (record { law = c.a_turn_continues_a_trace.ensures; sound = c.requires.can_turn.sound; within = c.requires.can_turn.within; turn = c.in-Kept.ensures.turned (λ e. absurd (cc)); counted = c.in-Kept.ensures.counted })
+    (g.O.Oracle.raised c.args.oracle.now) (g.O.Oracle.raised c.turn.new.oracle) c.turn.ensures.raised p)
 
 pub returns-in-Kept-clause-goes_on : goal.returns-in-Kept-clause-goes_on
 returns-in-Kept-clause-goes_on g c =
