@@ -196,15 +196,29 @@ class Bits:
         raise ValueError("no number is decided")
 
 
+def running_sums(kind, a, one, least, last):
+    """The places from the least to the last with the sums of the lower terms up to each; not those after a power that
+    is 0, since the sums stay the same from there on."""
+    power, total = one, 0
+    for i in range(last + 1):
+        if i:
+            power = power * a // (i * one if kind == "Set" else one)
+        if i >= least:
+            total += power // i if kind == "Cyc" and i else power
+            yield i, min(total, GREATEST)
+            if power == 0:
+                return
+
+
 def number_of_parts(levels, e, room, k, b):
     """The number of parts that the cell decides, None where it is open."""
     kind, (part,), (least, most) = levels.spec[2][e]
     low, high = levels.at(above(b, 10))
     last = room if most is None else min(most, room)
-    terms, upper = terms_low(kind, low[part], levels.one, max(last, 0)), 0
-    for i in range(least, last + 1):
-        if i == most or (k + 1) * high[e] <= min(sum(terms[least:i + 1]), GREATEST) << b:
-            return i if k * low[e] >= upto(levels, kind, high, e, part, least, i - 1) << b else None
+    sums = running_sums(kind, low[part], levels.one, least, last)
+    option = next((i for i, total in sums if (k + 1) * high[e] <= total << b), most if most == last else None)
+    if option is not None:
+        return option if k * low[e] >= upto(levels, kind, high, e, part, least, option - 1) << b else None
     if (most is None or most > room) and k * low[e] >= upto(levels, kind, high, e, part, least, room) << b:
         raise ValueError("the size limit is exceeded")
     return None
