@@ -2,6 +2,7 @@
 from __future__ import annotations
 
 import functools
+import importlib
 import importlib.util
 import os
 import sys
@@ -28,9 +29,20 @@ def program() -> Program:
         raise unittest.SkipTest("no program: build crates/boltz_cli or set BOLTZ")
 
 
+def is_there(module: str) -> bool:
+    """Whether a module can be imported: one whose installation was cut off can't."""
+    if importlib.util.find_spec(module) is None:
+        return False
+    try:
+        importlib.import_module(module)
+    except Exception:
+        return False
+    return True
+
+
 def needs(*modules: str):
-    """Skips a test where one of the modules isn't installed."""
-    absent = [module for module in modules if importlib.util.find_spec(module) is None]
+    """Skips a test where one of the modules isn't installed, or can't be imported."""
+    absent = [module for module in modules if not is_there(module)]
     return unittest.skipIf(absent, "not installed: %s" % ", ".join(absent))
 
 
