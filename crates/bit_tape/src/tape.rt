@@ -96,8 +96,7 @@ impl Tape {
     /// `Ended` comes exactly where all bits of the told content are used, or 2^63 bits were used;
     /// this yields to a failed read. Over a content that isn't told it comes where a read gave no
     /// byte, too. `ReadFault` comes exactly where the count of faults of the tape's name rose in
-    /// this
-    /// call, by one. Both leave the tape as it was. A seeded tape never asks the shelf.
+    /// this call, by one. Both leave the tape as it was. A seeded tape never asks the shelf.
     pub fn next_bit<S: Shelf>(&mut self, shelf: &mut S) -> BitAnswer
         requires belongs { BelongsToShelf (S.content shelf.old) self.old }
         ensures tells { IfSome (bits_of_source self.old.source (S.content shelf.old))

@@ -1,14 +1,14 @@
 -- What a sequence, set or cycle has: lists of the part's objects. With exactly k parts they total the k-th power of the part's value, times the share of k parts.
 use Rattle.std.proofs.Common.{◌≡◌, ℕ, zero, suc, ◌-◌, ◌<◌, ◌≤◌, arith, refl, sym, ◌∙◌, ap, subst, Option, Some, None, replicate}
 use Rattle.std.specs.List.{AllByRecursion}
-use Rattle.bz_model.specs.Fraction.{Fraction, AtMost, times, whole, power}
+use Rattle.bz_model.specs.Fraction.{Fraction, AtMost, times, whole, power, sum_from}
 use Rattle.bz_model.specs.Spec.{Spec, Node, Range, node_at, range_at, IsInRange, IsWithinHigh}
 use Rattle.bz_model.specs.Object.{Object, Objects, none, more, count, Has, HaveEach, HaveAll, ClassHas, Belongs}
 use Rattle.bz_model.specs.Measures.{size, sizes, weight, weights, set_share, cycle_share, share_of}
 use Rattle.bz_model.specs.Totals.{AboveBy, BelowBy, Above, Below}
 use Rattle.bz_model.specs.Ideal.{option_of, Upto, IsGreatestOption}
 use Rattle.bz_model.specs.Making.{IsCounted}
-use Rattle.bz_laws.specs.Terms.{term, sum_from, product_by}
+use Rattle.bz_laws.specs.Terms.{term_of, product_by}
 use Rattle.bz_laws.proofs.Fractions.{AtMost-refl}
 use Rattle.bz_laws.proofs.Samples.{above-along, below-along, above-none, above-scaled, below-scaled, AboveBy-weaker, BelowBy-weaker}
 use Rattle.bz_laws.proofs.Products.{above-each, below-each}
@@ -124,7 +124,7 @@ module _ (s : Spec) (R : ℕ → Object → Type 0) where
           let r = has-counted node part form (range_at s e) o c (known s R e at o h.0) in
           (r.0, (r.2, sym r.1 ∙ h.1))
 
-      pub above-exactly-at : (k : ℕ) → Above x a (HasAt s R part) → Above x (term node a k) (HasExactly k)
+      pub above-exactly-at : (k : ℕ) → Above x a (HasAt s R part) → Above x (term_of node a k) (HasExactly k)
       above-exactly-at k up =
           above-along listed (HasExactly k) (HasList k) (λ o h. (taken-apart k o h).1) (λ o p h j eq. (taken-apart k o h).0 ∙ ap form eq ∙ sym (taken-apart k p j).0) (weight x) (λ os. times (share_of node k) (weights x os)) no_less
           (above-scaled (share_of node k) (above-lists k up))
@@ -139,7 +139,7 @@ module _ (s : Spec) (R : ℕ → Object → Type 0) where
           let n : IsInRange (count os) (range_at s e) = subst (λ j. IsInRange j (range_at s e)) (sym h.1) within in
           (unknown s R e at (form os) (into-counted node part form (range_at s e) os c n h.0), (form-listed node part form os c).1 ∙ h.1)
 
-      pub below-exactly-at : (k : ℕ) → IsInRange k (range_at s e) → Below x a (HasAt s R part) → Below x (term node a k) (HasExactly k)
+      pub below-exactly-at : (k : ℕ) → IsInRange k (range_at s e) → Below x a (HasAt s R part) → Below x (term_of node a k) (HasExactly k)
       below-exactly-at k within down =
           below-along form (HasList k) (HasExactly k) (into-exactly k within) (λ os qs h j eq. sym (form-listed node part form os c).0 ∙ ap listed eq ∙ (form-listed node part form qs c).0) (λ os. times (share_of node k) (weights x os)) (weight x) no_less
           (below-scaled (share_of node k) (below-lists k down))
@@ -155,56 +155,56 @@ module _ (s : Spec) (R : ℕ → Object → Type 0) where
         is-ranged k l h = subst (IsInRange k) (sym ranged) (l, h)
 
         -- its objects of up to i parts: the terms from low to i
-        pub above-upto-at : (i : ℕ) → Above x a (HasAt s R part) → Above x (sum_from (term node a) low (suc i - low)) (HasUpto s R e i)
+        pub above-upto-at : (i : ℕ) → Above x a (HasAt s R part) → Above x (sum_from (term_of node a) low (suc i - low)) (HasUpto s R e i)
         above-upto-at i up =
             AboveBy-weaker (λ o h. let l = (in-range o h.0).0 in let r = h.1 in (h.0, (l, omega arith)))
-            (above-run (weight x) option_of (HasAt s R e) (term node a) (suc i - low) low (λ k inside. above-exactly-at k up))
+            (above-run (weight x) option_of (HasAt s R e) (term_of node a) (suc i - low) low (λ k inside. above-exactly-at k up))
 
-        pub below-upto-at : (i : ℕ) → IsWithinHigh i high → Below x a (HasAt s R part) → Below x (sum_from (term node a) low (suc i - low)) (HasUpto s R e i)
+        pub below-upto-at : (i : ℕ) → IsWithinHigh i high → Below x a (HasAt s R part) → Below x (sum_from (term_of node a) low (suc i - low)) (HasUpto s R e i)
         below-upto-at i fits down =
             BelowBy-weaker (λ o h. let l = h.1.0 in let r = h.1.1 in (h.0, omega arith))
-            (below-run (weight x) option_of (HasAt s R e) (term node a) (suc i - low) low (λ k inside. let l = inside.0 in let r = inside.1 in below-exactly-at k (is-ranged k l (lower k high (omega arith) fits)) down))
+            (below-run (weight x) option_of (HasAt s R e) (term_of node a) (suc i - low) low (λ k inside. let l = inside.0 in let r = inside.1 in below-exactly-at k (is-ranged k l (lower k high (omega arith) fits)) down))
           where
             lower : (k : ℕ) (h : Option ℕ) → k ≤ i → IsWithinHigh i h → IsWithinHigh k h
             lower k None le f = tt
             lower k (Some h) le f = omega arith
 
         -- any number that no sum of terms from low on exceeds bounds the node
-        pub above-counted-at : {f : Fraction} → ((n : ℕ) → AtMost (sum_from (term node a) low n) f) → Above x a (HasAt s R part) → Above x f (HasAt s R e)
+        pub above-counted-at : {f : Fraction} → ((n : ℕ) → AtMost (sum_from (term_of node a) low n) f) → Above x a (HasAt s R part) → Above x f (HasAt s R e)
         above-counted-at {f} sums up =
             AboveBy-weaker (λ o h. (h, (in-range o h).0))
-            (above-from (weight x) option_of (HasAt s R e) (term node a) (λ k. above-exactly-at k up) low f sums)
+            (above-from (weight x) option_of (HasAt s R e) (term_of node a) (λ k. above-exactly-at k up) low f sums)
 
       module _ (low high : ℕ) (ranged : range_at s e ≡ Some (record { low = low; high = Some high })) where
         -- with a high all objects: the terms from low to high
-        pub above-ranged-at : Above x a (HasAt s R part) → Above x (sum_from (term node a) low (suc high - low)) (HasAt s R e)
+        pub above-ranged-at : Above x a (HasAt s R part) → Above x (sum_from (term_of node a) low (suc high - low)) (HasAt s R e)
         above-ranged-at up = AboveBy-weaker (λ o h. (h, (in-range low (Some high) ranged o h).1)) (above-upto-at low (Some high) ranged high up)
 
-        pub below-ranged-at : Below x a (HasAt s R part) → Below x (sum_from (term node a) low (suc high - low)) (HasAt s R e)
+        pub below-ranged-at : Below x a (HasAt s R part) → Below x (sum_from (term_of node a) low (suc high - low)) (HasAt s R e)
         below-ranged-at down = BelowBy-weaker (λ o h. h.0) (below-upto-at low (Some high) ranged high (omega arith) down)
 
       -- without a high each sum of terms from low on is reached
-      pub below-counted-at : (low n : ℕ) → range_at s e ≡ Some (record { low = low; high = None }) → Below x a (HasAt s R part) → Below x (sum_from (term node a) low n) (HasAt s R e)
+      pub below-counted-at : (low n : ℕ) → range_at s e ≡ Some (record { low = low; high = None }) → Below x a (HasAt s R part) → Below x (sum_from (term_of node a) low n) (HasAt s R e)
       below-counted-at low n ranged down =
           BelowBy-weaker (λ o h. h.0)
-          (below-run (weight x) option_of (HasAt s R e) (term node a) n low (λ k inside. below-exactly-at k (is-ranged low None ranged k inside.0 tt) down))
+          (below-run (weight x) option_of (HasAt s R e) (term_of node a) n low (λ k inside. below-exactly-at k (is-ranged low None ranged k inside.0 tt) down))
 
 module _ (s : Spec) (x a : Fraction) (e part : ℕ) (node : Node) (form : Objects → Object) (at : node_at s e ≡ Some node) (c : IsCounted node part form) where
   -- the same for what belongs to the node
-  pub above-exactly : (k : ℕ) → Above x a (Belongs s part) → Above x (term node a k) (λ o. Belongs s e o × (option_of o ≡ k))
+  pub above-exactly : (k : ℕ) → Above x a (Belongs s part) → Above x (term_of node a k) (λ o. Belongs s e o × (option_of o ≡ k))
   above-exactly k up = AboveBy-weaker (λ o h. (belongs-has s e o h.0, h.1)) (above-exactly-at s (ClassBelongs s) x a part e node form at c k (above-has s x part up))
 
-  pub below-exactly : (k : ℕ) → IsInRange k (range_at s e) → Below x a (Belongs s part) → Below x (term node a k) (λ o. Belongs s e o × (option_of o ≡ k))
+  pub below-exactly : (k : ℕ) → IsInRange k (range_at s e) → Below x a (Belongs s part) → Below x (term_of node a k) (λ o. Belongs s e o × (option_of o ≡ k))
   below-exactly k within down = BelowBy-weaker (λ o h. (belongs-of s e o h.0, h.1)) (below-exactly-at s (ClassBelongs s) x a part e node form at c k within (below-has s x part down))
 
   module _ (low : ℕ) (high : Option ℕ) (ranged : range_at s e ≡ Some (record { low = low; high = high })) where
-    pub above-upto : (i : ℕ) → Above x a (Belongs s part) → Above x (sum_from (term node a) low (suc i - low)) (Upto s e i)
+    pub above-upto : (i : ℕ) → Above x a (Belongs s part) → Above x (sum_from (term_of node a) low (suc i - low)) (Upto s e i)
     above-upto i up = AboveBy-weaker (upto-has s e i) (above-upto-at s (ClassBelongs s) x a part e node form at c low high ranged i (above-has s x part up))
 
-    pub below-upto : (i : ℕ) → IsWithinHigh i high → Below x a (Belongs s part) → Below x (sum_from (term node a) low (suc i - low)) (Upto s e i)
+    pub below-upto : (i : ℕ) → IsWithinHigh i high → Below x a (Belongs s part) → Below x (sum_from (term_of node a) low (suc i - low)) (Upto s e i)
     below-upto i fits down = BelowBy-weaker (upto-of s e i) (below-upto-at s (ClassBelongs s) x a part e node form at c low high ranged i fits (below-has s x part down))
 
-    pub above-counted : {f : Fraction} → ((n : ℕ) → AtMost (sum_from (term node a) low n) f) → Above x a (Belongs s part) → Above x f (Belongs s e)
+    pub above-counted : {f : Fraction} → ((n : ℕ) → AtMost (sum_from (term_of node a) low n) f) → Above x a (Belongs s part) → Above x f (Belongs s e)
     above-counted sums up = AboveBy-weaker (belongs-has s e) (above-counted-at s (ClassBelongs s) x a part e node form at c low high ranged sums (above-has s x part up))
 
     -- up to an option below the low there is nothing
@@ -212,13 +212,13 @@ module _ (s : Spec) (x a : Fraction) (e part : ℕ) (node : Node) (form : Object
     none-below-low i lt = above-none (λ o h. let l = (in-range s (ClassBelongs s) x a part e node form at c low high ranged o (belongs-has s e o h.0)).0 in let r = h.1 in absurd (omega arith))
 
   module _ (low high : ℕ) (ranged : range_at s e ≡ Some (record { low = low; high = Some high })) where
-    pub above-ranged : Above x a (Belongs s part) → Above x (sum_from (term node a) low (suc high - low)) (Belongs s e)
+    pub above-ranged : Above x a (Belongs s part) → Above x (sum_from (term_of node a) low (suc high - low)) (Belongs s e)
     above-ranged up = AboveBy-weaker (belongs-has s e) (above-ranged-at s (ClassBelongs s) x a part e node form at c low high ranged (above-has s x part up))
 
-    pub below-ranged : Below x a (Belongs s part) → Below x (sum_from (term node a) low (suc high - low)) (Belongs s e)
+    pub below-ranged : Below x a (Belongs s part) → Below x (sum_from (term_of node a) low (suc high - low)) (Belongs s e)
     below-ranged down = BelowBy-weaker (belongs-of s e) (below-ranged-at s (ClassBelongs s) x a part e node form at c low high ranged (below-has s x part down))
 
-  pub below-counted : (low n : ℕ) → range_at s e ≡ Some (record { low = low; high = None }) → Below x a (Belongs s part) → Below x (sum_from (term node a) low n) (Belongs s e)
+  pub below-counted : (low n : ℕ) → range_at s e ≡ Some (record { low = low; high = None }) → Below x a (Belongs s part) → Below x (sum_from (term_of node a) low n) (Belongs s e)
   below-counted low n ranged down = BelowBy-weaker (belongs-of s e) (below-counted-at s (ClassBelongs s) x a part e node form at c low n ranged (below-has s x part down))
 
 -- k objects of the part make one of the node, for each k of the range

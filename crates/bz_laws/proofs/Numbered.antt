@@ -2,9 +2,8 @@
 use Rattle.std.proofs.Common.{◌≡◌, ℕ, zero, suc, ◌+◌, ◌<◌, ◌≤◌, ◌⊎◌, inl, inr, List, [], ◌∷◌, arith}
 use Rattle.std.specs.List.{AllByRecursion}
 use native.Mathlib.Decide.{ℕ_discrete}
-use Rattle.bz_model.specs.Fraction.{Fraction, AtMost}
+use Rattle.bz_model.specs.Fraction.{Fraction, AtMost, sum_from}
 use Rattle.bz_model.specs.Totals.{AboveBy, BelowBy}
-use Rattle.bz_laws.specs.Terms.{sum_from}
 use Rattle.bz_laws.proofs.Fractions.{AtMost-trans}
 use Rattle.bz_laws.proofs.Samples.{above-none, below-none, above-either, below-either, AboveBy-weaker, BelowBy-weaker, AllByRecursion-weaker, AllByRecursion-both}
 

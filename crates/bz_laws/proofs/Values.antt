@@ -2,13 +2,13 @@
 use Rattle.std.proofs.Common.{◌≡◌, ℕ, zero, suc, ◌-◌, ◌<◌, ◌≤◌, List, [], ◌∷◌, length, arith, refl, subst, Option, Some, None}
 use Rattle.std.specs.Prelude.{slice_get, Bool, IsTrue}
 use Rattle.std.proofs.Math.Decide.{dec_le}
-use Rattle.bz_model.specs.Fraction.{Fraction, AtMost, whole}
+use Rattle.bz_model.specs.Fraction.{Fraction, AtMost, whole, sum_from}
 use Rattle.bz_model.specs.Spec.{Spec, Node, Range, node_at, range_at, body_of, IsInRange}
 use Rattle.bz_model.specs.Object.{Object, Objects, Has, ClassHas, HasWithin, Belongs}
 use Rattle.bz_model.specs.Totals.{Above, Below, total_by}
 use Rattle.bz_model.specs.Ideal.{option_of}
 use Rattle.bz_model.specs.Making.{IsCounted}
-use Rattle.bz_laws.specs.Terms.{term, sum_from, product_by}
+use Rattle.bz_laws.specs.Terms.{term_of, product_by}
 use Rattle.bz_laws.specs.Sound.{EachPart}
 use Rattle.bz_laws.specs.Values.{CoversTerms, CoversRange, CoversNode, Covers, IsReachedByTerms, IsReachedInRange, IsReachedByNode, AreReached}
 use Rattle.bz_laws.proofs.Samples.{AllByRecursion-weaker, AllByRecursion-both, above-none, below-none}
@@ -26,7 +26,7 @@ module _ (s : Spec) (R : ℕ → Object → Type 0) (x : Fraction) where
     above-terms r ranged None eq cover up = above-counted-at s R x a part e node form at c r.low r.high ranged cover up
     above-terms r ranged (Some high) eq cover up =
         let q : range_at s e ≡ Some (record { low = r.low; high = Some high }) = subst (λ h. range_at s e ≡ Some (record { low = r.low; high = h })) eq ranged in
-        above-higher x (sum_from (term node a) r.low (suc high - r.low)) v (HasAt s R e) cover (above-ranged-at s R x a part e node form at c r.low high q up)
+        above-higher x (sum_from (term_of node a) r.low (suc high - r.low)) v (HasAt s R e) cover (above-ranged-at s R x a part e node form at c r.low high q up)
 
     above-range : (r : Option Range) → range_at s e ≡ r → CoversRange node a r v → Above x a (HasAt s R part) → Above x v (HasAt s R e)
     above-range None eq cover up = above-none (λ o h. subst (λ q. IsInRange (option_of o) q) eq (counted-range s R node part form (range_at s e) o c (known s R e at o h)))
@@ -35,10 +35,10 @@ module _ (s : Spec) (R : ℕ → Object → Type 0) (x : Fraction) where
     below-terms : (r : Range) → range_at s e ≡ Some r → (high : Option ℕ) → r.high ≡ high → IsReachedByTerms node a r.low high v → Below x a (HasAt s R part) → Below x v (HasAt s R e)
     below-terms r ranged None eq reach down =
         let q : range_at s e ≡ Some (record { low = r.low; high = None }) = subst (λ h. range_at s e ≡ Some (record { low = r.low; high = h })) eq ranged in
-        below-lower x (sum_from (term node a) r.low reach.0) v (HasAt s R e) reach.1 (below-counted-at s R x a part e node form at c r.low reach.0 q down)
+        below-lower x (sum_from (term_of node a) r.low reach.0) v (HasAt s R e) reach.1 (below-counted-at s R x a part e node form at c r.low reach.0 q down)
     below-terms r ranged (Some high) eq reach down =
         let q : range_at s e ≡ Some (record { low = r.low; high = Some high }) = subst (λ h. range_at s e ≡ Some (record { low = r.low; high = h })) eq ranged in
-        below-lower x (sum_from (term node a) r.low (suc high - r.low)) v (HasAt s R e) reach (below-ranged-at s R x a part e node form at c r.low high q down)
+        below-lower x (sum_from (term_of node a) r.low (suc high - r.low)) v (HasAt s R e) reach (below-ranged-at s R x a part e node form at c r.low high q down)
 
     below-range : (r : Option Range) → range_at s e ≡ r → IsReachedInRange node a r v → Below x a (HasAt s R part) → Below x v (HasAt s R e)
     below-range None eq reach down = below-lower x (whole 0) v (HasAt s R e) reach below-none

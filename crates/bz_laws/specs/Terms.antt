@@ -1,6 +1,6 @@
--- The exact terms of sequences, sets and cycles, and sums and products of fractions.
-use Rattle.std.specs.Prelude.{ℕ, zero, suc, List, [], ◌∷◌}
-use Rattle.bz_model.specs.Fraction.{Fraction, AtMost, plus, times, whole, power}
+-- The exact terms of sequences, sets and cycles, and products of fractions.
+use Rattle.std.specs.Prelude.{ℕ, List, [], ◌∷◌}
+use Rattle.bz_model.specs.Fraction.{Fraction, AtMost, times, whole, power}
 use Rattle.bz_model.specs.Spec.{Node}
 use Rattle.bz_model.specs.Measures.{share_of}
 
@@ -10,13 +10,8 @@ pub record AreEqual (a b : Fraction) : Type 0 where
   pub at_least : AtMost b a
 
 -- The term of k parts at a node: the k-th power of the part's value, times the share of k parts.
-abbrev pub term : Node → Fraction → ℕ → Fraction
-term node a k = times (share_of node k) (power a k)
-
--- The sum of n terms, from the term number j on.
-abbrev pub sum_from : (ℕ → Fraction) → (j n : ℕ) → Fraction
-sum_from f j zero = whole 0
-sum_from f j (suc n) = plus (f j) (sum_from f (suc j) n)
+abbrev pub term_of : Node → Fraction → ℕ → Fraction
+term_of node a k = times (share_of node k) (power a k)
 
 -- The product, over a list of parts, of what the function says of each part.
 abbrev pub product_by : (ℕ → Fraction) → List ℕ → Fraction

@@ -1,22 +1,22 @@
 -- Numbers for the nodes, one for each, that cover or are reached by what the parts' numbers give.
 use Rattle.std.specs.Prelude.{◌≡◌, ℕ, suc, ◌-◌, max, Bool, IsTrue, Option, Some, None}
-use Rattle.bz_model.specs.Fraction.{Fraction, AtMost, whole, units}
+use Rattle.bz_model.specs.Fraction.{Fraction, AtMost, whole, units, sum_from}
 use Rattle.bz_model.specs.Spec.{Spec, Node, Range, node_at, range_at, body_of}
 use Rattle.bz_model.specs.Totals.{total_by}
-use Rattle.bz_laws.specs.Terms.{term, sum_from, product_by}
+use Rattle.bz_laws.specs.Terms.{term_of, product_by}
 use Rattle.bz_laws.specs.Sound.{EachPart}
 
 -- A number covers the terms of a node from low on: without a high it is at least each sum of them,
 -- with a high at least the sum up to it.
 abbrev pub CoversTerms : Node → Fraction → (low : ℕ) → Option ℕ → Fraction → Type 0
-CoversTerms node a low None v = (n : ℕ) → AtMost (sum_from (term node a) low n) v
-CoversTerms node a low (Some high) v = AtMost (sum_from (term node a) low (suc high - low)) v
+CoversTerms node a low None v = (n : ℕ) → AtMost (sum_from (term_of node a) low n) v
+CoversTerms node a low (Some high) v = AtMost (sum_from (term_of node a) low (suc high - low)) v
 
 -- A number is reached by the terms of a node from low on: without a high it is at most some sum of
 -- them, with a high at most the sum up to it.
 abbrev pub IsReachedByTerms : Node → Fraction → (low : ℕ) → Option ℕ → Fraction → Type 0
-IsReachedByTerms node a low None v = (n : ℕ) × AtMost v (sum_from (term node a) low n)
-IsReachedByTerms node a low (Some high) v = AtMost v (sum_from (term node a) low (suc high - low))
+IsReachedByTerms node a low None v = (n : ℕ) × AtMost v (sum_from (term_of node a) low n)
+IsReachedByTerms node a low (Some high) v = AtMost v (sum_from (term_of node a) low (suc high - low))
 
 -- The same where the range may be missing, in which case the node has nothing.
 abbrev pub CoversRange : Node → Fraction → Option Range → Fraction → Type 0

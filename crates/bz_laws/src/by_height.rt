@@ -1,7 +1,7 @@
 //! Laws by height: what the objects of height at most h total, for each kind of node.
 ghost use Rattle.std.specs.Prelude.{◌≡◌, ℕ, suc, ◌-◌, ◌≤◌, ◌↔◌, List, Option, Some, None, take};
 ghost use Rattle.std.specs.List.{AllByRecursion};
-ghost use Rattle.bz_model.specs.Fraction.{Fraction, AtMost, whole};
+ghost use Rattle.bz_model.specs.Fraction.{Fraction, AtMost, whole, sum_from};
 ghost use Rattle.bz_model.specs.Spec.{Spec, Node, node_at, range_at, body_of, IsInRange};
 ghost use Rattle.bz_model.specs.Spec.{IsWithinHigh};
 ghost use Rattle.bz_model.specs.Object.{Object, Objects, HasWithin, Belongs};
@@ -9,7 +9,7 @@ ghost use Rattle.bz_model.specs.Measures.{IsHeight};
 ghost use Rattle.bz_model.specs.Totals.{Above, Below, total_by};
 ghost use Rattle.bz_model.specs.Ideal.{option_of};
 ghost use Rattle.bz_model.specs.Making.{IsCounted};
-ghost use Rattle.bz_laws.specs.Terms.{term, sum_from, product_by};
+ghost use Rattle.bz_laws.specs.Terms.{term_of, product_by};
 
 /// More height is no loss.
 pub fn more_height_is_no_loss()
@@ -111,41 +111,41 @@ pub fn counted_nodes_are_bounded_at_each_height()
     ensures above_exactly { (s : Spec) (x a : Fraction) (h e part k : ℕ) (node : Node)
         (form : Objects → Object) → node_at s e ≡ Some node → IsCounted node part form
         → Above x a (HasWithin s h (Some part))
-        → Above x (term node a k) (λ o. HasWithin s h (Some e) o × (option_of o ≡ k)) }
+        → Above x (term_of node a k) (λ o. HasWithin s h (Some e) o × (option_of o ≡ k)) }
     ensures below_exactly { (s : Spec) (x a : Fraction) (h e part k : ℕ) (node : Node)
         (form : Objects → Object) → node_at s e ≡ Some node → IsCounted node part form
         → IsInRange k (range_at s e) → Below x a (HasWithin s h (Some part))
-        → Below x (term node a k) (λ o. HasWithin s h (Some e) o × (option_of o ≡ k)) }
+        → Below x (term_of node a k) (λ o. HasWithin s h (Some e) o × (option_of o ≡ k)) }
     ensures above_upto { (s : Spec) (x a : Fraction) (h e part low i : ℕ) (high : Option ℕ)
         (node : Node) (form : Objects → Object) → node_at s e ≡ Some node
         → IsCounted node part form → range_at s e ≡ Some (record { low = low; high = high })
         → Above x a (HasWithin s h (Some part))
-        → Above x (sum_from (term node a) low (suc i - low)) (λ o. HasWithin s h (Some e) o ×
+        → Above x (sum_from (term_of node a) low (suc i - low)) (λ o. HasWithin s h (Some e) o ×
         (option_of o ≤ i)) }
     ensures below_upto { (s : Spec) (x a : Fraction) (h e part low i : ℕ) (high : Option ℕ)
         (node : Node) (form : Objects → Object) → node_at s e ≡ Some node
         → IsCounted node part form → range_at s e ≡ Some (record { low = low; high = high })
         → IsWithinHigh i high → Below x a (HasWithin s h (Some part))
-        → Below x (sum_from (term node a) low (suc i - low)) (λ o. HasWithin s h (Some e) o ×
+        → Below x (sum_from (term_of node a) low (suc i - low)) (λ o. HasWithin s h (Some e) o ×
         (option_of o ≤ i)) }
     ensures above_ranged { (s : Spec) (x a : Fraction) (h e part low high : ℕ) (node : Node)
         (form : Objects → Object) → node_at s e ≡ Some node → IsCounted node part form
         → range_at s e ≡ Some (record { low = low; high = Some high })
         → Above x a (HasWithin s h (Some part))
-        → Above x (sum_from (term node a) low (suc high - low)) (HasWithin s h (Some e)) }
+        → Above x (sum_from (term_of node a) low (suc high - low)) (HasWithin s h (Some e)) }
     ensures below_ranged { (s : Spec) (x a : Fraction) (h e part low high : ℕ) (node : Node)
         (form : Objects → Object) → node_at s e ≡ Some node → IsCounted node part form
         → range_at s e ≡ Some (record { low = low; high = Some high })
         → Below x a (HasWithin s h (Some part))
-        → Below x (sum_from (term node a) low (suc high - low)) (HasWithin s h (Some e)) }
+        → Below x (sum_from (term_of node a) low (suc high - low)) (HasWithin s h (Some e)) }
     ensures above_all { (s : Spec) (x a f : Fraction) (h e part low : ℕ) (high : Option ℕ)
         (node : Node) (form : Objects → Object) → node_at s e ≡ Some node
         → IsCounted node part form → range_at s e ≡ Some (record { low = low; high = high })
-        → ((n : ℕ) → AtMost (sum_from (term node a) low n) f)
+        → ((n : ℕ) → AtMost (sum_from (term_of node a) low n) f)
         → Above x a (HasWithin s h (Some part)) → Above x f (HasWithin s h (Some e)) }
     ensures below_all { (s : Spec) (x a : Fraction) (h e part low n : ℕ) (node : Node)
         (form : Objects → Object) → node_at s e ≡ Some node → IsCounted node part form
         → range_at s e ≡ Some (record { low = low; high = None })
         → Below x a (HasWithin s h (Some part))
-        → Below x (sum_from (term node a) low n) (HasWithin s h (Some e)) }
+        → Below x (sum_from (term_of node a) low n) (HasWithin s h (Some e)) }
 {}

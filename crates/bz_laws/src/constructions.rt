@@ -2,14 +2,14 @@
 ghost use Rattle.std.specs.Prelude.{◌≡◌, ℕ, suc, ◌-◌, ◌<◌, ◌≤◌, max, min, List, length, take};
 ghost use Rattle.std.specs.Prelude.{Option, Some, None, slice_get, sum_by};
 ghost use Rattle.std.specs.List.{AllByRecursion};
-ghost use Rattle.bz_model.specs.Fraction.{Fraction, AtMost, units, whole};
+ghost use Rattle.bz_model.specs.Fraction.{Fraction, AtMost, units, whole, sum_from};
 ghost use Rattle.bz_model.specs.Spec.{Spec, Node, Range, node_at, range_at, body_of, IsInRange};
 ghost use Rattle.bz_model.specs.Spec.{IsWithinHigh};
 ghost use Rattle.bz_model.specs.Object.{Object, Objects, Belongs};
 ghost use Rattle.bz_model.specs.Totals.{Above, Below, total_by};
 ghost use Rattle.bz_model.specs.Ideal.{option_of, Upto};
 ghost use Rattle.bz_model.specs.Making.{IsCounted};
-ghost use Rattle.bz_laws.specs.Terms.{term, sum_from, product_by};
+ghost use Rattle.bz_laws.specs.Terms.{term_of, product_by};
 
 /// A neutral leaf totals 1.
 pub fn neutral_leaves_total_one()
@@ -77,11 +77,11 @@ pub fn counted_nodes_are_bounded_by_powers()
     ensures above { (s : Spec) (x a : Fraction) (e part k : ℕ) (node : Node)
         (form : Objects → Object) → node_at s e ≡ Some node → IsCounted node part form
         → Above x a (Belongs s part)
-        → Above x (term node a k) (λ o. Belongs s e o × (option_of o ≡ k)) }
+        → Above x (term_of node a k) (λ o. Belongs s e o × (option_of o ≡ k)) }
     ensures below { (s : Spec) (x a : Fraction) (e part k : ℕ) (node : Node)
         (form : Objects → Object) → node_at s e ≡ Some node → IsCounted node part form
         → IsInRange k (range_at s e) → Below x a (Belongs s part)
-        → Below x (term node a k) (λ o. Belongs s e o × (option_of o ≡ k)) }
+        → Below x (term_of node a k) (λ o. Belongs s e o × (option_of o ≡ k)) }
 {}
 
 /// The objects of up to i parts are bounded by the sum of the terms from the range's low to i.
@@ -89,12 +89,12 @@ pub fn counted_nodes_up_to_an_option_are_bounded_by_sums()
     ensures above { (s : Spec) (x a : Fraction) (e part low i : ℕ) (high : Option ℕ) (node : Node)
         (form : Objects → Object) → node_at s e ≡ Some node → IsCounted node part form
         → range_at s e ≡ Some (record { low = low; high = high }) → Above x a (Belongs s part)
-        → Above x (sum_from (term node a) low (suc i - low)) (Upto s e i) }
+        → Above x (sum_from (term_of node a) low (suc i - low)) (Upto s e i) }
     ensures below { (s : Spec) (x a : Fraction) (e part low i : ℕ) (high : Option ℕ) (node : Node)
         (form : Objects → Object) → node_at s e ≡ Some node → IsCounted node part form
         → range_at s e ≡ Some (record { low = low; high = high }) → IsWithinHigh i high
         → Below x a (Belongs s part)
-        → Below x (sum_from (term node a) low (suc i - low)) (Upto s e i) }
+        → Below x (sum_from (term_of node a) low (suc i - low)) (Upto s e i) }
 {}
 
 /// With a high a sequence, set or cycle is bounded by the sum of the terms from low to high.
@@ -103,12 +103,12 @@ pub fn counted_nodes_with_a_high_are_bounded_by_a_sum()
         (form : Objects → Object) → node_at s e ≡ Some node → IsCounted node part form
         → range_at s e ≡ Some (record { low = low; high = Some high })
         → Above x a (Belongs s part)
-        → Above x (sum_from (term node a) low (suc high - low)) (Belongs s e) }
+        → Above x (sum_from (term_of node a) low (suc high - low)) (Belongs s e) }
     ensures below { (s : Spec) (x a : Fraction) (e part low high : ℕ) (node : Node)
         (form : Objects → Object) → node_at s e ≡ Some node → IsCounted node part form
         → range_at s e ≡ Some (record { low = low; high = Some high })
         → Below x a (Belongs s part)
-        → Below x (sum_from (term node a) low (suc high - low)) (Belongs s e) }
+        → Below x (sum_from (term_of node a) low (suc high - low)) (Belongs s e) }
 {}
 
 /// What no sum of terms from low on exceeds bounds a sequence, set or cycle, with a high or
@@ -117,12 +117,12 @@ pub fn counted_nodes_are_bounded_by_all_sums()
     ensures above { (s : Spec) (x a f : Fraction) (e part low : ℕ) (high : Option ℕ) (node : Node)
         (form : Objects → Object) → node_at s e ≡ Some node → IsCounted node part form
         → range_at s e ≡ Some (record { low = low; high = high })
-        → ((n : ℕ) → AtMost (sum_from (term node a) low n) f) → Above x a (Belongs s part)
+        → ((n : ℕ) → AtMost (sum_from (term_of node a) low n) f) → Above x a (Belongs s part)
         → Above x f (Belongs s e) }
     ensures below { (s : Spec) (x a : Fraction) (e part low n : ℕ) (node : Node)
         (form : Objects → Object) → node_at s e ≡ Some node → IsCounted node part form
         → range_at s e ≡ Some (record { low = low; high = None }) → Below x a (Belongs s part)
-        → Below x (sum_from (term node a) low n) (Belongs s e) }
+        → Below x (sum_from (term_of node a) low n) (Belongs s e) }
 {}
 
 /// Up to an option below its low a sequence, set or cycle has nothing, so every number bounds it.

@@ -1,33 +1,28 @@
 -- The options of a counted node are sound where the table is.
 use Rattle.std.proofs.Common.{◌≡◌, ℕ, zero, suc, ◌+◌, ◌-◌, ◌<◌, ◌≤◌, length, arith, refl, sym, ap, subst, Option, Some, None}
 use Rattle.bz_model.specs.declared.cell.Bounds.{Bounds}
-use Rattle.bz_model.specs.Fraction.{Fraction, AtMost, plus, units}
+use Rattle.bz_model.specs.Fraction.{Fraction, AtMost, plus, units, sum_from}
 use Rattle.bz_model.specs.Spec.{Spec, Node, Range, range_at, IsWithinHigh}
 use Rattle.bz_model.specs.Totals.{Above, Below}
 use Rattle.bz_model.specs.Ideal.{Upto, IsGreatestOption}
 use Rattle.bz_model.specs.Oracle.{IsSoundTable, Encloses}
-use Rattle.bz_laws.specs.Terms as laws
-use Rattle.bz_laws.specs.Terms.{term}
+use Rattle.bz_laws.specs.Terms.{term_of}
 use Rattle.bz_laws.proofs.Samples.{AboveBy-weaker}
 use Rattle.bz_laws.proofs.Bounds.{below-lower, above-higher}
 use Rattle.bz_laws.proofs.Counted.{above-upto, below-upto, high-greatest, not-below-low}
 use Rattle.series_bounds.specs.Series.{Kind, part_down, part_up}
-use Rattle.series_bounds.specs.ExactSums.{exact, sum_from}
+use Rattle.series_bounds.specs.ExactSums.{exact}
 use Rattle.series_bounds.proofs.Rules.{part_down-reached, part_up-cases}
 use Rattle.choice_draw.proofs.SoundOptions.{AreSound}
 use Rattle.count_draw.specs.Kinds.{counted_node}
 use Rattle.count_draw.specs.Decision.{top_option, counted_options}
 use Rattle.count_draw.proofs.CountedNodes.{IsCountedAs, form_of, is_counted, node_inside}
 
-same-sum : (g : ℕ → Fraction) (j n : ℕ) → laws.sum_from g j n ≡ sum_from g j n
-same-sum g j zero = refl
-same-sum g j (suc n) = ap (plus (g j)) (same-sum g (suc j) n)
-
 -- the sums of a node's terms are those of its series
-same-terms : (kind : Kind) (part : ℕ) (a : Fraction) (j n : ℕ) → laws.sum_from (term (counted_node kind part) a) j n ≡ sum_from (exact kind a) j n
-same-terms Kind.Seq part a j n = same-sum (term (Node.Seq part) a) j n
-same-terms Kind.Set part a j n = same-sum (term (Node.Set part) a) j n
-same-terms Kind.Cyc part a j n = same-sum (term (Node.Cyc part) a) j n
+same-terms : (kind : Kind) (part : ℕ) (a : Fraction) (j n : ℕ) → sum_from (term_of (counted_node kind part) a) j n ≡ sum_from (exact kind a) j n
+same-terms Kind.Seq part a j n = refl
+same-terms Kind.Set part a j n = refl
+same-terms Kind.Cyc part a j n = refl
 
 -- an option up to the greatest is within the high
 pub within-top : (high : Option ℕ) (low room i : ℕ) → low ≤ i → i < low + (suc (top_option high room) - low) → IsWithinHigh i high
@@ -42,7 +37,7 @@ up_to_room (Some h) low room i from below = omega arith
 module _ (s : Spec) (x : Fraction) (F e part : ℕ) (kind : Kind) (r : Range) (at : IsCountedAs s e part kind r) (part_bounds whole : Bounds) (part_encloses : Encloses s x F part part_bounds) (encloses : Encloses s x F e whole) where
   lower : (i : ℕ) → IsWithinHigh i r.high → Below x (units F (part_down kind F part_bounds.lo r.low i)) (Upto s e i)
   lower i fits =
-      below-lower x (laws.sum_from (term (counted_node kind part) (units F part_bounds.lo)) r.low (suc i - r.low)) _ (Upto s e i)
+      below-lower x (sum_from (term_of (counted_node kind part) (units F part_bounds.lo)) r.low (suc i - r.low)) _ (Upto s e i)
       (subst (λ q. AtMost (units F (part_down kind F part_bounds.lo r.low i)) q) (sym (same-terms kind part (units F part_bounds.lo) r.low (suc i - r.low))) (part_down-reached kind F part_bounds.lo r.low i))
       (below-upto s x (units F part_bounds.lo) e part (counted_node kind part) (form_of kind) at.node (is_counted kind part) r.low r.high at.range i fits part_encloses.reached)
 
@@ -51,7 +46,7 @@ module _ (s : Spec) (x : Fraction) (F e part : ℕ) (kind : Kind) (r : Range) (a
     where
       by_terms : (v : ℕ) → AtMost (sum_from (exact kind (units F part_bounds.hi)) r.low (suc i - r.low)) (units F v) → Above x (units F v) (Upto s e i)
       by_terms v most =
-          above-higher x (laws.sum_from (term (counted_node kind part) (units F part_bounds.hi)) r.low (suc i - r.low)) (units F v) (Upto s e i)
+          above-higher x (sum_from (term_of (counted_node kind part) (units F part_bounds.hi)) r.low (suc i - r.low)) (units F v) (Upto s e i)
           (subst (λ q. AtMost q (units F v)) (sym (same-terms kind part (units F part_bounds.hi) r.low (suc i - r.low))) most)
           (above-upto s x (units F part_bounds.hi) e part (counted_node kind part) (form_of kind) at.node (is_counted kind part) r.low r.high at.range i part_encloses.above)
 

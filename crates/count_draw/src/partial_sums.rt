@@ -203,8 +203,7 @@ impl<const F: u32> CountSums<F> {
     }
 
     /// The least option whose lower value is at least `v`, where none before the run's place is
-    /// one:
-    /// a pass over the terms, up to one of which all later ones are 0. The run goes along.
+    /// one: a pass over the terms, up to one of which all later ones are 0. The run goes along.
     pub(crate) fn least_from(&self, v: u64, run: &mut Run) -> Option<u64>
         requires fraction_bits { IsFractionBits F }
         requires run { IsRun Side.Down F self.now run.old.place run.old.power run.old.sum }

@@ -1,10 +1,8 @@
 //! The terms of a series, one after the other, as long as they are small.
 //!
 //! From term to term a number is carried: the power of the part's value, and for a set the power
-//! over
-//! `j!`. It is carried on as long as it is at most 2^63; where the part's value is at most 1, it
-//! always
-//! is.
+//! over `j!`. It is carried on as long as it is at most 2^63; where the part's value is at most 1,
+//! it always is.
 ghost use Rattle.std.specs.Prelude.{◌≡◌, ◌^◌, ◌≤◌, IfSome};
 ghost use Rattle.bz_model.specs.Fraction.{IsFractionBits};
 ghost use Rattle.fixed_enclosure.specs.Rounded.{Side};
@@ -36,8 +34,7 @@ pub(crate) fn carry_down<const F: u32>(kind: CountKind, a: u64, place: u64, c: u
 }
 
 /// The number carried to term `place + 1` from the one carried to term `place`, rounded up; it may
-/// be
-/// `None` where it is above 2^63, for a set before it is divided by `place + 1`.
+/// be `None` where it is above 2^63, for a set before it is divided by `place + 1`.
 #[inline]
 pub(crate) fn carry_up<const F: u32>(kind: CountKind, a: u64, place: u64, c: u64) -> Option<u64>
     requires fraction_bits { IsFractionBits F }

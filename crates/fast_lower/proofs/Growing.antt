@@ -1,11 +1,11 @@
 -- The inequality per node kind: where b is at most a and a step d, and both a and b are at most c, what is made of b is at most what is made of a and the growth at c along d.
 use Rattle.std.proofs.Common.{ℕ, zero, suc, List, [], ◌∷◌, arith}
 use Rattle.std.specs.List.{AllByRecursion}
-use Rattle.bz_model.specs.Fraction.{Fraction, AtMost, plus, times, whole, power}
+use Rattle.bz_model.specs.Fraction.{Fraction, AtMost, plus, times, whole, power, sum_from}
 use Rattle.bz_model.specs.Spec.{Node}
 use Rattle.bz_model.specs.Measures.{share_of}
 use Rattle.bz_model.specs.Totals.{total_by}
-use Rattle.bz_laws.specs.Terms.{term, sum_from, product_by}
+use Rattle.bz_laws.specs.Terms.{term_of, product_by}
 use Rattle.bz_laws.proofs.Fractions.{AtMost-trans, AtMost-refl, plus-mono, times-mono, times-plus, times-plus', plus-times, plus-times'}
 use Rattle.fast_lower.specs.Growth.{term_growth, product_growth}
 use Rattle.fast_lower.specs.Close.{IsNear}
@@ -54,18 +54,18 @@ module _ (a b c d : Fraction) (within : AtMost b (plus a d)) (a_most : AtMost a 
     regroup s p g = omega arith
 
     -- a term
-    pub term-grows : (k : ℕ) → AtMost (term node b k) (plus (term node a k) (times (term_growth node c k) d))
-    term-grows zero = no_growth (term node a zero)
+    pub term-grows : (k : ℕ) → AtMost (term_of node b k) (plus (term_of node a k) (times (term_growth node c k) d))
+    term-grows zero = no_growth (term_of node a zero)
     term-grows (suc k) =
         AtMost-trans (times-mono (AtMost-refl (share_of node (suc k))) (power-grows k))
         (regroup (share_of node (suc k)) (power a (suc k)) (times (whole (suc k)) (power c k)))
 
     -- a sum of terms
-    pub sum-grows : (j n : ℕ) → AtMost (sum_from (term node b) j n) (plus (sum_from (term node a) j n) (times (sum_from (term_growth node c) j n) d))
+    pub sum-grows : (j n : ℕ) → AtMost (sum_from (term_of node b) j n) (plus (sum_from (term_of node a) j n) (times (sum_from (term_growth node c) j n) d))
     sum-grows j zero = no_growth (whole 0)
     sum-grows j (suc n) =
-        let ta = term node a j in
-        let sa = sum_from (term node a) (suc j) n in
+        let ta = term_of node a j in
+        let sa = sum_from (term_of node a) (suc j) n in
         let tg = term_growth node c j in
         let sg = sum_from (term_growth node c) (suc j) n in
         AtMost-trans (plus-mono (term-grows j) (sum-grows (suc j) n))
@@ -73,7 +73,7 @@ module _ (a b c d : Fraction) (within : AtMost b (plus a d)) (a_most : AtMost a 
         (plus-mono (AtMost-refl (plus ta sa)) (plus-times tg sg d)))
 
 -- a sum of terms with a greater number
-pub sum-mono : (node : Node) {a b : Fraction} → AtMost a b → (j n : ℕ) → AtMost (sum_from (term node a) j n) (sum_from (term node b) j n)
+pub sum-mono : (node : Node) {a b : Fraction} → AtMost a b → (j n : ℕ) → AtMost (sum_from (term_of node a) j n) (sum_from (term_of node b) j n)
 sum-mono node h j zero = AtMost-refl (whole 0)
 sum-mono node h j (suc n) = plus-mono (times-mono (AtMost-refl (share_of node j)) (power-mono h j)) (sum-mono node h (suc j) n)
 

@@ -3,12 +3,12 @@ use Rattle.std.proofs.Common.{◌≡◌, ℕ, zero, suc, ◌-◌, ◌<◌, ◌�
 use Rattle.std.specs.Prelude.{Bool, IsTrue}
 use Rattle.std.proofs.Math.Decide.{dec_le}
 use Rattle.std.proofs.lemmas.Option.{slice_get_within}
-use Rattle.bz_model.specs.Fraction.{Fraction, AtMost, plus, times, whole}
+use Rattle.bz_model.specs.Fraction.{Fraction, AtMost, plus, times, whole, sum_from}
 use Rattle.bz_model.specs.Spec.{Spec, Node, Range, node_at, range_at, body_of}
 use Rattle.bz_model.specs.Object.{Object, Objects, Belongs}
 use Rattle.bz_model.specs.Totals.{Above, Below, total_by}
 use Rattle.bz_model.specs.Making.{IsCounted}
-use Rattle.bz_laws.specs.Terms.{term, sum_from, product_by}
+use Rattle.bz_laws.specs.Terms.{term_of, product_by}
 use Rattle.bz_laws.specs.Sound.{EachPart, IsLaidOut}
 use Rattle.bz_laws.specs.Values.{IsReachedByTerms, IsReachedInRange, IsReachedByNode, AreReached}
 use Rattle.bz_laws.proofs.Fractions.{AtMost-trans, AtMost-refl, plus-mono, times-mono}
@@ -84,20 +84,20 @@ module _ (s : Spec) (x : Fraction) (laid : IsLaidOut s) (told : ℕ → Bool) (t
 
     -- a counted node
     module _ (part : ℕ) (node : Node) (form : Objects → Object) (at : node_at s e ≡ Some node) (c : IsCounted node part form) (part-near : IsTrue (told e) → IsNear t (given part) (low_value part) (high_value part) (growth part)) (part-below : IsTrue (told e) → Below x (given part) (HasHere part)) where
-      within-sum : (low n : ℕ) (slope : Fraction) → IsNear t (given part) (low_value part) (high_value part) (growth part) → AtMost (low_value e) (sum_from (term node (low_value part)) low n) → AtMost (sum_from (term_growth node (high_value part)) low n) slope → AtMost (times slope (growth part)) (growth e) → AtMost (low_value e) (plus (sum_from (term node (given part)) low n) (times t (growth e)))
+      within-sum : (low n : ℕ) (slope : Fraction) → IsNear t (given part) (low_value part) (high_value part) (growth part) → AtMost (low_value e) (sum_from (term_of node (low_value part)) low n) → AtMost (sum_from (term_growth node (high_value part)) low n) slope → AtMost (times slope (growth part)) (growth e) → AtMost (low_value e) (plus (sum_from (term_of node (given part)) low n) (times t (growth e)))
       within-sum low n slope k reached covers along_slope =
           let g = sum_from (term_growth node (high_value part)) low n in
           let d = growth part in
           AtMost-trans reached
           (AtMost-trans (sum-grows (given part) (low_value part) (high_value part) (times t d) k.within k.a_most k.b_most node low n)
-          (plus-mono (AtMost-refl (sum_from (term node (given part)) low n))
+          (plus-mono (AtMost-refl (sum_from (term_of node (given part)) low n))
           (AtMost-trans (inward g t d) (times-mono (AtMost-refl t) (AtMost-trans (times-mono covers (AtMost-refl d)) along_slope)))))
 
       counted-high : (r : Range) → range_at s e ≡ Some r → (high : Option ℕ) → r.high ≡ high → IsReachedByTerms node (low_value part) r.low high (low_value e) → (IsTrue (told e) → HasSlope node (high_value part) (growth part) r.low high (growth e)) → ReachesAt e
       counted-high r ranged None eq reached slope =
           let q : range_at s e ≡ Some (record { low = r.low; high = None }) = subst (λ h. range_at s e ≡ Some (record { low = r.low; high = h })) eq ranged in
           record {
-            reached = sum_from (term node (given part)) r.low reached.0;
+            reached = sum_from (term_of node (given part)) r.low reached.0;
             holds = λ within is_told. record {
               below = below-counted-at s (ClassBelongs s) x (given part) part e node form at c r.low reached.0 q (part-below is_told);
               within = let k = slope is_told in within-sum r.low reached.0 k.slope (part-near is_told) reached.1 (k.covers reached.0) k.along;
@@ -106,7 +106,7 @@ module _ (s : Spec) (x : Fraction) (laid : IsLaidOut s) (told : ℕ → Bool) (t
       counted-high r ranged (Some high) eq reached slope =
           let q : range_at s e ≡ Some (record { low = r.low; high = Some high }) = subst (λ h. range_at s e ≡ Some (record { low = r.low; high = h })) eq ranged in
           record {
-            reached = sum_from (term node (given part)) r.low (suc high - r.low);
+            reached = sum_from (term_of node (given part)) r.low (suc high - r.low);
             holds = λ within is_told. record {
               below = below-ranged-at s (ClassBelongs s) x (given part) part e node form at c r.low high q (part-below is_told);
               within = let k = slope is_told in within-sum r.low (suc high - r.low) k.slope (part-near is_told) reached k.covers k.along;

@@ -3,14 +3,13 @@ use Rattle.std.proofs.Common.{◌≡◌, ℕ, zero, suc, ◌+◌, ◌-◌, ◌*�
 use Rattle.std.specs.List.{list_all}
 use Rattle.std.proofs.lemmas.List.Sums.{sum_by-cons}
 use Rattle.std.proofs.Math.Nat.{mul-le-mul_right}
-use Rattle.bz_model.specs.Fraction.{Fraction, AtMost, plus, times, whole, units, power}
+use Rattle.bz_model.specs.Fraction.{Fraction, AtMost, plus, times, whole, units, power, sum_from}
 use Rattle.bz_model.specs.Measures.{factorial}
 use Rattle.bz_model.specs.Spec.{Node}
-use Rattle.bz_laws.specs.Terms as laws
 use Rattle.fixed_enclosure.specs.Rounded.{Side, fits, if_fits, quotient_up, mul_up, seq_up}
 use Rattle.fixed_enclosure.proofs.Quotients.{quotient_up-above, guarded, fitting, if_fits-same}
 use Rattle.series_bounds.specs.Series.{Kind, carried, term, terms_from}
-use Rattle.series_bounds.specs.ExactSums.{exact, sum_from}
+use Rattle.series_bounds.specs.ExactSums.{exact}
 use Rattle.series_bounds.proofs.Fractions.{AtMost-trans, AtMost-refl, plus-mono, times-mono, zero-least, units-mono, units-plus}
 use Rattle.series_bounds.proofs.Terms.{term-up}
 use Rattle.series_bounds.proofs.Tails.{geometric_up}
@@ -31,7 +30,7 @@ mul-covers F a b v is = AtMost-trans (product-up F a b) (units-mono F (let same 
 
 -- Growths that are each at most the term before, whose sums are covered, have covered sums.
 module _ (g e : ℕ → Fraction) (first : AtMost (g 0) (whole 0)) (each : (k : ℕ) → AtMost (g (suc k)) (e k)) where
-  shifted : (j n : ℕ) → AtMost (laws.sum_from g (suc j) n) (sum_from e j n)
+  shifted : (j n : ℕ) → AtMost (sum_from g (suc j) n) (sum_from e j n)
   shifted j zero = AtMost-refl (whole 0)
   shifted j (suc n) = plus-mono (each j) (shifted (suc j) n)
 
@@ -41,9 +40,9 @@ module _ (g e : ℕ → Fraction) (first : AtMost (g 0) (whole 0)) (each : (k : 
       none_left : (b : Fraction) → AtMost (plus (whole 0) b) b
       none_left b = omega arith
 
-  pub covered : (v : Fraction) → ((n : ℕ) → AtMost (sum_from e 0 n) v) → (low n : ℕ) → AtMost (laws.sum_from g low n) v
+  pub covered : (v : Fraction) → ((n : ℕ) → AtMost (sum_from e 0 n) v) → (low n : ℕ) → AtMost (sum_from g low n) v
   covered v sums zero zero = zero-least v
-  covered v sums zero (suc n) = AtMost-trans (no_first (g 0) (laws.sum_from g 1 n) first) (AtMost-trans (shifted 0 n) (sums n))
+  covered v sums zero (suc n) = AtMost-trans (no_first (g 0) (sum_from g 1 n) first) (AtMost-trans (shifted 0 n) (sums n))
   covered v sums (suc l) n = AtMost-trans (shifted l n) (AtMost-trans (sum_from-later e l 0 l n (omega arith)) (sums (n + l)))
 
 set_nat : (k f p q : ℕ) → (1 * (suc k * p)) * (f * q) ≤ (1 * p) * ((suc k * f) * (1 * q))
@@ -120,10 +119,10 @@ seq-enough F a v is =
     wide = rw (two-mul, pow-add) refl
 
 -- The slope without a high.
-pub open-covers : (kind : Kind) (F part a low v : ℕ) → open_slope kind F a ≡ Some v → (n : ℕ) → AtMost (laws.sum_from (term_growth (node_of_kind kind part) (units F a)) low n) (units F v)
+pub open-covers : (kind : Kind) (F part a low v : ℕ) → open_slope kind F a ≡ Some v → (n : ℕ) → AtMost (sum_from (term_growth (node_of_kind kind part) (units F a)) low n) (units F v)
 open-covers Kind.Seq F part a low v is n = go (seq_up F a) refl is
   where
-    go : (o : Option ℕ) → seq_up F a ≡ o → option_and_then (λ s. mul_up F s s) o ≡ Some v → AtMost (laws.sum_from (term_growth (Node.Seq part) (units F a)) low n) (units F v)
+    go : (o : Option ℕ) → seq_up F a ≡ o → option_and_then (λ s. mul_up F s s) o ≡ Some v → AtMost (sum_from (term_growth (Node.Seq part) (units F a)) low n) (units F v)
     go None s e = absurd (cc)
     go (Some z) s e =
         AtMost-trans
@@ -151,7 +150,7 @@ module _ (kind : Kind) (F part a : ℕ) where
   abbrev terms_here : (n j : ℕ) → List ℕ
   terms_here n j = slope_terms kind (suc j) (terms_from Side.Up (slope_kind kind) F a n j (carried Side.Up (slope_kind kind) F a j))
 
-  terms-cover : (n j t : ℕ) → t ≤ n → AtMost (laws.sum_from growth_here (suc j) t) (units F (sum (terms_here n j)))
+  terms-cover : (n j t : ℕ) → t ≤ n → AtMost (sum_from growth_here (suc j) t) (units F (sum (terms_here n j)))
   terms-cover n j zero le = zero-least _
   terms-cover zero j (suc t) le = absurd (omega arith)
   terms-cover (suc n) j (suc t) le =
@@ -160,26 +159,26 @@ module _ (kind : Kind) (F part a : ℕ) where
       AtMost-trans (plus-mono (one-covers kind F part a j) (terms-cover n (suc j) t (omega arith)))
       (AtMost-trans (units-plus F v (sum vs)) (units-mono F (omega (arith, sum_by-cons (λ x. x) v vs))))
 
-  dropped-cover : (d n j l t : ℕ) → l ≡ suc j + d → t ≤ n - d → AtMost (laws.sum_from growth_here l t) (units F (sum (drop d (terms_here n j))))
+  dropped-cover : (d n j l t : ℕ) → l ≡ suc j + d → t ≤ n - d → AtMost (sum_from growth_here l t) (units F (sum (drop d (terms_here n j))))
   dropped-cover zero n j l t eq le =
       let here : suc j ≡ l = omega arith in
-      subst (λ i. AtMost (laws.sum_from growth_here i t) (units F (sum (terms_here n j)))) here (terms-cover n j t (omega arith))
+      subst (λ i. AtMost (sum_from growth_here i t) (units F (sum (terms_here n j)))) here (terms-cover n j t (omega arith))
   dropped-cover (suc d) zero j l t eq le =
       let none_left : 0 ≡ t = omega arith in
-      subst (λ i. AtMost (laws.sum_from growth_here l i) (units F 0)) none_left (zero-least _)
+      subst (λ i. AtMost (sum_from growth_here l i) (units F 0)) none_left (zero-least _)
   dropped-cover (suc d) (suc n) j l t eq le = dropped-cover d n (suc j) l t (omega arith) (omega arith)
 
   no_first_here : (b : Fraction) → AtMost (plus (whole 0) b) b
   no_first_here b = omega arith
 
-  from-low : (low high : ℕ) → AtMost (laws.sum_from growth_here low (suc high - low)) (units F (sum (drop (low - 1) (terms_here high 0))))
+  from-low : (low high : ℕ) → AtMost (sum_from growth_here low (suc high - low)) (units F (sum (drop (low - 1) (terms_here high 0))))
   from-low zero high =
       let all : suc high ≡ suc high - 0 = omega arith in
-      subst (λ n. AtMost (laws.sum_from growth_here 0 n) (units F (sum (terms_here high 0)))) all
-      (AtMost-trans (no_first_here (laws.sum_from growth_here 1 high)) (terms-cover high 0 high (omega arith)))
+      subst (λ n. AtMost (sum_from growth_here 0 n) (units F (sum (terms_here high 0)))) all
+      (AtMost-trans (no_first_here (sum_from growth_here 1 high)) (terms-cover high 0 high (omega arith)))
   from-low (suc l) high =
       let same : l ≡ suc l - 1 = omega arith in
-      subst (λ d. AtMost (laws.sum_from growth_here (suc l) (suc high - suc l)) (units F (sum (drop d (terms_here high 0))))) same
+      subst (λ d. AtMost (sum_from growth_here (suc l) (suc high - suc l)) (units F (sum (drop d (terms_here high 0))))) same
       (dropped-cover l high 0 (suc l) (suc high - suc l) (omega arith) (omega arith))
 
   -- The slope of a range.
@@ -190,4 +189,4 @@ module _ (kind : Kind) (F part a : ℕ) where
       let total = sum (drop (low - 1) (slope_terms kind 1 ps)) in
       let g = guarded (list_all fits ps) (if_fits total) is in
       let same = if_fits-same total v g.1 in
-      subst (λ w. AtMost (laws.sum_from growth_here low (suc high - low)) (units F w)) same (from-low low high)
+      subst (λ w. AtMost (sum_from growth_here low (suc high - low)) (units F w)) same (from-low low high)

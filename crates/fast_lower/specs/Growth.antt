@@ -2,11 +2,11 @@
 -- them.
 use Rattle.std.specs.Prelude.{◌≡◌, ℕ, zero, suc, ◌-◌, List, [], ◌∷◌, Bool, IsTrue, Option, Some}
 use Rattle.std.specs.Prelude.{None}
-use Rattle.bz_model.specs.Fraction.{Fraction, AtMost, plus, times, whole, power}
+use Rattle.bz_model.specs.Fraction.{Fraction, AtMost, plus, times, whole, power, sum_from}
 use Rattle.bz_model.specs.Spec.{Spec, Node, Range, node_at, range_at}
 use Rattle.bz_model.specs.Measures.{share_of}
 use Rattle.bz_model.specs.Totals.{total_by}
-use Rattle.bz_laws.specs.Terms.{sum_from, product_by}
+use Rattle.bz_laws.specs.Terms.{product_by}
 use Rattle.bz_laws.specs.Sound.{EachPart}
 
 -- The growth of the term of k parts at a number c, its derivative: the share of k parts, times k,

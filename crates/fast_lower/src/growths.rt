@@ -5,11 +5,11 @@
 ghost use Rattle.std.specs.Prelude.{◌≡◌, ℕ, suc, ◌-◌, ◌<◌, ◌≤◌, List, length, slice_index, is_some};
 ghost use Rattle.std.specs.Prelude.{Bool, IsTrue, Option, Some};
 ghost use Rattle.std.specs.List.{AllByRecursion};
-ghost use Rattle.bz_model.specs.Fraction.{Fraction, AtMost, plus, times, units};
+ghost use Rattle.bz_model.specs.Fraction.{Fraction, AtMost, plus, times, units, sum_from};
 ghost use Rattle.bz_model.specs.Spec.{Spec, Node, body_of};
 ghost use Rattle.bz_model.specs.Object.{Belongs};
 ghost use Rattle.bz_model.specs.Totals.{Above, Below, total_by};
-ghost use Rattle.bz_laws.specs.Terms.{term, sum_from, product_by};
+ghost use Rattle.bz_laws.specs.Terms.{term_of, product_by};
 ghost use Rattle.bz_laws.specs.Sound.{IsLaidOut};
 ghost use Rattle.bz_laws.specs.Values.{AreReached, Covers};
 ghost use Rattle.class_system.specs.Sound.{IsSound};
@@ -22,7 +22,7 @@ ghost use Rattle.fast_lower.specs.Close.{IsNear};
 /// most what it makes of a plus its growth at c along the step.
 pub fn numbers_grow_by_their_slopes()
     ensures terms { (node : Node) (t a b c d : Fraction) (j n : ℕ) → IsNear t a b c d
-        → AtMost (sum_from (term node b) j n) (plus (sum_from (term node a) j n)
+        → AtMost (sum_from (term_of node b) j n) (plus (sum_from (term_of node a) j n)
         (times (sum_from (term_growth node c) j n) (times t d))) }
     ensures sums { (a b c d : ℕ → Fraction) (t : Fraction) (parts : List ℕ)
         → AllByRecursion (λ p. IsNear t (a p) (b p) (c p) (d p)) parts

@@ -15,8 +15,7 @@ pub fn labels_by_bits_are_ideal()
 {}
 
 /// The bits that a labelling used are those that its cells spell, in order, each of which is a
-/// cell;
-/// after them stand those of a number that was left open, where one was.
+/// cell; after them stand those of a number that was left open, where one was.
 pub fn a_labelling_spells_its_bits()
     ensures { LabellingsSpell }
 {}

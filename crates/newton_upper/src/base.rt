@@ -53,10 +53,8 @@ impl<const F: u32> Base<F> {
     /// Makes a base of a vector that is post-fixed, which it tests.
     ///
     /// `values` has one entry per class, in units of `2^-F`. `NotPostFixed` comes exactly where
-    /// some
-    /// class's body has no upper value or one above the class's entry. One tick at most. Takes
-    /// memory
-    /// for the node values.
+    /// some class's body has no upper value or one above the class's entry. One tick at most. Takes
+    /// memory for the node values.
     pub fn check<L: Ledger>(
         alloc: Global,
         founded: &Founded,

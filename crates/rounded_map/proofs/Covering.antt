@@ -4,11 +4,10 @@ use Rattle.std.specs.Prelude.{slice_index, sum, is_some, Bool, IsTrue, option_an
 use Rattle.std.specs.List.{AllByRecursion}
 use Rattle.std.proofs.lemmas.List.Sums.{sum_by-cons}
 use Rattle.std.proofs.lemmas.Option.{option_and_then_some}
-use Rattle.bz_model.specs.Fraction.{Fraction, AtMost, plus, times, whole, units}
+use Rattle.bz_model.specs.Fraction.{Fraction, AtMost, plus, times, whole, units, sum_from}
 use Rattle.bz_model.specs.Spec.{Spec, Node, Range, node_at, range_at}
 use Rattle.bz_model.specs.Totals.{total_by}
-use Rattle.bz_laws.specs.Terms as laws
-use Rattle.bz_laws.specs.Terms.{term, product_by}
+use Rattle.bz_laws.specs.Terms.{term_of, product_by}
 use Rattle.bz_laws.specs.Sound.{EachPart}
 use Rattle.bz_laws.specs.Values.{CoversTerms, CoversNode, Covers, IsReachedByTerms, IsReachedByNode, AreReached}
 use Rattle.class_system.specs.Sound.{IsSound}
@@ -16,17 +15,12 @@ use Rattle.class_system.proofs.Soundness.{has_range, seq_range, set_range, cycle
 use Rattle.fixed_enclosure.proofs.Enclosing.{atom_down-below, atom_up-above}
 use Rattle.series_bounds.specs.Series.{Kind, counted_up, ranged_down, ranged_up}
 use Rattle.series_bounds.specs.Lists.{product_down, product_of}
-use Rattle.series_bounds.specs.ExactSums.{exact, sum_from, first_term}
+use Rattle.series_bounds.specs.ExactSums.{exact, first_term}
 use Rattle.series_bounds.proofs.Fractions.{AtMost-trans, AtMost-refl, plus-mono, times-mono, units-mono, units-plus, units-plus', zero-least}
 use Rattle.series_bounds.proofs.Lists.{product_down-le, product_up-ge, total_down-le, total_up-is}
 use Rattle.series_bounds.proofs.Rules.{part_down-reached, range_up-above, from_down-reached, from_up-above}
 use Rattle.rounded_map.specs.RoundedMap.{setting, amount, value_at, node_value_down, node_value_up, values_down, values_up}
 use Rattle.rounded_map.proofs.AtNode.{value_down-at, value_up-at}
-
--- The sums of the laws and of the series are the same.
-same-sum : (f : ℕ → Fraction) (j n : ℕ) → laws.sum_from f j n ≡ sum_from f j n
-same-sum f j zero = refl
-same-sum f j (suc n) = ap (plus (f j)) (same-sum f (suc j) n)
 
 module _ (F : ℕ) (vs : List (Option ℕ)) where
   abbrev pub up : ℕ → Fraction
@@ -69,7 +63,7 @@ module _ (F : ℕ) (vs : List (Option ℕ)) where
       times-mono (up-there p v first) (product-covered parts values rest)
 
 -- What a counted node's upper value covers.
-module _ (F : ℕ) (node : Node) (kind : Kind) (same : (a : Fraction) (j n : ℕ) → laws.sum_from (term node a) j n ≡ sum_from (exact kind a) j n) (a low : ℕ) (first : first_term kind ≤ low) where
+module _ (F : ℕ) (node : Node) (kind : Kind) (same : (a : Fraction) (j n : ℕ) → sum_from (term_of node a) j n ≡ sum_from (exact kind a) j n) (a low : ℕ) (first : first_term kind ≤ low) where
   ranged-covered : (high : Option ℕ) (v : ℕ) → ranged_up kind F a low high ≡ Some v → CoversTerms node (units F a) low high (units F v)
   ranged-covered None v is = λ n. subst (λ q. AtMost q (units F v)) (sym (same (units F a) low n)) (from_up-above kind F a low v first is n)
   ranged-covered (Some high) v is = subst (λ q. AtMost q (units F v)) (sym (same (units F a) low (suc high - low))) (range_up-above kind F a low high v first is)
@@ -79,14 +73,14 @@ module _ (F : ℕ) (node : Node) (kind : Kind) (same : (a : Fraction) (j n : ℕ
   ranged-reached (Some high) = subst (λ q. AtMost (units F (ranged_down kind F a low (Some high))) q) (sym (same (units F a) low (suc high - low))) (part_down-reached kind F a low high)
 
 -- The sums of a counted node's terms.
-seq-sums : (part : ℕ) (a : Fraction) (j n : ℕ) → laws.sum_from (term (Node.Seq part) a) j n ≡ sum_from (exact Kind.Seq a) j n
-seq-sums part a j n = same-sum (term (Node.Seq part) a) j n
+seq-sums : (part : ℕ) (a : Fraction) (j n : ℕ) → sum_from (term_of (Node.Seq part) a) j n ≡ sum_from (exact Kind.Seq a) j n
+seq-sums part a j n = refl
 
-set-sums : (part : ℕ) (a : Fraction) (j n : ℕ) → laws.sum_from (term (Node.Set part) a) j n ≡ sum_from (exact Kind.Set a) j n
-set-sums part a j n = same-sum (term (Node.Set part) a) j n
+set-sums : (part : ℕ) (a : Fraction) (j n : ℕ) → sum_from (term_of (Node.Set part) a) j n ≡ sum_from (exact Kind.Set a) j n
+set-sums part a j n = refl
 
-cyc-sums : (part : ℕ) (a : Fraction) (j n : ℕ) → laws.sum_from (term (Node.Cyc part) a) j n ≡ sum_from (exact Kind.Cyc a) j n
-cyc-sums part a j n = same-sum (term (Node.Cyc part) a) j n
+cyc-sums : (part : ℕ) (a : Fraction) (j n : ℕ) → sum_from (term_of (Node.Cyc part) a) j n ≡ sum_from (exact Kind.Cyc a) j n
+cyc-sums part a j n = refl
 
 -- One node: its parts have values, and its value covers it.
 record IsCovered (x : Fraction) (F : ℕ) (classes : List ℕ) (vs : List (Option ℕ)) (node : Node) (r : Range) (v : ℕ) : Type 0 where
@@ -94,7 +88,7 @@ record IsCovered (x : Fraction) (F : ℕ) (classes : List ℕ) (vs : List (Optio
   covers : CoversNode x (λ c. units F (slice_index classes c)) (up F vs) node (Some r) (units F v)
 
 counted-covered : (x : Fraction) (F : ℕ) (classes : List ℕ) (vs : List (Option ℕ)) (kind : Kind) (node : Node) (part : ℕ) (r : Range) (v : ℕ)
-    → ((a : Fraction) (j n : ℕ) → laws.sum_from (term node a) j n ≡ sum_from (exact kind a) j n) → first_term kind ≤ r.low
+    → ((a : Fraction) (j n : ℕ) → sum_from (term_of node a) j n ≡ sum_from (exact kind a) j n) → first_term kind ≤ r.low
     → option_and_then (counted_up kind F r) (value_at vs part) ≡ Some v
     → IsTrue (told F vs part) × CoversTerms node (up F vs part) r.low r.high (units F v)
 counted-covered x F classes vs kind node part r v same first is =

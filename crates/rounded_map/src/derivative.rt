@@ -29,12 +29,9 @@ const UNITS: u64 = 256;
 /// One dual sweep: each class gets 256 units and the derivative of its body along the old vector.
 ///
 /// `dual` has one entry per class, `values` and `nodes` one per node, all in units of `2^-F`;
-/// `values`
-/// are the upper values at which the derivative is taken. `nodes` is overwritten. False comes
-/// exactly
-/// where a number of the new vector has no upper value, and leaves `dual` as it was. One tick.
-/// Takes
-/// no memory.
+/// `values` are the upper values at which the derivative is taken. `nodes` is overwritten. False
+/// comes exactly where a number of the new vector has no upper value, and leaves `dual` as it was.
+/// One tick. Takes no memory.
 pub fn sweep_dual<const F: u32, L: Ledger>(
     system: &System,
     _x: Fraction,

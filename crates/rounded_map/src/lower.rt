@@ -28,8 +28,7 @@ use std::sync::ledger::Ledger;
 ///
 /// `classes` has one entry per class and `nodes` one per node, both in units of `2^-F`. `nodes` is
 /// overwritten. Where the entries are reached by the classes, the values are reached by the nodes.
-/// One
-/// tick. Takes no memory.
+/// One tick. Takes no memory.
 pub fn eval_lo<const F: u32, L: Ledger>(
     system: &System,
     x: Fraction,
@@ -60,8 +59,7 @@ pub fn eval_lo<const F: u32, L: Ledger>(
 ///
 /// `classes` has one entry per class and `nodes` one per node, both in units of `2^-F`. `nodes` is
 /// overwritten. Where the old entries are reached by the classes, the new ones are. One tick. Takes
-/// no
-/// memory. A step of Kleene iteration (Pivoteau, Salvy and Soria 2012).
+/// no memory. A step of Kleene iteration (Pivoteau, Salvy and Soria 2012).
 pub fn sweep_lo<const F: u32, L: Ledger>(
     system: &System,
     x: Fraction,

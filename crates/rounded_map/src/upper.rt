@@ -307,12 +307,9 @@ fn lesser_of(entry: u64, value: Option<u64>) -> u64
 ///
 /// `classes` has one entry per class and `nodes` one per node, both in units of `2^-F`. `nodes` is
 /// overwritten. `PostFault` comes exactly where some body has no value or one above its class's
-/// entry,
-/// with the least such class and that value. Where it answers Ok, each entry bounds what the
-/// objects
-/// of its class total, of whatever height. One tick. Takes no memory. Post-fixed is called
-/// pre-fixed
-/// in some books.
+/// entry, with the least such class and that value. Where it answers Ok, each entry bounds what the
+/// objects of its class total, of whatever height. One tick. Takes no memory. Post-fixed is called
+/// pre-fixed in some books.
 pub fn is_post_fixed<const F: u32, L: Ledger>(
     system: &System,
     x: Fraction,

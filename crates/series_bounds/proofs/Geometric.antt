@@ -1,9 +1,9 @@
 -- The lower value of the geometric series is reached by finitely many powers.
 use Rattle.std.proofs.Common.{◌≡◌, ℕ, zero, suc, ◌+◌, ◌-◌, ◌*◌, ◌/◌, ◌^◌, ◌<◌, ◌≤◌, arith, refl, sym, subst, pow-add, two-mul}
 use Rattle.std.proofs.Math.Nat.{mul-le-mul_left, le_of_mul-le-mul_right, mul-pos, div-mul-le_self}
-use Rattle.bz_model.specs.Fraction.{Fraction, AtMost, plus, times, whole, units, power}
+use Rattle.bz_model.specs.Fraction.{Fraction, AtMost, plus, times, whole, units, power, sum_from}
 use Rattle.series_bounds.specs.Series.{Kind}
-use Rattle.series_bounds.specs.ExactSums.{exact, sum_from}
+use Rattle.series_bounds.specs.ExactSums.{exact}
 use Rattle.series_bounds.proofs.Fractions.{AtMost-trans, AtMost-refl, plus-mono, plus-assoc', times-plus'}
 
 -- each term is at least r / (k + r) of the one before it

@@ -1,10 +1,10 @@
 -- From 1 on, the powers and the logarithm grow past every number.
 use Rattle.std.proofs.Common.{◌≡◌, ℕ, zero, suc, ◌+◌, ◌*◌, ◌^◌, ◌<◌, ◌≤◌, arith, subst, pow_pos}
 use Rattle.std.proofs.Math.Nat.{mul-le-mul_left}
-use Rattle.bz_model.specs.Fraction.{Fraction, AtMost, plus, times, whole, units, power}
+use Rattle.bz_model.specs.Fraction.{Fraction, AtMost, plus, times, whole, units, power, sum_from}
 use Rattle.bz_model.specs.Measures.{cycle_share}
 use Rattle.series_bounds.specs.Series.{Kind}
-use Rattle.series_bounds.specs.ExactSums.{exact, sum_from}
+use Rattle.series_bounds.specs.ExactSums.{exact}
 use Rattle.series_bounds.proofs.Fractions.{AtMost-trans, AtMost-refl, plus-mono, times-mono, plus-assoc}
 
 pub power-ge-one : (a : Fraction) → AtMost (whole 1) a → (k : ℕ) → AtMost (whole 1) (power a k)

@@ -1,9 +1,8 @@
 -- Rounded sums and products of values are on their sides of the exact ones.
 use Rattle.std.proofs.Common.{◌≡◌, ℕ, zero, suc, ◌+◌, ◌*◌, ◌/◌, ◌^◌, ◌≤◌, List, [], ◌∷◌, map, take, sum, Option, Some, None, arith, refl, ap}
 use Rattle.std.proofs.lemmas.List.Sums.{sum_by-cons}
-use Rattle.bz_model.specs.Fraction.{Fraction, AtMost, times, whole, units}
+use Rattle.bz_model.specs.Fraction.{Fraction, AtMost, times, whole, units, sum_from}
 use Rattle.fixed_enclosure.specs.Rounded.{fits, quotient_up, mul_down, mul_up, add_down, add_up}
-use Rattle.series_bounds.specs.ExactSums.{sum_from}
 use Rattle.series_bounds.specs.Lists.{added_down, total_down, added_up, total_up, multiplied_down, product_down, multiplied_up, product_up, product_of}
 use Rattle.series_bounds.proofs.Fractions.{AtMost-trans, AtMost-refl, plus-mono, times-mono, times-assoc, times-assoc', units-mono, units-plus, units-plus', zero-least}
 use Rattle.series_bounds.proofs.Values.{product-up, product-down}

@@ -2,10 +2,10 @@
 use Rattle.std.proofs.Common.{◌≡◌, ℕ, zero, suc, ◌+◌, ◌-◌, ◌*◌, ◌/◌, ◌^◌, ◌≤◌, min, Bool, true, false, nat_lt, nat_le, List, drop, take, sum, Option, Some, None, option_and_then, if◌then◌else◌, arith, refl, sym, subst, ltb-true, ltb-false, leb-true}
 use native.Mathlib.Decide.{ℕ_discrete}
 use Rattle.std.specs.List.{list_all}
-use Rattle.bz_model.specs.Fraction.{AtMost, units}
+use Rattle.bz_model.specs.Fraction.{AtMost, units, sum_from}
 use Rattle.fixed_enclosure.specs.Rounded.{Side, greatest, fits, if_fits, quotient_up, mul_up, seq_down, seq_up}
 use Rattle.series_bounds.specs.Series.{Kind, carried, terms, sum_down, sum_up, part_down, range_up, part_up, cyc_end, log_rest, cyc_up_to, from_down, from_up}
-use Rattle.series_bounds.specs.ExactSums.{first_term, exact, sum_from, IsReached}
+use Rattle.series_bounds.specs.ExactSums.{first_term, exact, IsReached}
 use Rattle.fixed_enclosure.proofs.Quotients.{saturated-le, guarded, fitting}
 use Rattle.series_bounds.proofs.Fractions.{AtMost-trans, zero-least, units-mono}
 use Rattle.series_bounds.proofs.Tails.{seq-above, geometric_up}

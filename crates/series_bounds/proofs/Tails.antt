@@ -1,11 +1,11 @@
 -- What is left of a series whose terms shrink by a factor.
 use Rattle.std.proofs.Common.{◌≡◌, ℕ, zero, suc, ◌+◌, ◌-◌, ◌*◌, ◌^◌, ◌<◌, ◌≤◌, arith, refl, subst, pow-add, two-mul}
 use Rattle.std.proofs.Math.Nat.{mul-le-mul_right, mul-pos}
-use Rattle.bz_model.specs.Fraction.{Fraction, AtMost, plus, times, whole, units, power}
+use Rattle.bz_model.specs.Fraction.{Fraction, AtMost, plus, times, whole, units, power, sum_from}
 use Rattle.bz_model.specs.Measures.{factorial}
 use Rattle.fixed_enclosure.specs.Rounded.{Side, quotient_up}
 use Rattle.series_bounds.specs.Series.{Kind, carried, log_rest}
-use Rattle.series_bounds.specs.ExactSums.{exact, sum_from}
+use Rattle.series_bounds.specs.ExactSums.{exact}
 use Rattle.series_bounds.proofs.Fractions.{AtMost-trans, AtMost-refl, plus-mono, times-plus, cancel}
 use Rattle.series_bounds.proofs.Terms.{carried-up}
 use Rattle.fixed_enclosure.proofs.Quotients.{quotient_up-above}

@@ -2,11 +2,11 @@
 use Rattle.std.proofs.Common.{◌≡◌, ℕ, zero, suc, ◌+◌, ◌*◌, ◌/◌, ◌^◌, ◌≤◌, List, [], ◌∷◌, sum, arith, pow_pos, subst}
 use Rattle.std.proofs.Math.Nat.{mul-le-mul_right, mul-pos, div-mul-le_self}
 use Rattle.std.proofs.lemmas.List.Sums.{sum_by-cons}
-use Rattle.bz_model.specs.Fraction.{Fraction, AtMost, times, whole, units, power}
+use Rattle.bz_model.specs.Fraction.{Fraction, AtMost, times, whole, units, power, sum_from}
 use Rattle.bz_model.specs.Measures.{factorial, set_share}
 use Rattle.fixed_enclosure.specs.Rounded.{Side, quotient_up}
 use Rattle.series_bounds.specs.Series.{Kind, carried, term, terms_from}
-use Rattle.series_bounds.specs.ExactSums.{first_term, exact, sum_from}
+use Rattle.series_bounds.specs.ExactSums.{first_term, exact}
 use Rattle.fixed_enclosure.proofs.Quotients.{quotient_up-above}
 use Rattle.series_bounds.proofs.Fractions.{AtMost-trans, plus-mono, zero-least, units-plus, units-plus', units-mono}
 

@@ -2,10 +2,10 @@
 use Rattle.std.proofs.Common.{◌≡◌, ℕ, zero, suc, ◌+◌, ◌-◌, ◌*◌, ◌/◌, ◌^◌, ◌<◌, ◌≤◌, List, drop, sum, arith, subst, pow_pos}
 use Rattle.std.proofs.Math.Nat.{div-mul-le_self, mul-le-mul_right}
 use Rattle.std.proofs.lemmas.List.Sums.{sum_by-cons}
-use Rattle.bz_model.specs.Fraction.{Fraction, AtMost, times, whole, units, power}
+use Rattle.bz_model.specs.Fraction.{Fraction, AtMost, times, whole, units, power, sum_from}
 use Rattle.fixed_enclosure.specs.Rounded.{Side, quotient_up}
 use Rattle.series_bounds.specs.Series.{Kind, carried, term, terms_from, log_rest}
-use Rattle.series_bounds.specs.ExactSums.{first_term, exact, sum_from}
+use Rattle.series_bounds.specs.ExactSums.{first_term, exact}
 use Rattle.series_bounds.proofs.Terms.{Encloses, end, next, carried-up, carried-down, term-up, enclosed, terms-up, terms-down}
 use Rattle.series_bounds.proofs.Fractions.{AtMost-trans, AtMost-refl, plus-mono, times-mono, times-assoc, times-assoc', times-plus, times-plus', zero-least, plus-right, units-mono, units-plus}
 use Rattle.fixed_enclosure.proofs.Quotients.{quotient_up-above}

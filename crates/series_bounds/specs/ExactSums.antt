@@ -1,7 +1,7 @@
 -- The exact series of the counted constructions, their finite sums, and on which side of those a
 -- rounded value lies. A number v stands for v / 2^f.
-use Rattle.std.specs.Prelude.{ℕ, zero, suc, ◌-◌}
-use Rattle.bz_model.specs.Fraction.{Fraction, AtMost, plus, times, whole, power, units}
+use Rattle.std.specs.Prelude.{ℕ, suc, ◌-◌}
+use Rattle.bz_model.specs.Fraction.{Fraction, AtMost, times, whole, power, units, sum_from}
 use Rattle.bz_model.specs.Measures.{set_share, cycle_share}
 use Rattle.series_bounds.specs.Series.{Kind}
 
@@ -21,11 +21,6 @@ abbrev pub first_term : Kind → ℕ
 first_term Kind.Seq = 0
 first_term Kind.Set = 0
 first_term Kind.Cyc = 1
-
--- The sum of n terms, from term j on.
-abbrev pub sum_from : (ℕ → Fraction) → (j n : ℕ) → Fraction
-sum_from e j zero = whole 0
-sum_from e j (suc n) = plus (e j) (sum_from e (suc j) n)
 
 -- The sum of the exact terms at a / 2^f numbered from low to i.
 abbrev pub sum_to : Kind → (f a low i : ℕ) → Fraction

@@ -103,10 +103,9 @@ pub fn cyc_from_lo<const F: u32>(a: Lo<F>, low: u64) -> Lo<F>
 /// An upper bound of every finite sum of the terms `a^j / j` for j from `low` on.
 ///
 /// In units of `2^-F`, each power and term rounded up, up to term J: the first with a power of at
-/// most
-/// one unit, or 4096, but at least `low - 1`. All that follow are at most
-/// `a^(J + 1) / ((J + 1) * (1 - a))`, which is added. `None` exactly where a is 1 or more, or the
-/// bound passes `u64::MAX`. Takes no memory.
+/// most one unit, or 4096, but at least `low - 1`. All that follow are at most `a^(J + 1) / ((J +
+/// 1) * (1 - a))`, which is added. `None` exactly where a is 1 or more, or the bound passes
+/// `u64::MAX`. Takes no memory.
 pub fn cyc_from_hi<const F: u32>(a: Hi<F>, low: u64) -> Option<Hi<F>>
     requires fraction_bits { IsFractionBits F }
     requires places { (1 ≤ low) × (low ≤ 64) }

@@ -3,9 +3,8 @@
 //!
 //! Each law is a function without effect, whose clause holds of all arguments that meet its
 //! `requires`. The logarithm's number of terms depends on its argument: where a lesser argument
-//! sums
-//! fewer terms, its rest is at most one unit, and the greater argument has a further term of at
-//! least one.
+//! sums fewer terms, its rest is at most one unit, and the greater argument has a further term of
+//! at least one.
 
 ghost use Rattle.std.specs.Prelude.{◌≤◌};
 ghost use Rattle.bz_model.specs.Fraction.{IsFractionBits};

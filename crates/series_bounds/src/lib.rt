@@ -2,12 +2,10 @@
 //! 56.
 //!
 //! For sequences, sets and cycles of parts of value a: the sum over a range of numbers of parts,
-//! with
-//! and without a cap, and over all numbers of parts from a low on. Each result is the one that
+//! with and without a cap, and over all numbers of parts from a low on. Each result is the one that
 //! `specs/Series.antt` defines, and lies on its side of the finite sums of the exact terms `a^j`,
 //! `a^j / j!` or `a^j / j` (`specs/ExactSums.antt`). Upper values are monotone in the argument and
-//! in
-//! the cap (`laws`). No clause says how far a result is from the exact one.
+//! in the cap (`laws`). No clause says how far a result is from the exact one.
 #![tactic(auto)]
 
 pub mod cycles;

@@ -88,8 +88,7 @@ pub fn set_range_hi<const F: u32>(a: Hi<F>, low: u64, i: u64) -> Option<Hi<F>>
 /// reach.
 ///
 /// In units of `2^-F`: the terms from `low` to 127, rounded down. 0 where a term before `low`
-/// passes
-/// `u64::MAX`, and `u64::MAX` where a later one or the sum does. Takes no memory.
+/// passes `u64::MAX`, and `u64::MAX` where a later one or the sum does. Takes no memory.
 pub fn set_from_lo<const F: u32>(a: Lo<F>, low: u64) -> Lo<F>
     requires fraction_bits { IsFractionBits F }
     requires places { low ≤ 64 }
