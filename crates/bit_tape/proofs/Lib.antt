@@ -2,3 +2,4 @@ pub mod GivenBits
 pub mod Leaving
 pub mod NewTapes
 pub mod NextBits
+pub mod PeekedBits

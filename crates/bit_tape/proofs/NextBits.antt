@@ -30,13 +30,13 @@ no_bit place bit h = either (nat_lt place (2 ^ 63)) bit h
     either false bit e = refl
 
 -- the bits of a byte of a number are bits of the number
-bit_of_byte : (n i k : ℕ) → k < 8 → n / 2 ^ i % 256 / 2 ^ k % 2 ≡ n / 2 ^ (i + k) % 2
+pub bit_of_byte : (n i k : ℕ) → k < 8 → n / 2 ^ i % 256 / 2 ^ k % 2 ≡ n / 2 ^ (i + k) % 2
 bit_of_byte n i k h =
     let whole : bit_at (n / 2 ^ i / 256 * 2 ^ 8 + n / 2 ^ i % 256) k ≡ bit_at (n / 2 ^ i % 256) k = bit_at_cat_low _ 8 _ k h in
     sym whole ∙ ap (λ m. m / 2 ^ k % 2) (div-add-mod' (n / 2 ^ i) 256) ∙ ap (λ m. m % 2) (shr-shr n i k)
 
 -- the bytes from a place on, but for the first of them, are those from a later place on
-later : (ahead content : List ℕ) (place d : ℕ) → d ≤ length ahead → AreAt ahead place content → AreAt (drop d ahead) (place + d) content
+pub later : (ahead content : List ℕ) (place d : ℕ) → d ≤ length ahead → AreAt ahead place content → AreAt (drop d ahead) (place + d) content
 later ahead content place d few h =
     let m = length ahead - d in
     let split : take (length ahead) (drop place content) ≡ take (d + m) (drop place content) = ap (λ n. take n (drop place content)) (omega arith) in
@@ -65,13 +65,13 @@ bit_in_word word (suc (suc (suc zero))) k h k8 = byte_in_word word _ 0 3 k (ap (
 bit_in_word word (suc (suc (suc (suc j)))) k h k8 = absurd (omega arith)
 
 -- over a shelf, the first of the bytes read ahead has the source's next bit
-named_bit : (content : Option (List ℕ)) (used : ℕ) (ahead : List ℕ) → used < 2 ^ 63 → 0 < length ahead → IfSome content (AreAt ahead (used / 8)) → IfSome (option_map file_bit content) (λ bits. bits used ≡ Some (byte_bit (get_or ahead 0 0) (used % 8)))
+pub named_bit : (content : Option (List ℕ)) (used : ℕ) (ahead : List ℕ) → used < 2 ^ 63 → 0 < length ahead → IfSome content (AreAt ahead (used / 8)) → IfSome (option_map file_bit content) (λ bits. bits used ≡ Some (byte_bit (get_or ahead 0 0) (used % 8)))
 named_bit None used ahead below some h = tt
 named_bit (Some bytes) used ahead below some h =
     within used _ below ∙ ap (option_map (λ byte. byte_bit byte (used % 8))) (first_byte ahead bytes (used / 8) some h)
 
 -- the rest of a word has the seed's next bit first
-seeded_bit : (seed words used : ℕ) (ahead : List ℕ) → used < 2 ^ 63 → 0 < length ahead → IsRestOfWord seed words (used / 8) ahead → seed_bit seed used ≡ Some (byte_bit (get_or ahead 0 0) (used % 8))
+pub seeded_bit : (seed words used : ℕ) (ahead : List ℕ) → used < 2 ^ 63 → 0 < length ahead → IsRestOfWord seed words (used / 8) ahead → seed_bit seed used ≡ Some (byte_bit (get_or ahead 0 0) (used % 8))
 seeded_bit seed words used ahead below some h =
     let few : length ahead ≤ 4 = h.few in
     let ends : used / 8 + length ahead ≡ 4 * words = h.ends in

@@ -1,8 +1,8 @@
 -- Tapes: where their bits come from, which bits they have, and how a tape fits a shelf.
-use Rattle.std.specs.Prelude.{◌≡◌, ℕ, ◌+◌, ◌/◌, List, length, take, drop, Bool, true, false, Option}
-use Rattle.std.specs.Prelude.{Some, IfSome, option_map}
+use Rattle.std.specs.Prelude.{◌≡◌, ℕ, ◌+◌, ◌*◌, ◌/◌, ◌%◌, ◌<◌, ◌≤◌, List, length, take, drop, Bool}
+use Rattle.std.specs.Prelude.{true, false, Option, Some, IfSome, option_map}
 use Rattle.bz_outside.specs.Outside.{Rose, ReadFailed}
-use Rattle.bit_tape.specs.Bits.{file_bit, seed_bit}
+use Rattle.bit_tape.specs.Bits.{byte_bit, file_bit, seed_bit}
 
 -- The bits come from the bytes under a name, or from a seed.
 pub data TapeSource : Type 0 where
@@ -68,5 +68,25 @@ pub record GivesBit (old : TapeState) (bit : Bool) (new : TapeState) : Type 0 wh
   pub used : new.used ≡ old.used + 1
   pub next : (contents : List ℕ → Option (List ℕ)) → BelongsToShelf contents old
       → IfSome (bits_of_source old.source contents) (λ bits. bits old.used ≡ Some bit)
+  pub belongs : (contents : List ℕ → Option (List ℕ)) → BelongsToShelf contents old
+      → BelongsToShelf contents new
+
+-- The tape has read n bits ahead.
+abbrev pub HoldsBits : TapeState → (n : ℕ) → Type 0
+HoldsBits tape n = tape.used % 8 + n ≤ 8 * length tape.ahead
+
+-- The first n bits of a byte, at most eight, are read ahead: over every shelf that the tape belongs
+-- to, they are the next n bits of its source.
+pub record ShowsBits (tape : TapeState) (byte n : ℕ) : Type 0 where
+  pub few : n ≤ 8
+  pub held : HoldsBits tape n
+  pub next : (contents : List ℕ → Option (List ℕ)) → BelongsToShelf contents tape
+      → IfSome (bits_of_source tape.source contents) (λ bits. (i : ℕ) → i < n
+      → bits (tape.used + i) ≡ Some (byte_bit byte i))
+
+-- The tape passed over n bits, and still belongs to every shelf that it belonged to.
+pub record SkipsBits (old : TapeState) (n : ℕ) (new : TapeState) : Type 0 where
+  pub source : new.source ≡ old.source
+  pub used : new.used ≡ old.used + n
   pub belongs : (contents : List ℕ → Option (List ℕ)) → BelongsToShelf contents old
       → BelongsToShelf contents new

@@ -1,10 +1,11 @@
 //! Bytes read ahead, given bit by bit.
-ghost use Rattle.std.specs.Prelude.{◌≡◌, ℕ, ◌+◌, ◌^◌, ◌<◌, ◌≤◌, ◌↔◌, List, [], length, slice_index};
+ghost use Rattle.std.specs.Prelude.{◌≡◌, ℕ, ◌+◌, ◌-◌, ◌*◌, ◌/◌, ◌%◌, ◌^◌, ◌<◌, ◌≤◌, ◌↔◌, List};
+ghost use Rattle.std.specs.Prelude.{[], length, take, slice_index};
 ghost use Rattle.std.specs.Prelude.{IsTrue, IfSome, IfOk, OnOk, OnErr};
 ghost use Rattle.std.specs.Int.{w32, to_be_bytes};
 ghost use Rattle.bz_outside.specs.Outside.{ReadFailed};
 ghost use Rattle.bit_tape.specs.Bits.{byte_bit};
-ghost use Rattle.bit_tape.specs.Buffer.{after_bit};
+ghost use Rattle.bit_tape.specs.Buffer.{after_bit, after_bits, LooksAhead};
 ghost use Rattle.bit_tape.specs.Tape.{AreAt};
 
 use bz_outside::shelf::{Failed, Shelf};
@@ -16,6 +17,13 @@ const ROOM: usize = 4096;
 
 /// The places of bytes below which a tape reads: 2^63 bits.
 pub const MOST_BYTES: u64 = 1 << 60;
+
+/// Bits that are read ahead: the first `count` bits of `byte`, its highest bit first.
+#[derive(Clone, Copy, Debug, PartialEq, Eq)]
+pub struct Peeked {
+    pub byte: u8,
+    pub count: u32,
+}
 
 /// The bytes read ahead, of the first of which some bits may be used.
 #[derive(Drop)]
@@ -75,6 +83,30 @@ impl BitBuffer {
         bit
     }
 
+    /// The next bits, at most eight, and how many they are.
+    #[inline]
+    pub fn peek(&self) -> Peeked
+        ensures { LooksAhead self.now result.byte result.count }
+    {
+        let held = 8 * self.filled - self.at;
+        let next = self.at / 8;
+        let first = byte_at(&self.bytes, self.filled, next);
+        let second = byte_at(&self.bytes, self.filled, next + 1);
+        Peeked {
+            byte: byte_from(first, second, self.at % 8),
+            count: held.min(8) as u32,
+        }
+    }
+
+    /// Uses up n bits.
+    #[inline]
+    pub fn skip(&mut self, n: u32)
+        requires { self.old.bit + n ≤ 8 * length self.old.bytes }
+        ensures { self.new ≡ after_bits self.old n }
+    {
+        self.at += n as usize;
+    }
+
     /// Takes in the bytes of a word, the highest first.
     pub fn hold_word(&mut self, word: u32)
         requires { length self.old.bytes ≡ 0 }
@@ -119,4 +151,23 @@ impl BitBuffer {
         self.at = 0;
         Ok(n)
     }
+}
+
+/// The byte at a place among the bytes that are filled, and 0 from their end on.
+#[inline]
+fn byte_at(bytes: &[u8], filled: usize, place: usize) -> u8
+    requires { filled ≤ length bytes.now }
+    ensures { result ≡ slice_index (take filled bytes.now) place }
+{
+    if place < filled { bytes[place] } else { 0 }
+}
+
+/// The eight bits of two bytes that follow their first n bits.
+#[inline]
+fn byte_from(first: u8, second: u8, n: usize) -> u8
+    requires { n < 8 }
+    ensures { result ≡ (first * 2 ^ 8 + second) / 2 ^ (8 - n) % 256 }
+{
+    let pair = u16::from(first) * 256 + u16::from(second);
+    ((pair >> (8 - n)) % 256) as u8
 }

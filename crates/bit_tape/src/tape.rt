@@ -2,8 +2,9 @@
 ghost use Rattle.std.specs.Prelude.{◌≡◌, ℕ, ◌+◌, ◌^◌, ◌<◌, ◌≤◌, [], List, length, Option, IfSome};
 ghost use Rattle.std.specs.Prelude.{IsTrue, ◌↔◌};
 ghost use Rattle.bit_tape.specs.Tape.{TapeSource, BelongsToShelf, LeavesTape, bits_of_source};
-ghost use Rattle.bit_tape.specs.Tape.{GivesBit};
+ghost use Rattle.bit_tape.specs.Tape.{GivesBit, HoldsBits, ShowsBits, SkipsBits};
 
+pub use crate::buffer::Peeked;
 use crate::buffer::{BitBuffer, MOST_BYTES};
 use crate::source::{Refill, Source};
 use crate::words::Words;
@@ -115,6 +116,25 @@ impl Tape {
             Refill::Ended => BitAnswer::Ended,
             Refill::ReadFault => BitAnswer::ReadFault,
         }
+    }
+
+    /// The next bits that are read ahead, at most eight. None of them counts as used, and the shelf
+    /// isn't asked. Takes no memory.
+    #[inline]
+    pub fn peek(&self) -> Peeked
+        ensures { ShowsBits self.now result.byte result.count }
+    {
+        self.buffer.peek()
+    }
+
+    /// Passes over n bits that are read ahead, which count as used. Takes no memory.
+    #[inline]
+    pub fn skip(&mut self, n: u32)
+        requires { HoldsBits self.old n }
+        ensures { SkipsBits self.old n self.new }
+    {
+        self.buffer.skip(n);
+        self.used += u64::from(n);
     }
 
     /// Whether all bytes read ahead are used.

@@ -1,0 +1,125 @@
+-- The bits that a tape shows are its source's next bits, and a tape that passes over them still belongs.
+use Rattle.std.proofs.Common.{◌≡◌, ℕ, ◌+◌, ◌-◌, ◌*◌, ◌/◌, ◌%◌, ◌^◌, ◌<◌, ◌≤◌, List, length, get_or, drop, Bool, Option, Some, None, refl, sym, ap, subst, ◌∙◌, arith, length-drop, ⊎_elim}
+use Rattle.std.specs.Prelude.{IfSome, nat_eq, option_map}
+use Rattle.std.specs.Int.{w32, to_be_bytes, bit_at}
+use Rattle.std.proofs.lemmas.Bool.{cases_lt}
+use Rattle.std.proofs.lemmas.List.{get_or-drop, drop-drop}
+use Rattle.std.proofs.lemmas.Nat.Bits.{bit_at_cat_low, bit_at_cat_high}
+use Rattle.bit_tape.specs.declared.source.Source.{Source}
+use Rattle.bit_tape.specs.declared.source.Source.TheVariants.{File, Seed}
+use Rattle.bit_tape.specs.Bits.{byte_bit, file_bit, seed_bit, seed_word}
+use Rattle.bit_tape.specs.Source.{name_or_seed, SourceGoesOn, IsRestOfWord}
+use Rattle.bit_tape.specs.Buffer.{Ahead, after_bits, LooksAhead}
+use Rattle.bit_tape.specs.Tape.{TapeSource, TapeState, AreAt, ReadsAhead, HoldsBits, ShowsBits, SkipsBits, bits_of_source}
+use Rattle.bit_tape.proofs.NextBits.{bit_of_byte, later, named_bit, seeded_bit}
+
+-- a bit of the eight bits of two bytes that follow their first s bits
+bit_of_pair : (first second s i : ℕ) → s < 8 → i < 8 → (first * 2 ^ 8 + second) / 2 ^ (8 - s) % 256 / 2 ^ (7 - i) % 2 ≡ bit_at (first * 2 ^ 8 + second) (8 - s + (7 - i))
+bit_of_pair first second s i s8 i8 = bit_of_byte (first * 2 ^ 8 + second) (8 - s) (7 - i) (omega arith)
+
+in_first : (first second s i : ℕ) → s < 8 → i < 8 → second < 256 → s + i < 8 → bit_at (first * 2 ^ 8 + second) (8 - s + (7 - i)) ≡ bit_at first (7 - (s + i))
+in_first first second s i s8 i8 fits here =
+    bit_at_cat_high first 8 second (8 - s + (7 - i)) (omega arith) (omega arith)
+    ∙ ap (bit_at first) (let e : 8 - s + (7 - i) - 8 ≡ 7 - (s + i) = omega arith in e)
+
+in_second : (first second s i : ℕ) → s < 8 → i < 8 → 8 ≤ s + i → bit_at (first * 2 ^ 8 + second) (8 - s + (7 - i)) ≡ bit_at second (7 - (s + i - 8))
+in_second first second s i s8 i8 there =
+    bit_at_cat_low first 8 second (8 - s + (7 - i)) (omega arith)
+    ∙ ap (bit_at second) (let e : 8 - s + (7 - i) ≡ 7 - (s + i - 8) = omega arith in e)
+
+-- the byte's bit stands at its place in the bytes
+pub bit_of_peeked : (bytes : List ℕ) (place s first second byte i : ℕ) → s < 8 → i < 8 → second < 256 → first ≡ get_or bytes place 0 → second ≡ get_or bytes (place + 1) 0 → byte ≡ (first * 2 ^ 8 + second) / 2 ^ (8 - s) % 256 → byte_bit byte i ≡ byte_bit (get_or (drop place bytes) ((s + i) / 8) 0) ((s + i) % 8)
+bit_of_peeked bytes place s first second byte i s8 i8 fits is_first is_second is =
+    ap (λ b. nat_eq (b / 2 ^ (7 - i) % 2) 1) is
+    ∙ ap (λ b. nat_eq b 1) (bit_of_pair first second s i s8 i8)
+    ∙ ⊎_elim
+    (λ here. ap (λ b. nat_eq b 1) (in_first first second s i s8 i8 fits here)
+    ∙ ap (λ k. byte_bit first k) (let e : s + i ≡ (s + i) % 8 = omega arith in e)
+    ∙ ap (λ b. byte_bit b ((s + i) % 8)) (is_first ∙ ap (λ k. get_or bytes k 0) (let e : place ≡ place + (s + i) / 8 = omega arith in e) ∙ sym (get_or-drop place bytes ((s + i) / 8) 0)))
+    (λ there. ap (λ b. nat_eq b 1) (in_second first second s i s8 i8 there)
+    ∙ ap (λ k. byte_bit second k) (let e : s + i - 8 ≡ (s + i) % 8 = omega arith in e)
+    ∙ ap (λ b. byte_bit b ((s + i) % 8)) (is_second ∙ ap (λ k. get_or bytes k 0) (let e : place + 1 ≡ place + (s + i) / 8 = omega arith in e) ∙ sym (get_or-drop place bytes ((s + i) / 8) 0)))
+    (cases_lt (s + i) 8)
+
+-- what is left of a word after some of its bytes
+rest_later : (seed words place d : ℕ) (ahead : List ℕ) → d ≤ length ahead → IsRestOfWord seed words place ahead → IsRestOfWord seed words (place + d) (drop d ahead)
+rest_later seed words place d ahead inside h =
+    let fewer = length-drop d ahead in
+    let few : length ahead ≤ 4 = h.few in
+    let word = to_be_bytes w32 (seed_word seed (words - 1)) in
+    record {
+      few = omega arith;
+      ends = let ends = h.ends in omega arith;
+      rest = ap (drop d) h.rest ∙ drop-drop d (4 - length ahead) word ∙ ap (λ n. drop n word) (let e : 4 - length ahead + d ≡ 4 - length (drop d ahead) = omega arith in e);
+    }
+
+still_named : (content : Option (List ℕ)) (used n : ℕ) (ahead : List ℕ) → used % 8 + n ≤ 8 * length ahead → IfSome content (AreAt ahead (used / 8)) → IfSome content (AreAt (drop ((used % 8 + n) / 8) ahead) ((used + n) / 8))
+still_named None used n ahead held h = tt
+still_named (Some bytes) used n ahead held h =
+    let place : used / 8 + (used % 8 + n) / 8 ≡ (used + n) / 8 = omega arith in
+    subst (λ p. AreAt (drop ((used % 8 + n) / 8) ahead) p bytes) place (later ahead bytes (used / 8) ((used % 8 + n) / 8) (omega arith) h)
+
+-- what is read ahead after some bits is still the source's
+reads_ahead-later : (source : TapeSource) (contents : List ℕ → Option (List ℕ)) (used n : ℕ) (ahead : List ℕ) → used % 8 + n ≤ 8 * length ahead → ReadsAhead source contents (used / 8) ahead → ReadsAhead source contents ((used + n) / 8) (drop ((used % 8 + n) / 8) ahead)
+reads_ahead-later (TapeSource.Named name) contents used n ahead held h = still_named (contents name) used n ahead held h
+reads_ahead-later (TapeSource.Seeded seed) contents used n ahead held h = tt
+
+-- the byte with a bit that is read ahead begins what is left from it on
+same_bit : (used i : ℕ) (ahead : List ℕ) → byte_bit (get_or (drop ((used % 8 + i) / 8) ahead) 0 0) ((used + i) % 8) ≡ byte_bit (get_or ahead ((used % 8 + i) / 8) 0) ((used % 8 + i) % 8)
+same_bit used i ahead =
+    ap (λ b. byte_bit b ((used + i) % 8)) (get_or-drop ((used % 8 + i) / 8) ahead 0 0 ∙ ap (λ k. get_or ahead k 0) (let e : (used % 8 + i) / 8 + 0 ≡ (used % 8 + i) / 8 = omega arith in e))
+    ∙ ap (byte_bit (get_or ahead ((used % 8 + i) / 8) 0)) (let e : (used + i) % 8 ≡ (used % 8 + i) % 8 = omega arith in e)
+
+module _ (used n : ℕ) (ahead : List ℕ) (held : used % 8 + n ≤ 8 * length ahead) (room : used / 8 + length ahead ≤ 2 ^ 60) where
+  some_left : (i : ℕ) → i < n → 0 < length (drop ((used % 8 + i) / 8) ahead)
+  some_left i less = omega (arith, length-drop ((used % 8 + i) / 8) ahead)
+
+  named_next : (content : Option (List ℕ)) → IfSome content (AreAt ahead (used / 8)) → IfSome (option_map file_bit content) (λ bits. (i : ℕ) → i < n → bits (used + i) ≡ Some (byte_bit (get_or ahead ((used % 8 + i) / 8) 0) ((used % 8 + i) % 8)))
+  named_next None h = tt
+  named_next (Some bytes) h = λ i less.
+      named_bit (Some bytes) (used + i) (drop ((used % 8 + i) / 8) ahead) (omega arith) (some_left i less) (still_named (Some bytes) used i ahead (omega arith) h)
+      ∙ ap Some (same_bit used i ahead)
+
+  seeded_next : (seed words : ℕ) → IsRestOfWord seed words (used / 8) ahead → (i : ℕ) → i < n → seed_bit seed (used + i) ≡ Some (byte_bit (get_or ahead ((used % 8 + i) / 8) 0) ((used % 8 + i) % 8))
+  seeded_next seed words rest i less =
+      let place : used / 8 + (used % 8 + i) / 8 ≡ (used + i) / 8 = omega arith in
+      seeded_bit seed words (used + i) (drop ((used % 8 + i) / 8) ahead) (omega arith) (some_left i less) (subst (λ p. IsRestOfWord seed words p (drop ((used % 8 + i) / 8) ahead)) place (rest_later seed words (used / 8) ((used % 8 + i) / 8) ahead (omega arith) rest))
+      ∙ ap Some (same_bit used i ahead)
+
+  -- the bits that are read ahead are the source's next bits
+  next_bits : (source : Source) (contents : List ℕ → Option (List ℕ)) → SourceGoesOn source (used / 8) ahead → ReadsAhead (name_or_seed source) contents (used / 8) ahead → IfSome (bits_of_source (name_or_seed source) contents) (λ bits. (i : ℕ) → i < n → bits (used + i) ≡ Some (byte_bit (get_or ahead ((used % 8 + i) / 8) 0) ((used % 8 + i) % 8)))
+  next_bits (File name) contents goes reads = named_next (contents name) reads
+  next_bits (Seed words) contents goes reads = seeded_next words.seed words.place goes
+
+-- what holds of each of the first n bits holds of equal bits
+same_bits : (told : Option (ℕ → Option Bool)) (used n : ℕ) (one other : ℕ → Bool) → ((i : ℕ) → i < n → other i ≡ one i) → IfSome told (λ bits. (i : ℕ) → i < n → bits (used + i) ≡ Some (one i)) → IfSome told (λ bits. (i : ℕ) → i < n → bits (used + i) ≡ Some (other i))
+same_bits None used n one other same h = tt
+same_bits (Some bits) used n one other same h = λ i less. h i less ∙ ap Some (sym (same i less))
+
+-- The byte that a buffer looks ahead to shows the tape's bits, for a tape that is seen as these fields.
+pub shows_bits : (source : Source) (used n byte : ℕ) (buffer : Ahead) (old : TapeState) → record { source = name_or_seed source; used = used; ahead = buffer.bytes } ≡ old → buffer.bit ≡ used % 8 → used / 8 + length buffer.bytes ≤ 2 ^ 60 → SourceGoesOn source (used / 8) buffer.bytes → LooksAhead buffer byte n → ShowsBits old byte n
+shows_bits source used n byte buffer old seen at room goes looks =
+    let held : used % 8 + n ≤ 8 * length buffer.bytes = subst (λ k. k + n ≤ 8 * length buffer.bytes) at looks.held in
+    let now : TapeState = record { source = name_or_seed source; used = used; ahead = buffer.bytes } in
+    let shows : ShowsBits now byte n = record {
+      few = looks.few;
+      held = held;
+      next = λ contents b. same_bits (bits_of_source (name_or_seed source) contents) used n (λ i. byte_bit (get_or buffer.bytes ((used % 8 + i) / 8) 0) ((used % 8 + i) % 8)) (λ i. byte_bit byte i)
+          (λ i less. looks.bits i less ∙ ap (λ k. byte_bit (get_or buffer.bytes ((k + i) / 8) 0) ((k + i) % 8)) at)
+          (next_bits used n buffer.bytes held room source contents goes b.ahead);
+    } in
+    subst (λ t. ShowsBits t byte n) seen shows
+
+-- A tape seen as these fields passes over n bits.
+pub skips_bits : (source : Source) (used n more : ℕ) (buffer after : Ahead) (old : TapeState) → record { source = name_or_seed source; used = used; ahead = buffer.bytes } ≡ old → HoldsBits old n → buffer.bit ≡ used % 8 → after ≡ after_bits buffer n → more ≡ n → SkipsBits old n (record { source = name_or_seed source; used = used + more; ahead = after.bytes })
+skips_bits source used n more buffer after old seen held_old at then is =
+    let held : used % 8 + n ≤ 8 * length buffer.bytes = subst (λ t. HoldsBits t n) (sym seen) held_old in
+    let left : drop ((used % 8 + n) / 8) buffer.bytes ≡ after.bytes = ap (λ k. drop ((k + n) / 8) buffer.bytes) (sym at) ∙ sym (ap (λ a. a.bytes) then) in
+    let now : TapeState = record { source = name_or_seed source; used = used; ahead = buffer.bytes } in
+    let new : TapeState = record { source = name_or_seed source; used = used + more; ahead = after.bytes } in
+    let skips : SkipsBits now n new = record {
+      source = refl;
+      used = ap (λ m. used + m) is;
+      belongs = λ contents b. record { ahead = subst (λ m. ReadsAhead (name_or_seed source) contents ((used + m) / 8) after.bytes) (sym is) (subst (λ xs. ReadsAhead (name_or_seed source) contents ((used + n) / 8) xs) left (reads_ahead-later (name_or_seed source) contents used n buffer.bytes held b.ahead)) };
+    } in
+    subst (λ t. SkipsBits t n new) seen skips
