@@ -13,3 +13,5 @@ pub mod Ticks
 pub mod LeastCells
 pub mod LeastDrawn
 pub mod SpelledDraws
+pub mod KeptBounds
+pub mod KeptDraws

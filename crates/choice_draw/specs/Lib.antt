@@ -4,3 +4,4 @@ pub mod Whole
 pub mod Draw
 pub mod Answer
 pub mod LeastCell
+pub mod KeptChoices

@@ -1,0 +1,5 @@
+use Rattle.choice_draw.proofs.KeptBounds.{nothing-kept}
+use Rattle.choice_draw.proofs.kept.UnionTable.empty.Goals as goal
+
+pub invariant_of-result : goal.invariant_of-result
+invariant_of-result c = nothing-kept _
