@@ -1,7 +1,7 @@
 -- What is kept of the choices at a union: which option the first bits take, by the bounds that they
 -- were taken by.
-use Rattle.std.specs.Prelude.{◌≡◌, ℕ, suc, ◌-◌, ◌/◌, ◌^◌, ◌<◌, ◌≤◌, min, List, length, map, take, sum}
-use Rattle.std.specs.Prelude.{Option, Some, None, slice_index_or}
+use Rattle.std.specs.Prelude.{◌≡◌, ℕ, suc, ◌-◌, ◌/◌, ◌^◌, ◌<◌, ◌≤◌, min, List, length, map, take}
+use Rattle.std.specs.Prelude.{sum, Option, Some, None, slice_index_or}
 use Rattle.bz_model.specs.declared.cell.Cell.{Cell}
 use Rattle.bz_model.specs.declared.cell.Bounds.{Bounds}
 use Rattle.bz_model.specs.Cell.{IsCell}
@@ -51,8 +51,8 @@ pub record AreAtFirst (table : (level node : ℕ) → Bounds) (e : ℕ) (ps : Li
 abbrev pub kept_at : List FirstChoice → (byte : ℕ) → FirstChoice
 kept_at choices byte = slice_index_or choices byte (record { option = 0; bits = 0 })
 
--- What is kept for each byte, where it is of some bits, is the option that the cell of so many first
--- bits of the byte takes, and no cell of fewer of them decides.
+-- What is kept for a byte, where it is of some bits, is the option that the cell of this many first
+-- bits takes, and no cell of fewer of them decides.
 pub record AreKept (union : UnionBounds) (choices : List FirstChoice) : Type 0 where
   pub at : (byte : ℕ) → 0 < (kept_at choices byte).bits → TakesFirst (choice_by union)
       (kept_at choices byte).option (first_of byte (kept_at choices byte).bits)

@@ -1,6 +1,6 @@
 //! Choices at the unions of a system, kept from draw to draw.
-ghost use Rattle.std.specs.Prelude.{◌≡◌, ℕ, ◌+◌, ◌-◌, ◌*◌, ◌/◌, ◌^◌, ◌<◌, ◌≤◌, ◌⊎◌, max, map, length};
-ghost use Rattle.std.specs.Prelude.{IsTrue, IfSome, vec_len};
+ghost use Rattle.std.specs.Prelude.{◌≡◌, ℕ, ◌+◌, ◌-◌, ◌*◌, ◌/◌, ◌^◌, ◌<◌, ◌≤◌, ◌⊎◌, max, map};
+ghost use Rattle.std.specs.Prelude.{length, IsTrue, IfSome, vec_len};
 ghost use Rattle.bz_model.specs.Fraction.{IsFractionBits};
 ghost use Rattle.bz_model.specs.Spec.{node_at};
 ghost use Rattle.bz_model.specs.Oracle.{LeavesOracle};
@@ -68,7 +68,8 @@ impl Model for UnionTable {
 
     ghost view = { λ t. record { whole = t.whole; parts = t.parts.items } };
 
-    ghost invariant = { λ t. AreKept (record { whole = t.whole; parts = t.parts.items }) t.choices };
+    ghost invariant = { λ t. AreKept
+        (record { whole = t.whole; parts = t.parts.items }) t.choices };
 }
 
 impl UnionTable {
