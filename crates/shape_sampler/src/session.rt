@@ -28,7 +28,7 @@ use bz_model::oracle::Oracle;
 use bz_model::steps::Steps;
 use bz_outside::shelf::Shelf;
 use choice_draw::drawn::Drawn;
-use choice_draw::union::draw_union;
+use choice_draw::kept::{KeptUnions, draw_union_kept};
 use class_system::expr::Expr;
 use class_system::ids::{ClassId, ExprId};
 use class_system::system::System;
@@ -56,6 +56,7 @@ pub struct Session {
     stopped: Option<Stepped>,
     // What draws keep for later ones, whatever the attempt.
     kept: KeptTables,
+    unions: KeptUnions,
 }
 
 impl Model for Session {
@@ -101,6 +102,7 @@ impl Session {
             room,
             stopped: None,
             kept: KeptTables::make(alloc, system)?,
+            unions: KeptUnions::make(alloc, system)?,
         })
     }
 
@@ -378,7 +380,8 @@ impl Session {
             return Stepped::OutOfMemory;
         }
         system.known();
-        let drawn = draw_union(system, node, oracle, tape, shelf, steps);
+        let unions = &mut self.unions;
+        let drawn = draw_union_kept(system, node, unions, oracle, tape, shelf, steps);
         put_drawn(
             &mut self.pending,
             &mut self.shape,
