@@ -1,5 +1,6 @@
 //! One run, from the words and files to the status and what was written.
-ghost use Rattle.std.specs.Prelude.{◌≡◌, ◌<◌, ◌≤◌, [], IfOk};
+ghost use Rattle.std.specs.Prelude.{◌≡◌, ◌<◌, ◌≤◌, [], ◌∷◌, ◌++◌, IfOk, OnOk, IsNone};
+ghost use Rattle.bz_outside.specs.Memory.{content_of};
 
 use boltz::run::run;
 use bz_model::steps::Steps;
@@ -10,12 +11,30 @@ use std::alloc::{AllocError, Global};
 use std::marker::Brand;
 use std::process::Abort;
 use std::sync::ledger::{Blank, Ledger};
+use std::test::Fail;
 
 /// The status where memory is wanting.
 const NO_MEMORY: u8 = 10;
 
 /// Room for the longest text of these tests.
 const ROOM: usize = 4096;
+
+/// Stores bytes under a new name.
+fn store(
+    alloc: Global,
+    shelf: &mut MemoryShelf,
+    name: &[u8],
+    bytes: &[u8],
+) -> Result<(), AllocError>
+    requires new { IsNone (content_of shelf.old.files name.now) }
+    ensures stored { OnOk result (shelf.new ≡ record shelf.old {
+      files =
+          shelf.old.files ++ record { name = name.now; bytes = bytes.now } ∷ [];
+    }) }
+{
+    let bytes = Vec::from_slice(alloc, bytes)?;
+    shelf.add(Word::from_bytes(alloc, name)?, bytes)
+}
 
 /// A shelf with a specification under the name `s` and a tape under `t`.
 ///
@@ -30,14 +49,8 @@ pub fn shelf_of(
     ensures { IfOk result (λ shelf. shelf.calls.failing ≡ []) }
 {
     let mut shelf = MemoryShelf::new(alloc, most);
-    shelf.add(
-        Word::from_bytes(alloc, b"s")?,
-        Vec::from_slice(alloc, spec)?,
-    )?;
-    shelf.add(
-        Word::from_bytes(alloc, b"t")?,
-        Vec::from_slice(alloc, tape)?,
-    )?;
+    store(alloc, &mut shelf, b"s", spec)?;
+    store(alloc, &mut shelf, b"t", tape)?;
     Ok(shelf)
 }
 
@@ -48,26 +61,11 @@ pub fn pool_shelf(alloc: Global, schedule: &[u8]) -> Result<MemoryShelf, AllocEr
     ensures { IfOk result (λ shelf. shelf.calls.failing ≡ []) }
 {
     let mut shelf = MemoryShelf::new(alloc, 1);
-    shelf.add(
-        Word::from_bytes(alloc, b"s")?,
-        Vec::from_slice(alloc, b"unlabelled\nC = Z + Z\n")?,
-    )?;
-    shelf.add(
-        Word::from_bytes(alloc, b"c")?,
-        Vec::from_slice(alloc, schedule)?,
-    )?;
-    shelf.add(
-        Word::from_bytes(alloc, b"t0")?,
-        Vec::from_slice(alloc, b"\x80\x80")?,
-    )?;
-    shelf.add(
-        Word::from_bytes(alloc, b"t1")?,
-        Vec::from_slice(alloc, b"\0\0")?,
-    )?;
-    shelf.add(
-        Word::from_bytes(alloc, b"t2")?,
-        Vec::from_slice(alloc, b"\xc0\xc0")?,
-    )?;
+    store(alloc, &mut shelf, b"s", b"unlabelled\nC = Z + Z\n")?;
+    store(alloc, &mut shelf, b"c", schedule)?;
+    store(alloc, &mut shelf, b"t0", b"\x80\x80")?;
+    store(alloc, &mut shelf, b"t1", b"\0\0")?;
+    store(alloc, &mut shelf, b"t2", b"\xc0\xc0")?;
     Ok(shelf)
 }
 
@@ -129,7 +127,52 @@ pub fn compare<R: AllocGlobal + Abort>(
     let mut shelf = shelf_of(rt.alloc(), spec.as_bytes(), tape, 4096)?;
     let mut sink = MemorySink::new(rt.alloc(), 4096, ROOM)?;
     let got = status_of(rt, words, &mut shelf, &mut sink)?;
-    assert_eq!(rt; str::from_utf8(sink.written()), Ok(want), "{words}: {spec}");
-    assert_eq!(rt; got, status, "{words}: {spec}");
+    let written = str::from_utf8(sink.written());
+    assert_eq!(rt; (got, written), (status, Ok(want)), "{words}: {spec}");
     Ok(())
+}
+
+/// Compares each line of a table: words, a specification, the file under `t`, the status and the
+/// text that is wanted, with ` | ` between them.
+///
+/// There `;` stands for the end of a line, and each character of the file for the byte with its
+/// number.
+pub fn compare_table<R: AllocGlobal + Abort>(rt: &R, table: &str) -> Result<(), Fail> {
+    for line in table.lines() {
+        compare_line(rt, line)?;
+    }
+    Ok(())
+}
+
+fn compare_line<R: AllocGlobal + Abort>(rt: &R, line: &str) -> Result<(), Fail> {
+    let lines = line.replace(rt.alloc(), ";", "\n")?;
+    let [words, spec, file, status, want, ..] = fields_of(&lines);
+    let file = bytes_of(rt.alloc(), file)?;
+    compare(rt, words, spec, &file, status_in(status), want)?;
+    Ok(())
+}
+
+/// The fields of a line of a table, up to fourteen, with ` | ` between them, and empty ones behind.
+pub fn fields_of(line: &str) -> [&str; 14] {
+    let mut fields = [""; 14];
+    let mut parts = line.split(" | ");
+    for field in &mut fields {
+        *field = parts.next().unwrap_or("");
+    }
+    fields
+}
+
+/// A status as it is written; one that no run has where none is written.
+pub fn status_in(text: &str) -> u8 {
+    text.parse::<u8>().unwrap_or(u8::MAX)
+}
+
+/// The bytes whose numbers the characters of a text have.
+pub fn bytes_of(alloc: Global, text: &str) -> Result<Vec<u8>, Fail> {
+    let mut bytes = Vec::new(alloc);
+    for character in text.chars() {
+        let byte = u8::try_from(u32::from(character)).ok();
+        bytes.push(byte.ok_or("no byte")?)?;
+    }
+    Ok(bytes)
 }
