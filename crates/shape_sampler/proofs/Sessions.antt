@@ -2,7 +2,7 @@
 use Rattle.std.proofs.Common.{◌≡◌, ◌≢◌, ℕ, ◌<◌, List, [], ◌∷◌, length, sym, ◌∙◌, ap, subst, None, Some}
 use Rattle.bz_model.specs.declared.cell.Cell.{Cell}
 use Rattle.bz_model.specs.Fraction.{Fraction}
-use Rattle.bz_model.specs.Spec.{Spec}
+use Rattle.bz_model.specs.Spec.{Spec, body_of}
 use Rattle.bz_model.specs.Cell.{AreCells}
 use Rattle.object_store.specs.declared.token.Token.{Token}
 use Rattle.object_store.specs.Walk.{AllBelow}
@@ -63,3 +63,12 @@ still-belongs s x before now (Straddles node cell) used b l cells v = (subst (Se
 still-belongs s x before now Ended used b l cells v = (subst (SessionBelongs s x) (sym l) (stopped-belongs s x before Ended b), tt)
 still-belongs s x before now ReadFault used b l cells v = (subst (SessionBelongs s x) (sym l) (stopped-belongs s x before ReadFault b), tt)
 still-belongs s x before now OutOfMemory used b l cells v = (subst (SessionBelongs s x) (sym l) b, tt)
+
+-- a session with nothing pending and no cells belongs where it knows the body of class 0
+pub idle-belongs : (s : Spec) (x : Fraction) (st : SessionState) → body_of s 0 ≡ Some st.root → st.root < length s.nodes → st.pending ≡ [] → st.cells ≡ [] → SessionBelongs s x st
+idle-belongs s x st root root_in_range pending cells = record {
+  root = root;
+  root_in_range = root_in_range;
+  attempt = record { in_range = subst (AllBelow (length s.nodes)) (sym pending) tt; goes_on = λ some. absurd (some pending) };
+  cells = subst AreCells (sym cells) tt;
+}
