@@ -95,7 +95,12 @@ fn with_failed_read<R: AllocGlobal + Abort>(
     let got = status_of(rt, run.words, &mut shelf, &mut sink)?;
     let (status, header, rest) = want;
     let written = behind(sink.written(), header);
-    assert_eq!(rt; (got, written), (status, Some(rest)), "{}: read {call}", run.words);
+    assert_eq!(rt;
+        (got, written),
+        (status, Some(rest)),
+        "{}: read {call}",
+        run.words
+    );
     Ok(())
 }
 
@@ -122,7 +127,14 @@ fn each_read_fails<R: AllocGlobal + Abort>(
         }
     }
     let call = call.saturating_add(1);
-    with_failed_read(rt, run, tape, most, call, (run.status, run.header, run.rest))?;
+    with_failed_read(
+        rt,
+        run,
+        tape,
+        most,
+        call,
+        (run.status, run.header, run.rest),
+    )?;
     Ok(())
 }
 
@@ -131,7 +143,13 @@ fn reads_fail<R: AllocGlobal + Abort>(rt: &R, line: &str) -> Result<(), Fail> {
     let lines = line.replace(rt.alloc(), ";", "\n")?;
     let [words, spec, tape, status, header, rest, broken @ ..] = fields_of(&lines);
     let status = status_in(status);
-    let run = Run { words, spec, status, header, rest };
+    let run = Run {
+        words,
+        spec,
+        status,
+        header,
+        rest,
+    };
     let tape = bytes_of(rt.alloc(), tape)?;
     each_read_fails(rt, &run, &tape, &broken, 1)?;
     each_read_fails(rt, &run, &tape, &broken, 10)?;
@@ -193,7 +211,13 @@ fn writes_fail<R: AllocGlobal + Abort>(rt: &R, line: &str) -> Result<(), Fail> {
     let lines = line.replace(rt.alloc(), ";", "\n")?;
     let [words, spec, tape, status, header, rest, ..] = fields_of(&lines);
     let status = status_in(status);
-    let run = Run { words, spec, status, header, rest };
+    let run = Run {
+        words,
+        spec,
+        status,
+        header,
+        rest,
+    };
     let tape = bytes_of(rt.alloc(), tape)?;
     writes_of(rt, &run, &tape)
 }

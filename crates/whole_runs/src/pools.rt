@@ -96,11 +96,29 @@ fn compare_pool<R: AllocGlobal + Abort>(
 }
 
 fn compare_line<R: AllocGlobal + Abort>(rt: &R, line: &str) -> Result<(), Fail> {
-    let [asked, times, words, call, status, first, second, third, order, ..] = fields_of(line);
+    let [
+        asked,
+        times,
+        words,
+        call,
+        status,
+        first,
+        second,
+        third,
+        order,
+        ..
+    ] = fields_of(line);
     let (times, call) = (number_in(times), number_in(call));
     let schedule = schedule_of(rt.alloc(), asked, times)?;
     let want = pool_text(rt.alloc(), first, second, third, order)?;
-    compare_pool(rt, words, &schedule, u64::from(call), status_in(status), &want)?;
+    compare_pool(
+        rt,
+        words,
+        &schedule,
+        u64::from(call),
+        status_in(status),
+        &want,
+    )?;
     Ok(())
 }
 
