@@ -141,7 +141,9 @@ fn each_read_fails<R: AllocGlobal + Abort>(
 /// Lets each read of a run of the table fail in turn, where a read gives a byte, ten or all.
 fn reads_fail<R: AllocGlobal + Abort>(rt: &R, line: &str) -> Result<(), Fail> {
     let lines = line.replace(rt.alloc(), ";", "\n")?;
-    let [words, spec, tape, status, header, rest, broken @ ..] = fields_of(&lines);
+    let fields = fields_of(&lines);
+    let [words, spec, tape, status, header, rest, ..] = fields;
+    let broken = &fields[6..];
     let status = status_in(status);
     let run = Run {
         words,
@@ -151,9 +153,9 @@ fn reads_fail<R: AllocGlobal + Abort>(rt: &R, line: &str) -> Result<(), Fail> {
         rest,
     };
     let tape = bytes_of(rt.alloc(), tape)?;
-    each_read_fails(rt, &run, &tape, &broken, 1)?;
-    each_read_fails(rt, &run, &tape, &broken, 10)?;
-    each_read_fails(rt, &run, &tape, &broken, 4096)?;
+    each_read_fails(rt, &run, &tape, broken, 1)?;
+    each_read_fails(rt, &run, &tape, broken, 10)?;
+    each_read_fails(rt, &run, &tape, broken, 4096)?;
     Ok(())
 }
 

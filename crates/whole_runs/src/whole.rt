@@ -156,8 +156,8 @@ fn compare_line<R: AllocGlobal + Abort>(rt: &R, line: &str) -> Result<(), Fail> 
 pub fn fields_of(line: &str) -> [&str; 14] {
     let mut fields = [""; 14];
     let mut parts = line.split(" | ");
-    for field in &mut fields {
-        *field = parts.next().unwrap_or("");
+    for i in 0..fields.len() {
+        fields[i] = parts.next().unwrap_or("");
     }
     fields
 }
