@@ -1,4 +1,5 @@
 pub mod GivenBits
+pub mod HeldWords
 pub mod Leaving
 pub mod NewTapes
 pub mod NextBits

@@ -11,7 +11,7 @@ use Rattle.bit_tape.specs.declared.source.Source.{Source}
 use Rattle.bit_tape.specs.declared.source.Source.TheVariants.{File, Seed}
 use Rattle.bit_tape.specs.Bits.{within_tape, byte_bit, word_bit, file_bit, seed_bit, seed_word}
 use Rattle.bit_tape.specs.Buffer.{Ahead, after_bit}
-use Rattle.bit_tape.specs.Source.{name_or_seed, SourceGoesOn, IsRestOfWord}
+use Rattle.bit_tape.specs.Source.{name_or_seed, SourceGoesOn, AreOfWords}
 use Rattle.bit_tape.specs.Refill.{HasEnded}
 use Rattle.bit_tape.specs.Tape.{TapeSource, TapeState, AreAt, GivesBit, bits_of_source}
 
@@ -70,16 +70,14 @@ named_bit None used ahead below some h = tt
 named_bit (Some bytes) used ahead below some h =
     within used _ below ∙ ap (option_map (λ byte. byte_bit byte (used % 8))) (first_byte ahead bytes (used / 8) some h)
 
--- the rest of a word has the seed's next bit first
-pub seeded_bit : (seed words used : ℕ) (ahead : List ℕ) → used < 2 ^ 63 → 0 < length ahead → IsRestOfWord seed words (used / 8) ahead → seed_bit seed used ≡ Some (byte_bit (get_or ahead 0 0) (used % 8))
+-- the bytes of the words have the seed's next bit first
+pub seeded_bit : (seed words used : ℕ) (ahead : List ℕ) → used < 2 ^ 63 → 0 < length ahead → AreOfWords seed words (used / 8) ahead → seed_bit seed used ≡ Some (byte_bit (get_or ahead 0 0) (used % 8))
 seeded_bit seed words used ahead below some h =
-    let few : length ahead ≤ 4 = h.few in
-    let ends : used / 8 + length ahead ≡ 4 * words = h.ends in
-    let j = 4 - length ahead in
-    let which : used / 32 ≡ words - 1 = omega arith in
+    let j = (used / 8 + 0) % 4 in
+    let which : used / 32 ≡ (used / 8 + 0) / 4 = omega arith in
     let place : used % 32 ≡ 8 * j + used % 8 = omega arith in
-    let word = seed_word seed (words - 1) in
-    let first : get_or ahead 0 0 ≡ get_or (to_be_bytes w32 word) j 0 = ap (λ bytes. get_or bytes 0 0) h.rest ∙ get_or-drop j (to_be_bytes w32 word) 0 0 ∙ ap (λ i. get_or (to_be_bytes w32 word) i 0) (omega arith) in
+    let word = seed_word seed ((used / 8 + 0) / 4) in
+    let first : get_or ahead 0 0 ≡ get_or (to_be_bytes w32 word) j 0 = h.each 0 some in
     let bit : byte_bit (get_or ahead 0 0) (used % 8) ≡ word_bit word (8 * j + used % 8) = ap (λ byte. byte_bit byte (used % 8)) first ∙ bit_in_word word j (used % 8) (omega arith) (omega arith) in
     within used _ below ∙ ap Some (ap (λ n. word_bit (seed_word seed n) (used % 32)) which ∙ ap (word_bit word) place ∙ sym bit)
 

@@ -3,12 +3,12 @@ use Rattle.std.proofs.Common.{◌≡◌, ℕ, ◌+◌, ◌-◌, ◌*◌, ◌/◌
 use Rattle.std.specs.Prelude.{IfSome, nat_eq, option_map}
 use Rattle.std.specs.Int.{w32, to_be_bytes, bit_at}
 use Rattle.std.proofs.lemmas.Bool.{cases_lt}
-use Rattle.std.proofs.lemmas.List.{get_or-drop, drop-drop}
+use Rattle.std.proofs.lemmas.List.{get_or-drop}
 use Rattle.std.proofs.lemmas.Nat.Bits.{bit_at_cat_low, bit_at_cat_high}
 use Rattle.bit_tape.specs.declared.source.Source.{Source}
 use Rattle.bit_tape.specs.declared.source.Source.TheVariants.{File, Seed}
 use Rattle.bit_tape.specs.Bits.{byte_bit, file_bit, seed_bit, seed_word}
-use Rattle.bit_tape.specs.Source.{name_or_seed, SourceGoesOn, IsRestOfWord}
+use Rattle.bit_tape.specs.Source.{name_or_seed, SourceGoesOn, AreOfWords}
 use Rattle.bit_tape.specs.Buffer.{Ahead, after_bits, LooksAhead}
 use Rattle.bit_tape.specs.Tape.{TapeSource, TapeState, AreAt, ReadsAhead, HoldsBits, ShowsBits, SkipsBits, bits_of_source}
 use Rattle.bit_tape.proofs.NextBits.{bit_of_byte, later, named_bit, seeded_bit}
@@ -41,17 +41,29 @@ bit_of_peeked bytes place s first second byte i s8 i8 fits is_first is_second is
     ∙ ap (λ b. byte_bit b ((s + i) % 8)) (is_second ∙ ap (λ k. get_or bytes k 0) (let e : place + 1 ≡ place + (s + i) / 8 = omega arith in e) ∙ sym (get_or-drop place bytes ((s + i) / 8) 0)))
     (cases_lt (s + i) 8)
 
--- what is left of a word after some of its bytes
-rest_later : (seed words place d : ℕ) (ahead : List ℕ) → d ≤ length ahead → IsRestOfWord seed words place ahead → IsRestOfWord seed words (place + d) (drop d ahead)
-rest_later seed words place d ahead inside h =
+-- What is left of the bytes of words after some of them are bytes of these words.
+pub words_later : (seed words place d : ℕ) (ahead : List ℕ) → d ≤ length ahead → AreOfWords seed words place ahead → AreOfWords seed words (place + d) (drop d ahead)
+words_later seed words place d ahead inside h =
     let fewer = length-drop d ahead in
-    let few : length ahead ≤ 4 = h.few in
-    let word = to_be_bytes w32 (seed_word seed (words - 1)) in
     record {
-      few = omega arith;
       ends = let ends = h.ends in omega arith;
-      rest = ap (drop d) h.rest ∙ drop-drop d (4 - length ahead) word ∙ ap (λ n. drop n word) (let e : 4 - length ahead + d ≡ 4 - length (drop d ahead) = omega arith in e);
+      each = λ i less. get_or-drop d ahead i 0 ∙ h.each (d + i) (omega arith) ∙ ap (λ p. get_or (to_be_bytes w32 (seed_word seed (p / 4))) (p % 4) 0) (let e : place + (d + i) ≡ place + d + i = omega arith in e);
     }
+
+-- A source goes on where the bytes that are left after n bits end.
+goes_later : (source : Source) (used n : ℕ) (ahead : List ℕ) → used % 8 + n ≤ 8 * length ahead → SourceGoesOn source (used / 8) ahead → SourceGoesOn source ((used + n) / 8) (drop ((used % 8 + n) / 8) ahead)
+goes_later (File name) used n ahead held goes = tt
+goes_later (Seed words) used n ahead held goes =
+    let place : used / 8 + (used % 8 + n) / 8 ≡ (used + n) / 8 = omega arith in
+    subst (λ p. AreOfWords words.seed words.place p (drop ((used % 8 + n) / 8) ahead)) place (words_later words.seed words.place (used / 8) ((used % 8 + n) / 8) ahead (omega arith) goes)
+
+-- After n bits the fields of a tape still fit one another.
+pub still_fits : (source : Source) (used n more : ℕ) (buffer after : Ahead) → buffer.bit ≡ used % 8 → used / 8 + length buffer.bytes ≤ 2 ^ 60 → SourceGoesOn source (used / 8) buffer.bytes → used % 8 + n ≤ 8 * length buffer.bytes → after ≡ after_bits buffer n → more ≡ n → (after.bit ≡ (used + more) % 8) × ((used + more) / 8 + length after.bytes ≤ 2 ^ 60) × SourceGoesOn source ((used + more) / 8) after.bytes
+still_fits source used n more buffer after at room goes held then is =
+    let left : after.bytes ≡ drop ((used % 8 + n) / 8) buffer.bytes = ap (λ a. a.bytes) then ∙ ap (λ k. drop ((k + n) / 8) buffer.bytes) at in
+    let many : length after.bytes ≡ length buffer.bytes - (used % 8 + n) / 8 = ap length left ∙ length-drop ((used % 8 + n) / 8) buffer.bytes in
+    let bit : after.bit ≡ (used % 8 + n) % 8 = ap (λ a. a.bit) then ∙ ap (λ k. (k + n) % 8) at in
+    (omega arith, omega arith, subst (λ m. SourceGoesOn source ((used + m) / 8) after.bytes) (sym is) (subst (λ bytes. SourceGoesOn source ((used + n) / 8) bytes) (sym left) (goes_later source used n buffer.bytes held goes)))
 
 still_named : (content : Option (List ℕ)) (used n : ℕ) (ahead : List ℕ) → used % 8 + n ≤ 8 * length ahead → IfSome content (AreAt ahead (used / 8)) → IfSome content (AreAt (drop ((used % 8 + n) / 8) ahead) ((used + n) / 8))
 still_named None used n ahead held h = tt
@@ -80,10 +92,10 @@ module _ (used n : ℕ) (ahead : List ℕ) (held : used % 8 + n ≤ 8 * length a
       named_bit (Some bytes) (used + i) (drop ((used % 8 + i) / 8) ahead) (omega arith) (some_left i less) (still_named (Some bytes) used i ahead (omega arith) h)
       ∙ ap Some (same_bit used i ahead)
 
-  seeded_next : (seed words : ℕ) → IsRestOfWord seed words (used / 8) ahead → (i : ℕ) → i < n → seed_bit seed (used + i) ≡ Some (byte_bit (get_or ahead ((used % 8 + i) / 8) 0) ((used % 8 + i) % 8))
+  seeded_next : (seed words : ℕ) → AreOfWords seed words (used / 8) ahead → (i : ℕ) → i < n → seed_bit seed (used + i) ≡ Some (byte_bit (get_or ahead ((used % 8 + i) / 8) 0) ((used % 8 + i) % 8))
   seeded_next seed words rest i less =
       let place : used / 8 + (used % 8 + i) / 8 ≡ (used + i) / 8 = omega arith in
-      seeded_bit seed words (used + i) (drop ((used % 8 + i) / 8) ahead) (omega arith) (some_left i less) (subst (λ p. IsRestOfWord seed words p (drop ((used % 8 + i) / 8) ahead)) place (rest_later seed words (used / 8) ((used % 8 + i) / 8) ahead (omega arith) rest))
+      seeded_bit seed words (used + i) (drop ((used % 8 + i) / 8) ahead) (omega arith) (some_left i less) (subst (λ p. AreOfWords seed words p (drop ((used % 8 + i) / 8) ahead)) place (words_later seed words (used / 8) ((used % 8 + i) / 8) ahead (omega arith) rest))
       ∙ ap Some (same_bit used i ahead)
 
   -- the bits that are read ahead are the source's next bits

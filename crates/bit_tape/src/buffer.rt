@@ -2,12 +2,13 @@
 ghost use Rattle.std.specs.Prelude.{◌≡◌, ℕ, ◌+◌, ◌-◌, ◌*◌, ◌/◌, ◌%◌, ◌^◌, ◌<◌, ◌≤◌, ◌↔◌, List};
 ghost use Rattle.std.specs.Prelude.{[], length, take, slice_index};
 ghost use Rattle.std.specs.Prelude.{IsTrue, IfSome, IfOk, OnOk, OnErr};
-ghost use Rattle.std.specs.Int.{w32, to_be_bytes};
 ghost use Rattle.bz_outside.specs.Outside.{ReadFailed};
 ghost use Rattle.bit_tape.specs.Bits.{byte_bit};
 ghost use Rattle.bit_tape.specs.Buffer.{after_bit, after_bits, LooksAhead};
+ghost use Rattle.bit_tape.specs.Source.{AreFirstBytes, AreOfWords};
 ghost use Rattle.bit_tape.specs.Tape.{AreAt};
 
+use crate::words::Words;
 use bz_outside::shelf::{Failed, Shelf};
 use bz_outside::word::Word;
 use std::marker::Model;
@@ -107,14 +108,19 @@ impl BitBuffer {
         self.at += n as usize;
     }
 
-    /// Takes in the bytes of a word, the highest first.
-    pub fn hold_word(&mut self, word: u32)
-        requires { length self.old.bytes ≡ 0 }
-        ensures bytes { self.new.bytes ≡ to_be_bytes w32 word }
+    /// Takes in the bytes of the next `count` words, the highest byte of each first.
+    pub fn hold_words(&mut self, words: &mut Words, count: usize)
+        requires empty { length self.old.bytes ≡ 0 }
+        requires room { 4 * count ≤ 4096 }
+        requires within { words.old.place + count ≤ 2 ^ 60 }
+        ensures bytes { AreOfWords words.old.seed words.new.place (4 * words.old.place)
+            self.new.bytes }
+        ensures length { length self.new.bytes ≡ 4 * count }
         ensures bit { self.new.bit ≡ self.old.bit }
+        ensures words { words.new ≡ record words.old { place = words.old.place + count } }
     {
-        self.bytes[..4].copy_from_slice(&word.to_be_bytes());
-        self.filled = 4;
+        write_words(&mut self.bytes, words, count);
+        self.filled = 4 * count;
         self.at = 0;
     }
 
@@ -150,6 +156,20 @@ impl BitBuffer {
         self.filled = n;
         self.at = 0;
         Ok(n)
+    }
+}
+
+/// Writes the next `count` words over the first bytes, the highest byte of each first.
+fn write_words(bytes: &mut [u8], words: &mut Words, count: usize)
+    requires room { 4 * count ≤ length bytes.old }
+    requires within { words.old.place + count ≤ 2 ^ 60 }
+    ensures length { length bytes.new ≡ length bytes.old }
+    ensures each { AreFirstBytes words.old.seed words.old.place (4 * count) bytes.new }
+    ensures words { words.new ≡ record words.old { place = words.old.place + count } }
+{
+    for i in 0..count {
+        let word = words.next();
+        bytes[4 * i..4 * i + 4].copy_from_slice(&word.to_be_bytes());
     }
 }
 

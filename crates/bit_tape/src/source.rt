@@ -1,10 +1,14 @@
 //! Where a tape's bytes come from.
-ghost use Rattle.std.specs.Prelude.{◌≡◌, ℕ, ◌+◌, ◌^◌, ◌<◌, ◌≤◌, List, length, IfSome};
+ghost use Rattle.std.specs.Prelude.{◌≡◌, ℕ, ◌-◌, ◌/◌, ◌^◌, ◌<◌, ◌≤◌, List, length, min, IfSome};
 
-use crate::buffer::BitBuffer;
+use crate::buffer::{BitBuffer, MOST_BYTES};
 use crate::words::Words;
 use bz_outside::shelf::{Failed, Shelf};
 use bz_outside::word::Word;
+
+/// The most words of a seed that are read ahead at a time: 256 bytes, so that who looks ahead
+/// seldom meets the end of what is read.
+const BLOCK: usize = 64;
 
 /// A file's name, or the words of a seed.
 #[derive(Drop)]
@@ -45,7 +49,7 @@ impl Source {
     {
         match self {
             Source::Seed(words) => {
-                buffer.hold_word(words.next());
+                buffer.hold_words(words, words_from(place));
                 Refill::Bytes
             }
             Source::File(name) => match buffer.fill(shelf, name, place) {
@@ -54,5 +58,18 @@ impl Source {
                 Err(Failed) => Refill::ReadFault,
             },
         }
+    }
+}
+
+/// How many words are read ahead from a place on: a block, or as many as the limit leaves.
+fn words_from(place: u64) -> usize
+    requires { place < 2 ^ 60 }
+    ensures exact { result ≡ min 64 ((2 ^ 60 - place) / 4) }
+{
+    let left = (MOST_BYTES - place) / 4;
+    if left < BLOCK as u64 {
+        left as usize
+    } else {
+        BLOCK
     }
 }
