@@ -17,6 +17,7 @@
 pub mod drawing;
 pub mod ending;
 mod finished_shape;
+mod labelling_turn;
 pub mod laws;
 pub mod limits;
 pub mod turned;
