@@ -14,6 +14,7 @@
 //! that an object is ever kept, nor what a tape's bits are where its shelf doesn't tell.
 #![tactic(auto)]
 
+mod ahead;
 pub mod drawing;
 pub mod ending;
 mod finished_shape;
