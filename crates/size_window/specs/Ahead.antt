@@ -1,5 +1,5 @@
 -- Many turns in a row, each of which only visited a node and went on.
-use Rattle.std.specs.Prelude.{◌≡◌, ℕ, zero, suc, ◌+◌, ◌-◌, ◌≤◌, Bool, Option, None}
+use Rattle.std.specs.Prelude.{◌≡◌, ◌≢◌, ℕ, zero, suc, ◌+◌, ◌-◌, ◌≤◌, Bool, Option, None}
 use Rattle.bz_model.specs.declared.cell.Bounds.{Bounds}
 use Rattle.bz_model.specs.Fraction.{Fraction}
 use Rattle.bz_model.specs.Spec.{Spec}
@@ -36,3 +36,11 @@ Goes s x F table told raised (suc n) before start now used = (mid : DrawingState
 -- A drawing with this session, after so many turns more; all else stays.
 abbrev pub gone_on : DrawingState → SessionState → (turns : ℕ) → DrawingState
 gone_on d session turns = record d { session = session; turns = d.turns + turns }
+
+-- So many turns may be made ahead: no more than the limit leaves, and none unless the drawing goes
+-- on, fewer objects than wanted are kept, and no shape waits for its labels.
+pub record MayGoAhead (d : DrawingState) (turns : ℕ) : Type 0 where
+  pub within : d.turns + turns ≤ d.limits.turns
+  pub going : 1 ≤ turns → d.ending ≡ None
+  pub fewer : 1 ≤ turns → d.kept ≢ d.limits.count
+  pub no_shape : 1 ≤ turns → d.waiting ≡ None

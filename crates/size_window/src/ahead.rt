@@ -2,7 +2,7 @@
 ghost use Rattle.std.specs.Prelude.{◌≡◌, ◌+◌, ◌≤◌, ℕ, List, Option};
 ghost use Rattle.bz_model.specs.Fraction.{IsFractionBits};
 ghost use Rattle.bit_tape.specs.Tape.{BelongsToShelf, bits_of_source};
-ghost use Rattle.size_window.specs.Ahead.{Goes, gone_on};
+ghost use Rattle.size_window.specs.Ahead.{Goes, MayGoAhead, gone_on};
 ghost use Rattle.size_window.specs.Drawing.{DrawingBelongs};
 
 use crate::drawing::Drawing;
@@ -39,6 +39,28 @@ impl Drawing {
         ensures belongs { (contents : List ℕ → Option (List ℕ)) → BelongsToShelf contents tape.old
             → BelongsToShelf contents tape.new }
     {
-        0
+        let most = self.most_ahead();
+        let made = self.session.visit_ahead(founded, oracle, tape, most);
+        self.counts.turns += made;
+        made
+    }
+
+    /// The most turns that may be made ahead: as many as the limit leaves where the drawing goes on
+    /// and no shape waits for its labels, and else none.
+    #[inline(always)]
+    fn most_ahead(&self) -> u64
+        requires { self.now.turns ≤ self.now.limits.turns }
+        ensures { MayGoAhead self.now result }
+    {
+        if self.ending.is_some() {
+            return 0;
+        }
+        if self.waiting.is_some() {
+            return 0;
+        }
+        if self.counts.kept == self.limits.count {
+            return 0;
+        }
+        self.limits.turns - self.counts.turns
     }
 }
