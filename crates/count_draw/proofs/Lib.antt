@@ -8,3 +8,6 @@ pub mod CountedNodes
 pub mod CountsSound
 pub mod CountsIdeal
 pub mod ToldCounts
+pub mod FirstBounds
+pub mod FirstPlaces
+pub mod OtherRooms

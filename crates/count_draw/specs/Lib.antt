@@ -3,3 +3,4 @@ pub mod Decision
 pub mod Table
 pub mod Answer
 pub mod Row
+pub mod FirstCounts

@@ -9,6 +9,7 @@ ghost use Rattle.count_draw.specs.Table.{options_of};
 ghost use Rattle.count_draw.specs.Row.{AreFor};
 
 use crate::choice::choose;
+use crate::first_counts::FirstCounts;
 use crate::kind::{CountChoice, CountKind};
 use crate::partial_sums::CountSums;
 use crate::prefix_sums::{LowerRow, UpperRow};
@@ -144,40 +145,50 @@ impl KeptRows {
     }
 }
 
-/// Values that draws of numbers of parts keep, for the first 256 options of each sequence, set and
-/// cycle of a system, at the levels 1 and 2.
+/// What draws keep of one sequence, set or cycle: which numbers of parts first bits decided, and
+/// rows of values at level 1, and at a higher level.
+#[derive(Drop)]
+pub(crate) struct NodeTables {
+    pub(crate) firsts: FirstCounts,
+    pub(crate) rows: [KeptRows; 2],
+}
+
+/// What draws of numbers of parts keep of each sequence, set and cycle of a system: what was decided
+/// by the first eleven bits, and values of the first 256 options, at the levels 1 and 2.
 ///
-/// Each node's values are kept with what they were found for, and found anew for something else: so
-/// any tables serve any draw, and only its time depends on them.
+/// All of this is kept with what it was found for, and found anew for something else: so any tables
+/// serve any draw, and only its time depends on them.
 #[derive(Drop)]
 pub struct KeptTables {
     // How many sequences, sets and cycles come before each node.
     places: Vec<usize>,
-    // The rows of each, at level 1, and at a higher level.
-    pub(crate) rows: Vec<[KeptRows; 2]>,
+    pub(crate) tables: Vec<NodeTables>,
 }
 
 impl KeptTables {
     /// Tables for a system's nodes, that keep nothing yet. Further memory is never taken.
     pub fn make(alloc: Global, system: &System) -> Result<KeptTables, AllocError> {
         let mut places = Vec::new(alloc);
-        let mut rows = Vec::new(alloc);
+        let mut tables = Vec::new(alloc);
         for node in system.nodes() {
-            places.push(rows.len())?;
+            places.push(tables.len())?;
             if let Expr::Seq(_) | Expr::Set(_) | Expr::Cyc(_) = node {
-                rows.push([KeptRows::empty(), KeptRows::empty()])?;
+                tables.push(NodeTables {
+                    firsts: FirstCounts::empty(alloc)?,
+                    rows: [KeptRows::empty(), KeptRows::empty()],
+                })?;
             }
         }
-        Ok(KeptTables { places, rows })
+        Ok(KeptTables { places, tables })
     }
 
-    /// Where the rows of a node stand; `None` where it has none.
+    /// Where the tables of a node stand; `None` where it has none.
     #[inline]
     pub(crate) fn place_of(&self, node: ExprId) -> Option<usize>
-        ensures inside { IfSome result (λ place. place < vec_len self.now.rows) }
+        ensures inside { IfSome result (λ place. place < vec_len self.now.tables) }
     {
         let place = *self.places.get(node.0 as usize)?;
-        if place < self.rows.len() {
+        if place < self.tables.len() {
             Some(place)
         } else {
             None

@@ -14,10 +14,10 @@ ghost use Rattle.count_draw.specs.Decision.{count_choice, count_decision, chosen
 ghost use Rattle.count_draw.specs.Decision as decision;
 ghost use Rattle.count_draw.specs.Answer.{OnCount, OnOver, told_count, is_count_fault};
 
-use crate::cache::{KeptRows, KeptTables};
+use crate::cache::{KeptRows, KeptTables, NodeTables};
 use crate::choice::top_of;
 use crate::drawn_count::CountDrawn;
-use crate::kind::{CountChoice, CountKind};
+use crate::kind::{CountChoice, CountKind, Counted};
 use crate::partial_sums::CountSums;
 use bit_tape::tape::{BitAnswer, Tape};
 use bz_model::cell::Cell;
@@ -27,7 +27,6 @@ use bz_outside::shelf::Shelf;
 use choice_draw::cells::{half_of, level_at};
 use class_system::expr::Expr;
 use class_system::ids::ExprId;
-use class_system::ranges::Range;
 use class_system::system::System;
 use std::sync::ledger::Ledger;
 
@@ -82,8 +81,10 @@ pub fn draw_count<const F: u32, O: Oracle<F>, S: Shelf, L: Ledger>(
     )
 }
 
-/// Draws the number of parts of a sequence, set or cycle, as `draw_count` does, by kept values:
-/// those that a draw comes past are kept for later ones. Takes no memory.
+/// Draws the number of parts of a sequence, set or cycle, as `draw_count` does, by what is kept:
+/// where the bits that are read ahead decided before, the number is looked up; else kept values
+/// serve, and what a draw decides by its first eleven bits is kept for later ones, as are the values
+/// that it comes past. Takes no memory.
 pub fn draw_count_kept<const F: u32, O: Oracle<F>, S: Shelf, L: Ledger>(
     system: &System,
     node: ExprId,
@@ -118,18 +119,63 @@ pub fn draw_count_kept<const F: u32, O: Oracle<F>, S: Shelf, L: Ledger>(
         tape.new }
 {
     match kept.place_of(node) {
-        Some(place) => draw_by_rows(
-            system,
-            node,
-            room,
-            &mut kept.rows[place],
-            oracle,
-            tape,
-            shelf,
-            steps,
-        ),
+        Some(place) => {
+            let tables = &mut kept.tables[place];
+            draw_by_tables(system, node, room, tables, oracle, tape, shelf, steps)
+        }
         None => draw_count(system, node, room, oracle, tape, shelf, steps),
     }
+}
+
+/// Draws by the tables of a node.
+fn draw_by_tables<const F: u32, O: Oracle<F>, S: Shelf, L: Ledger>(
+    system: &System,
+    node: ExprId,
+    room: u64,
+    tables: &mut NodeTables,
+    oracle: &mut O,
+    tape: &mut Tape,
+    shelf: &mut S,
+    steps: &mut Steps<L>,
+) -> CountDrawn
+    requires fraction_bits { IsFractionBits F }
+    requires counted { IsCountedNode system.now node.0 }
+    requires room { room ≤ 1000000 }
+    requires spec { O.spec oracle.old ≡ system.now }
+    requires belongs { BelongsToShelf (S.content shelf.old) tape.old }
+
+    ensures drawn { IsDraw (count_decision system.now F (O.table oracle.old) node.0 room)
+        (bits_of_source tape.old.source (S.content shelf.old))
+        tape.old.used tape.new.used (told_count result tape.new.used) }
+    ensures ideal { OnCount result (λ i cell.
+        IsIdealOfCell system.now (O.x oracle.old) node.0 cell i) }
+    ensures over { OnOver result (λ cell.
+        IsOverOfCell system.now (O.x oracle.old) node.0 cell room) }
+    ensures in_range { OnCount result (λ i cell. IsInRange i (range_at system.now node.0)
+        × (i ≤ room)) }
+    ensures raised { O.raised oracle.new
+        ≡ max (O.raised oracle.old) (level_for (tape.new.used - tape.old.used)) }
+    ensures oracle { LeavesOracle O.spec O.x O.table O.cost O.raised
+        oracle.old oracle.new steps.old steps.new }
+    ensures tape { LeavesTape S.content S.faults
+        (is_count_fault result) shelf.old shelf.new tape.old
+        tape.new }
+{
+    oracle.known();
+    let counted = counted_at(system, node);
+    let ahead = tape.peek();
+    if let Some(first) = tables.firsts.find(&counted, node, room, ahead, oracle) {
+        let cell = first.cell(ahead.word);
+        tape.skip(cell.b);
+        return CountDrawn::Count {
+            value: u64::from(first.count),
+            cell,
+        };
+    }
+    let rows = &mut tables.rows;
+    let drawn = draw_by_rows(system, node, room, rows, oracle, tape, shelf, steps);
+    tables.firsts.learn(&counted, node, drawn, oracle);
+    drawn
 }
 
 /// Draws by rows of kept values: the first at level 1, the last at a higher level.
@@ -212,14 +258,6 @@ pub fn decide_count<const F: u32, O: Oracle<F>>(
     oracle.known();
     let counted = counted_at(system, node);
     decide_by_rows(counted, node, room, cell, &mut [KeptRows::empty()], oracle)
-}
-
-/// A sequence, set or cycle: its construction, its part and its range.
-#[derive(Clone, Copy)]
-struct Counted {
-    kind: CountKind,
-    part: ExprId,
-    range: Range,
 }
 
 /// The sequence, set or cycle at a node.

@@ -16,6 +16,7 @@ pub mod cache;
 mod choice;
 pub mod count;
 pub mod drawn_count;
+mod first_counts;
 pub mod kind;
 mod partial_sums;
 mod prefix_sums;
