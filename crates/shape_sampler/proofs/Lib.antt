@@ -8,3 +8,4 @@ pub mod Plain
 pub mod Union
 pub mod FreeParts
 pub mod CountVisits
+pub mod Moves
