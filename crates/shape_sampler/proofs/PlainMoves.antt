@@ -1,5 +1,8 @@
 -- Visits that take no number and move on, from what was put and taken away.
-use Rattle.std.proofs.Common.{◌≡◌, ◌≢◌, ℕ, zero, suc, ◌-◌, ◌<◌, arith, List, [], ◌∷◌, ◌++◌, length, refl, sym, ◌∙◌, ap, subst, Option, None}
+use Rattle.std.proofs.Common.{◌≡◌, ◌≢◌, ℕ, zero, suc, ◌-◌, ◌<◌, arith, List, [], ◌∷◌, ◌++◌, length, map, false, refl, sym, ◌∙◌, ap, subst, Option, None}
+use Rattle.std.specs.Prelude.{◌==◌}
+use Rattle.class_system.specs.declared.ids.ExprId.{ExprId}
+use Rattle.class_system.specs.Views.{number}
 use Rattle.object_store.specs.declared.token.Token.{Token}
 use Rattle.object_store.specs.declared.token.Token.TheVariants as token
 use Rattle.shape_sampler.specs.declared.stepped.Stepped.TheVariants.{Moved}
@@ -21,6 +24,11 @@ begins (e ∷ es) some = record { first = e; rest = es; whole = refl }
 pub begins-many : (es : List ℕ) → 1 < length es → Begins es
 begins-many [] many = absurd (omega arith)
 begins-many (e ∷ es) many = record { first = e; rest = es; whole = refl }
+
+-- a product that has parts puts some
+pub some-parts : (parts : List ExprId) → false ≡ (length parts == 0) → map number parts ≢ []
+some-parts [] has none = absurd (cc)
+some-parts (p ∷ parts) has none = absurd (cc)
 
 -- where more than one node is pending, one is after the first is taken away
 left-some : (es rest : List ℕ) (e : ℕ) → 1 < length es → es ≡ e ∷ rest → rest ≢ []

@@ -6,7 +6,7 @@ use Rattle.shape_sampler.specs.contracts.session.Session.{the_view}
 use Rattle.shape_sampler.specs.State.{SessionState}
 use Rattle.shape_sampler.specs.Visit.{leaf_visited}
 use Rattle.shape_sampler.specs.Answer.{IsPlainVisit, room_atom_visited, replaced_by}
-use Rattle.shape_sampler.proofs.PlainMoves.{leaf-move, atom-move, nodes-move}
+use Rattle.shape_sampler.proofs.PlainMoves.{nodes-move, some-parts}
 use Rattle.shape_sampler.proofs.session.Session.move_product.Goals as goal
 
 pub returns-clause-moved : goal.returns-clause-moved
@@ -14,8 +14,5 @@ returns-clause-moved c = λ told.
     let running = ap (λ (st : SessionState). st.stopped) c.self.view_is ∙ c.requires.running in
     let some = subst (λ (st : SessionState). st.pending ≢ []) (sym c.self.view_is) c.requires.pending in
     let placed = subst (λ es. (e : ℕ) (rest : List ℕ) → es ≡ e ∷ rest → c.replace_first.new.pending.items ≡ map number c.args.parts.now ++ rest) c.reserve.ensures.items c.replace_first.ensures in
-    let some_parts = c.if-is_empty.false in
-    let told_parts = c.if-is_empty.ensures in
-    let parts_told = c.is_empty.ensures in
     subst (λ st. IsPlainVisit (replaced_by (map number c.args.parts.now)) st Moved (record (the_view c.self.inside) { pending = c.replace_first.new.pending.items })) c.self.view_is
-    (nodes-move (the_view c.self.inside) running (map number c.args.parts.now) c.replace_first.new.pending.items some ? placed)
+    (nodes-move (the_view c.self.inside) running (map number c.args.parts.now) c.replace_first.new.pending.items some (some-parts c.args.parts.now c.if-is_empty.ensures) placed)
