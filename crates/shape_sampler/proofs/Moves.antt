@@ -98,7 +98,7 @@ module _ (s : Spec) (x : Fraction) (F : ℕ) (table : (level e : ℕ) → Bounds
       subst (λ k. AreMoves s x F table told raised k before start now used) (let e : n ≡ n + 0 = omega arith in e)
       (subst (λ st. AreMoves s x F table told raised n before start st used) (sym same)
       (subst (λ u. AreMoves s x F table told raised n before start mid u) (sym there) first))
-  joined {told} {n} {before = before} {now = now} {start = start} {used = used} first (AreMoves.further {m} h last) =
+  joined {told} {n} {before = before} {now = now} {start = start} {used = used} first (AreMoves.further {n = m} h last) =
       subst (λ k. AreMoves s x F table told raised k before start now used) (let e : suc (n + m) ≡ n + suc m = omega arith in e)
       (AreMoves.further (joined first h) last)
 

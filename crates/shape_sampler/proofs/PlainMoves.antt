@@ -1,10 +1,11 @@
 -- Visits that take no number and move on, from what was put and taken away.
-use Rattle.std.proofs.Common.{◌≡◌, ◌≢◌, ℕ, zero, suc, ◌-◌, ◌<◌, arith, List, [], ◌∷◌, ◌++◌, length, map, false, refl, sym, ◌∙◌, ap, subst, Option, None}
-use Rattle.std.specs.Prelude.{◌==◌}
+use Rattle.std.proofs.Common.{◌≡◌, ◌≢◌, ℕ, zero, suc, ◌-◌, ◌<◌, arith, List, [], ◌∷◌, ◌++◌, length, map, false, refl, sym, ◌∙◌, ap, subst, Option, Some, None}
+use Rattle.std.specs.Prelude.{◌==◌, is_some}
 use Rattle.class_system.specs.declared.ids.ExprId.{ExprId}
 use Rattle.class_system.specs.Views.{number}
 use Rattle.object_store.specs.declared.token.Token.{Token}
 use Rattle.object_store.specs.declared.token.Token.TheVariants as token
+use Rattle.shape_sampler.specs.declared.stepped.Stepped.{Stepped}
 use Rattle.shape_sampler.specs.declared.stepped.Stepped.TheVariants.{Moved}
 use Rattle.shape_sampler.specs.Visit.{Attempt, Visited, leaf_visited, atom_visited, attempt_with_token, with_pending}
 use Rattle.shape_sampler.specs.State.{SessionState, attempt_of}
@@ -36,6 +37,11 @@ left-some es rest e many whole none =
     let count : length es ≡ suc (length rest) = ap length whole in
     let nothing : length rest ≡ 0 = ap length none in
     absurd (omega arith)
+
+-- nothing stopped a session that isn't stopped by anything
+pub not-stopped : (stopped : Option Stepped) → false ≡ is_some stopped → stopped ≡ None
+not-stopped None h = refl
+not-stopped (Some stop) h = absurd (cc)
 
 -- an atom's visit where there is room
 with-room : (a : Attempt) (rest : List ℕ) (room : ℕ) → room ≢ 0 → Visited.Went (record (with_pending (attempt_with_token a token.Dot) rest) { room = room - 1 }) ≡ atom_visited a rest room

@@ -60,6 +60,25 @@ impl Session {
         if self.stopped.is_some() {
             return 0;
         }
+        self.move_on(founded, oracle, tape, most)
+    }
+
+    /// Visits first pending nodes one after the other, while each moves on.
+    fn move_on<const F: u32, O: Oracle<F>>(
+        &mut self,
+        founded: &Founded,
+        oracle: &O,
+        tape: &mut Tape,
+        most: u64,
+    ) -> u64
+        requires fraction_bits { IsFractionBits F }
+        requires spec { O.spec oracle.now ≡ founded.now }
+        requires running { self.old.stopped ≡ None }
+        requires session { SessionBelongs founded.now (O.x oracle.now) self.old }
+        ensures most { result ≤ most }
+        ensures moved { MovesOn founded.now (O.x oracle.now) F (O.table oracle.now)
+            (O.raised oracle.now) result self.old tape.old self.new tape.new }
+    {
         let system = founded.system();
         let mut made = 0;
         'moves: while made < most {
