@@ -5,40 +5,57 @@ use Rattle.std.specs.Int.{w32, to_be_bytes, bit_at}
 use Rattle.std.proofs.lemmas.Bool.{cases_lt}
 use Rattle.std.proofs.lemmas.List.{get_or-drop}
 use Rattle.std.proofs.lemmas.Nat.Bits.{bit_at_cat_low, bit_at_cat_high}
+use Rattle.std.proofs.lemmas.Nat.{shr-shr, div-add-mod'}
 use Rattle.bit_tape.specs.declared.source.Source.{Source}
 use Rattle.bit_tape.specs.declared.source.Source.TheVariants.{File, Seed}
-use Rattle.bit_tape.specs.Bits.{byte_bit, file_bit, seed_bit, seed_word}
+use Rattle.bit_tape.specs.Bits.{byte_bit, peeked_bit, file_bit, seed_bit, seed_word}
 use Rattle.bit_tape.specs.Source.{name_or_seed, SourceGoesOn, AreOfWords}
 use Rattle.bit_tape.specs.Buffer.{Ahead, after_bits, LooksAhead}
 use Rattle.bit_tape.specs.Tape.{TapeSource, TapeState, AreAt, ReadsAhead, HoldsBits, ShowsBits, SkipsBits, bits_of_source}
-use Rattle.bit_tape.proofs.NextBits.{bit_of_byte, later, named_bit, seeded_bit}
+use Rattle.bit_tape.proofs.NextBits.{later, named_bit, seeded_bit}
 
--- a bit of the eight bits of two bytes that follow their first s bits
-bit_of_pair : (first second s i : ℕ) → s < 8 → i < 8 → (first * 2 ^ 8 + second) / 2 ^ (8 - s) % 256 / 2 ^ (7 - i) % 2 ≡ bit_at (first * 2 ^ 8 + second) (8 - s + (7 - i))
-bit_of_pair first second s i s8 i8 = bit_of_byte (first * 2 ^ 8 + second) (8 - s) (7 - i) (omega arith)
+-- a bit of sixteen bits of a number is the number's
+bit_of_sixteen : (n i k : ℕ) → k < 16 → n / 2 ^ i % 65536 / 2 ^ k % 2 ≡ n / 2 ^ (i + k) % 2
+bit_of_sixteen n i k h =
+    let whole : bit_at (n / 2 ^ i / 65536 * 2 ^ 16 + n / 2 ^ i % 65536) k ≡ bit_at (n / 2 ^ i % 65536) k = bit_at_cat_low _ 16 _ k h in
+    sym whole ∙ ap (λ m. m / 2 ^ k % 2) (div-add-mod' (n / 2 ^ i) 65536) ∙ ap (λ m. m % 2) (shr-shr n i k)
 
-in_first : (first second s i : ℕ) → s < 8 → i < 8 → second < 256 → s + i < 8 → bit_at (first * 2 ^ 8 + second) (8 - s + (7 - i)) ≡ bit_at first (7 - (s + i))
-in_first first second s i s8 i8 fits here =
-    bit_at_cat_high first 8 second (8 - s + (7 - i)) (omega arith) (omega arith)
-    ∙ ap (bit_at first) (let e : 8 - s + (7 - i) - 8 ≡ 7 - (s + i) = omega arith in e)
+-- the bits of three bytes, by the byte that a bit stands in
+module _ (first second third s i : ℕ) (s8 : s < 8) (i16 : i < 16) (second_fits : second < 256) (third_fits : third < 256) where
+  in_first : s + i < 8 → bit_at (first * 2 ^ 16 + (second * 2 ^ 8 + third)) (8 - s + (15 - i)) ≡ bit_at first (7 - (s + i) % 8)
+  in_first here =
+      bit_at_cat_high first 16 (second * 2 ^ 8 + third) (8 - s + (15 - i)) (omega arith) (omega arith)
+      ∙ ap (bit_at first) (let e : 8 - s + (15 - i) - 16 ≡ 7 - (s + i) % 8 = omega arith in e)
 
-in_second : (first second s i : ℕ) → s < 8 → i < 8 → 8 ≤ s + i → bit_at (first * 2 ^ 8 + second) (8 - s + (7 - i)) ≡ bit_at second (7 - (s + i - 8))
-in_second first second s i s8 i8 there =
-    bit_at_cat_low first 8 second (8 - s + (7 - i)) (omega arith)
-    ∙ ap (bit_at second) (let e : 8 - s + (7 - i) ≡ 7 - (s + i - 8) = omega arith in e)
+  in_second : 8 ≤ s + i → s + i < 16 → bit_at (first * 2 ^ 16 + (second * 2 ^ 8 + third)) (8 - s + (15 - i)) ≡ bit_at second (7 - (s + i) % 8)
+  in_second above below =
+      bit_at_cat_low first 16 (second * 2 ^ 8 + third) (8 - s + (15 - i)) (omega arith)
+      ∙ bit_at_cat_high second 8 third (8 - s + (15 - i)) (omega arith) (omega arith)
+      ∙ ap (bit_at second) (let e : 8 - s + (15 - i) - 8 ≡ 7 - (s + i) % 8 = omega arith in e)
 
--- the byte's bit stands at its place in the bytes
-pub bit_of_peeked : (bytes : List ℕ) (place s first second byte i : ℕ) → s < 8 → i < 8 → second < 256 → first ≡ get_or bytes place 0 → second ≡ get_or bytes (place + 1) 0 → byte ≡ (first * 2 ^ 8 + second) / 2 ^ (8 - s) % 256 → byte_bit byte i ≡ byte_bit (get_or (drop place bytes) ((s + i) / 8) 0) ((s + i) % 8)
-bit_of_peeked bytes place s first second byte i s8 i8 fits is_first is_second is =
-    ap (λ b. nat_eq (b / 2 ^ (7 - i) % 2) 1) is
-    ∙ ap (λ b. nat_eq b 1) (bit_of_pair first second s i s8 i8)
-    ∙ ⊎_elim
-    (λ here. ap (λ b. nat_eq b 1) (in_first first second s i s8 i8 fits here)
-    ∙ ap (λ k. byte_bit first k) (let e : s + i ≡ (s + i) % 8 = omega arith in e)
-    ∙ ap (λ b. byte_bit b ((s + i) % 8)) (is_first ∙ ap (λ k. get_or bytes k 0) (let e : place ≡ place + (s + i) / 8 = omega arith in e) ∙ sym (get_or-drop place bytes ((s + i) / 8) 0)))
-    (λ there. ap (λ b. nat_eq b 1) (in_second first second s i s8 i8 there)
-    ∙ ap (λ k. byte_bit second k) (let e : s + i - 8 ≡ (s + i) % 8 = omega arith in e)
-    ∙ ap (λ b. byte_bit b ((s + i) % 8)) (is_second ∙ ap (λ k. get_or bytes k 0) (let e : place + 1 ≡ place + (s + i) / 8 = omega arith in e) ∙ sym (get_or-drop place bytes ((s + i) / 8) 0)))
+  in_third : 16 ≤ s + i → bit_at (first * 2 ^ 16 + (second * 2 ^ 8 + third)) (8 - s + (15 - i)) ≡ bit_at third (7 - (s + i) % 8)
+  in_third above =
+      bit_at_cat_low first 16 (second * 2 ^ 8 + third) (8 - s + (15 - i)) (omega arith)
+      ∙ bit_at_cat_low second 8 third (8 - s + (15 - i)) (omega arith)
+      ∙ ap (bit_at third) (let e : 8 - s + (15 - i) ≡ 7 - (s + i) % 8 = omega arith in e)
+
+-- the bit stands at its place in the bytes, where it stands in the byte of that place
+bit_at_place : (bytes : List ℕ) (place k byte bit : ℕ) → bit ≡ bit_at byte (7 - k % 8) → byte ≡ get_or bytes (place + k / 8) 0 → nat_eq bit 1 ≡ byte_bit (get_or (drop place bytes) (k / 8) 0) (k % 8)
+bit_at_place bytes place k byte bit is there =
+    ap (λ b. nat_eq b 1) is
+    ∙ ap (λ b. byte_bit b (k % 8)) (there ∙ sym (get_or-drop place bytes (k / 8) 0))
+
+-- a bit of the sixteen bits stands at its place in the bytes
+pub bit_of_peeked : (bytes : List ℕ) (place s first second third word i : ℕ) → s < 8 → i < 16 → second < 256 → third < 256 → first ≡ get_or bytes place 0 → second ≡ get_or bytes (place + 1) 0 → third ≡ get_or bytes (place + 2) 0 → word ≡ (first * 2 ^ 16 + (second * 2 ^ 8 + third)) / 2 ^ (8 - s) % 65536 → peeked_bit word i ≡ byte_bit (get_or (drop place bytes) ((s + i) / 8) 0) ((s + i) % 8)
+bit_of_peeked bytes place s first second third word i s8 i16 fits2 fits3 is_first is_second is_third is =
+    let bits : ℕ = first * 2 ^ 16 + (second * 2 ^ 8 + third) in
+    let bit : word / 2 ^ (15 - i) % 2 ≡ bit_at bits (8 - s + (15 - i)) = ap (λ w. w / 2 ^ (15 - i) % 2) is ∙ bit_of_sixteen bits (8 - s) (15 - i) (omega arith) in
+    ⊎_elim
+    (λ here. bit_at_place bytes place (s + i) first _ (bit ∙ in_first first second third s i s8 i16 fits2 fits3 here) (is_first ∙ ap (λ k. get_or bytes k 0) (let e : place ≡ place + (s + i) / 8 = omega arith in e)))
+    (λ above. ⊎_elim
+    (λ below. bit_at_place bytes place (s + i) second _ (bit ∙ in_second first second third s i s8 i16 fits2 fits3 above below) (is_second ∙ ap (λ k. get_or bytes k 0) (let e : place + 1 ≡ place + (s + i) / 8 = omega arith in e)))
+    (λ last. bit_at_place bytes place (s + i) third _ (bit ∙ in_third first second third s i s8 i16 fits2 fits3 last) (is_third ∙ ap (λ k. get_or bytes k 0) (let e : place + 2 ≡ place + (s + i) / 8 = omega arith in e)))
+    (cases_lt (s + i) 16))
     (cases_lt (s + i) 8)
 
 -- What is left of the bytes of words after some of them are bytes of these words.
@@ -108,19 +125,19 @@ same_bits : (told : Option (ℕ → Option Bool)) (used n : ℕ) (one other : �
 same_bits None used n one other same h = tt
 same_bits (Some bits) used n one other same h = λ i less. h i less ∙ ap Some (sym (same i less))
 
--- The byte that a buffer looks ahead to shows the tape's bits, for a tape that is seen as these fields.
-pub shows_bits : (source : Source) (used n byte : ℕ) (buffer : Ahead) (old : TapeState) → record { source = name_or_seed source; used = used; ahead = buffer.bytes } ≡ old → buffer.bit ≡ used % 8 → used / 8 + length buffer.bytes ≤ 2 ^ 60 → SourceGoesOn source (used / 8) buffer.bytes → LooksAhead buffer byte n → ShowsBits old byte n
-shows_bits source used n byte buffer old seen at room goes looks =
+-- The bits that a buffer looks ahead to show the tape's bits, for a tape that is seen as these fields.
+pub shows_bits : (source : Source) (used n word : ℕ) (buffer : Ahead) (old : TapeState) → record { source = name_or_seed source; used = used; ahead = buffer.bytes } ≡ old → buffer.bit ≡ used % 8 → used / 8 + length buffer.bytes ≤ 2 ^ 60 → SourceGoesOn source (used / 8) buffer.bytes → LooksAhead buffer word n → ShowsBits old word n
+shows_bits source used n word buffer old seen at room goes looks =
     let held : used % 8 + n ≤ 8 * length buffer.bytes = subst (λ k. k + n ≤ 8 * length buffer.bytes) at looks.held in
     let now : TapeState = record { source = name_or_seed source; used = used; ahead = buffer.bytes } in
-    let shows : ShowsBits now byte n = record {
+    let shows : ShowsBits now word n = record {
       few = looks.few;
       held = held;
-      next = λ contents b. same_bits (bits_of_source (name_or_seed source) contents) used n (λ i. byte_bit (get_or buffer.bytes ((used % 8 + i) / 8) 0) ((used % 8 + i) % 8)) (λ i. byte_bit byte i)
+      next = λ contents b. same_bits (bits_of_source (name_or_seed source) contents) used n (λ i. byte_bit (get_or buffer.bytes ((used % 8 + i) / 8) 0) ((used % 8 + i) % 8)) (λ i. peeked_bit word i)
           (λ i less. looks.bits i less ∙ ap (λ k. byte_bit (get_or buffer.bytes ((k + i) / 8) 0) ((k + i) % 8)) at)
           (next_bits used n buffer.bytes held room source contents goes b.ahead);
     } in
-    subst (λ t. ShowsBits t byte n) seen shows
+    subst (λ t. ShowsBits t word n) seen shows
 
 -- A tape seen as these fields passes over n bits.
 pub skips_bits : (source : Source) (used n more : ℕ) (buffer after : Ahead) (old : TapeState) → record { source = name_or_seed source; used = used; ahead = buffer.bytes } ≡ old → HoldsBits old n → buffer.bit ≡ used % 8 → after ≡ after_bits buffer n → more ≡ n → SkipsBits old n (record { source = name_or_seed source; used = used + more; ahead = after.bytes })

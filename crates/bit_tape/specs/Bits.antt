@@ -13,6 +13,10 @@ within_tape place bit = if nat_lt place (2 ^ 63) then bit else None
 abbrev pub byte_bit : (byte k : ℕ) → Bool
 byte_bit byte k = nat_eq (byte / 2 ^ (7 - k) % 2) 1
 
+-- The bit of sixteen bits after their first k, the highest being the first.
+abbrev pub peeked_bit : (word k : ℕ) → Bool
+peeked_bit word k = nat_eq (word / 2 ^ (15 - k) % 2) 1
+
 -- The bits of a file are those of its bytes in order.
 abbrev pub file_bit : (bytes : List ℕ) → (place : ℕ) → Option Bool
 file_bit bytes place =

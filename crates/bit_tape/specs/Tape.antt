@@ -2,7 +2,7 @@
 use Rattle.std.specs.Prelude.{◌≡◌, ℕ, ◌+◌, ◌*◌, ◌/◌, ◌%◌, ◌<◌, ◌≤◌, List, length, take, drop, Bool}
 use Rattle.std.specs.Prelude.{true, false, Option, Some, IfSome, option_map}
 use Rattle.bz_outside.specs.Outside.{Rose, ReadFailed}
-use Rattle.bit_tape.specs.Bits.{byte_bit, file_bit, seed_bit}
+use Rattle.bit_tape.specs.Bits.{peeked_bit, file_bit, seed_bit}
 
 -- The bits come from the bytes under a name, or from a seed.
 pub data TapeSource : Type 0 where
@@ -75,14 +75,14 @@ pub record GivesBit (old : TapeState) (bit : Bool) (new : TapeState) : Type 0 wh
 abbrev pub HoldsBits : TapeState → (n : ℕ) → Type 0
 HoldsBits tape n = tape.used % 8 + n ≤ 8 * length tape.ahead
 
--- The first n bits of a byte, at most eight, are read ahead: over every shelf that the tape belongs
--- to, they are the next n bits of its source.
-pub record ShowsBits (tape : TapeState) (byte n : ℕ) : Type 0 where
-  pub few : n ≤ 8
+-- The first n of sixteen bits are read ahead: over every shelf that the tape belongs to, they are
+-- the next n bits of its source.
+pub record ShowsBits (tape : TapeState) (word n : ℕ) : Type 0 where
+  pub few : n ≤ 16
   pub held : HoldsBits tape n
   pub next : (contents : List ℕ → Option (List ℕ)) → BelongsToShelf contents tape
       → IfSome (bits_of_source tape.source contents) (λ bits. (i : ℕ) → i < n
-      → bits (tape.used + i) ≡ Some (byte_bit byte i))
+      → bits (tape.used + i) ≡ Some (peeked_bit word i))
 
 -- The tape passed over n bits, and still belongs to every shelf that it belonged to.
 pub record SkipsBits (old : TapeState) (n : ℕ) (new : TapeState) : Type 0 where

@@ -19,10 +19,10 @@ const ROOM: usize = 4096;
 /// The places of bytes below which a tape reads: 2^63 bits.
 pub const MOST_BYTES: u64 = 1 << 60;
 
-/// Bits that are read ahead: the first `count` bits of `byte`, its highest bit first.
+/// Bits that are read ahead: the first `count` bits of `word`, its highest bit first.
 #[derive(Clone, Copy, Debug, PartialEq, Eq)]
 pub struct Peeked {
-    pub byte: u8,
+    pub word: u16,
     pub count: u32,
 }
 
@@ -84,18 +84,19 @@ impl BitBuffer {
         bit
     }
 
-    /// The next bits, at most eight, and how many they are.
+    /// The next bits, at most sixteen, and how many they are.
     #[inline]
     pub fn peek(&self) -> Peeked
-        ensures { LooksAhead self.now result.byte result.count }
+        ensures { LooksAhead self.now result.word result.count }
     {
         let held = 8 * self.filled - self.at;
         let next = self.at / 8;
         let first = byte_at(&self.bytes, self.filled, next);
         let second = byte_at(&self.bytes, self.filled, next + 1);
+        let third = byte_at(&self.bytes, self.filled, next + 2);
         Peeked {
-            byte: byte_from(first, second, self.at % 8),
-            count: held.min(8) as u32,
+            word: word_from(first, second, third, self.at % 8),
+            count: held.min(16) as u32,
         }
     }
 
@@ -182,12 +183,13 @@ fn byte_at(bytes: &[u8], filled: usize, place: usize) -> u8
     if place < filled { bytes[place] } else { 0 }
 }
 
-/// The eight bits of two bytes that follow their first n bits.
+/// The sixteen bits of three bytes that follow their first n bits.
 #[inline]
-fn byte_from(first: u8, second: u8, n: usize) -> u8
+fn word_from(first: u8, second: u8, third: u8, n: usize) -> u16
     requires { n < 8 }
-    ensures { result ≡ (first * 2 ^ 8 + second) / 2 ^ (8 - n) % 256 }
+    ensures { result ≡ (first * 2 ^ 16 + (second * 2 ^ 8 + third)) / 2 ^ (8 - n) % 65536 }
 {
-    let pair = u16::from(first) * 256 + u16::from(second);
-    ((pair >> (8 - n)) % 256) as u8
+    let pair = u32::from(second) * 256 + u32::from(third);
+    let bits = u32::from(first) * 65536 + pair;
+    ((bits >> (8 - n)) % 65536) as u16
 }

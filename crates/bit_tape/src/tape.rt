@@ -118,11 +118,11 @@ impl Tape {
         }
     }
 
-    /// The next bits that are read ahead, at most eight. None of them counts as used, and the shelf
+    /// The next bits that are read ahead, at most sixteen. None of them counts as used, and the shelf
     /// isn't asked. Takes no memory.
     #[inline]
     pub fn peek(&self) -> Peeked
-        ensures { ShowsBits self.now result.byte result.count }
+        ensures { ShowsBits self.now result.word result.count }
     {
         self.buffer.peek()
     }

@@ -1,23 +1,25 @@
 //! Choices at the unions of a system, kept from draw to draw.
-ghost use Rattle.std.specs.Prelude.{◌≡◌, ℕ, ◌+◌, ◌-◌, ◌*◌, ◌/◌, ◌^◌, ◌<◌, ◌≤◌, ◌⊎◌, max, map};
-ghost use Rattle.std.specs.Prelude.{length, IsTrue, IfSome, vec_len};
+ghost use Rattle.std.specs.Prelude.{◌≡◌, ℕ, ◌-◌, ◌*◌, ◌/◌, ◌^◌, ◌<◌, ◌≤◌, ◌⊎◌, max, map};
+ghost use Rattle.std.specs.Prelude.{length, List, Option, IsTrue, IfSome, IfNone, vec_len};
 ghost use Rattle.bz_model.specs.Fraction.{IsFractionBits};
 ghost use Rattle.bz_model.specs.Spec.{node_at};
+ghost use Rattle.bz_model.specs.Cell.{IsCell};
 ghost use Rattle.bz_model.specs.Oracle.{LeavesOracle};
 ghost use Rattle.class_system.specs.Views.{number};
 ghost use Rattle.class_system.specs.Each.{Each};
-ghost use Rattle.bit_tape.specs.Tape.{BelongsToShelf, LeavesTape, bits_of_source};
+ghost use Rattle.bit_tape.specs.Tape.{BelongsToShelf, LeavesTape, SkipsBits, bits_of_source};
 ghost use Rattle.choice_draw.specs.Decision.{Choice, level_for, IsUnion, union_parts};
 ghost use Rattle.choice_draw.specs.Decision.{union_choice, union_decision};
+ghost use Rattle.choice_draw.specs.Draw.{Draw};
 ghost use Rattle.choice_draw.specs.IdealOfCell.{IsIdealOfCell};
 ghost use Rattle.choice_draw.specs.Answer.{IsDraw, OnValue, told_draw, is_draw_fault};
-ghost use Rattle.choice_draw.specs.KeptChoices.{TakesFirst, AreAtFirst, choice_by, first_of};
-ghost use Rattle.choice_draw.specs.KeptChoices.{kept_at};
+ghost use Rattle.choice_draw.specs.KeptChoices.{TakesFirst, AreFor, choice_by, kept_at};
 
 use crate::drawn::Drawn;
+use crate::level_bounds::LevelBounds;
 use crate::union::{draw_union, parts_of};
 use bit_tape::tape::{Peeked, Tape};
-use bz_model::cell::{Bounds, Cell};
+use bz_model::cell::Cell;
 use bz_model::oracle::Oracle;
 use bz_model::steps::Steps;
 use bz_outside::shelf::Shelf;
@@ -28,108 +30,108 @@ use std::alloc::{AllocError, Global};
 use std::marker::Model;
 use std::sync::ledger::Ledger;
 
-/// How many bytes there are.
-const BYTES: usize = 256;
+/// How many first bits are looked up.
+const FIRST_BITS: u32 = 11;
 
-/// No bounds: they are none of a table's until they are found.
-const NO_BOUNDS: Bounds = Bounds { lo: 0, hi: 0 };
+/// How many places there are, one for each list of so many bits.
+const PLACES: usize = 2048;
 
-/// What is known of no byte yet.
+/// The most bits of a cell that is looked at on level 1.
+const LEVEL_BITS: u32 = 10;
+
+/// What is kept at a place where nothing is known yet.
 const NOTHING: FirstChoice = FirstChoice { option: 0, bits: 0 };
 
-/// The option that the first bits of a byte take, and how many these are; 0 where it isn't known.
+/// The option that the first bits take, and how many these are; 0 where it isn't known.
 #[derive(Clone, Copy, Debug, PartialEq, Eq)]
 pub(crate) struct FirstChoice {
     option: u8,
     bits: u8,
 }
 
-/// An option that was taken by a cell.
+/// An option that the bits read ahead take, with its cell.
 #[derive(Clone, Copy, Debug, PartialEq, Eq)]
-struct Taken {
-    option: u64,
-    cell: Cell,
+pub struct Taken {
+    pub option: u64,
+    pub cell: Cell,
 }
 
-/// What the first bits decided at one union, and the bounds that it was decided by.
+/// What the first eleven bits decided at one union, and the bounds that it was decided by: a cell
+/// of at most ten bits is looked at on level 1, and one of eleven on level 2.
 ///
 /// A draw by other bounds begins it anew, so that it never tells of what it isn't for.
 #[derive(Drop)]
 pub(crate) struct UnionTable {
-    whole: Bounds,
-    parts: Vec<Bounds>,
-    choices: [FirstChoice; BYTES],
+    first: LevelBounds,
+    second: LevelBounds,
+    choices: Vec<FirstChoice>,
 }
 
 impl Model for UnionTable {
-    ghost use Rattle.choice_draw.specs.KeptChoices.{UnionBounds, AreKept};
+    ghost use Rattle.choice_draw.specs.KeptChoices.{KeptBounds, AreKept};
 
-    ghost Value = { UnionBounds };
+    ghost Value = { KeptBounds };
 
-    ghost view = { λ t. record { whole = t.whole; parts = t.parts.items } };
+    ghost view = { λ t. record { first = t.first; second = t.second } };
 
     ghost invariant = { λ t. AreKept
-        (record { whole = t.whole; parts = t.parts.items }) t.choices };
+        (record { first = t.first; second = t.second }) t.choices.items };
 }
 
 impl UnionTable {
     /// A table for a union of n parts that keeps nothing yet.
     fn empty(alloc: Global, n: usize) -> Result<UnionTable, AllocError> {
-        let parts = vec![in alloc; NO_BOUNDS; n]?;
+        let first = LevelBounds::empty(alloc, n)?;
+        let second = LevelBounds::empty(alloc, n)?;
+        let choices = vec![in alloc; NOTHING; PLACES]?;
         Ok(UnionTable {
-            whole: NO_BOUNDS,
-            parts,
-            choices: [NOTHING; BYTES],
+            first,
+            second,
+            choices,
         })
     }
 
-    /// The option that the bits read ahead take, where it is kept by the oracle's bounds.
+    /// The option that the bits read ahead take by the table's bounds, where it is kept.
     #[inline]
-    fn find<const F: u32, O: Oracle<F>>(
-        &self,
-        parts: &[ExprId],
-        node: ExprId,
-        ahead: Peeked,
-        oracle: &O,
-    ) -> Option<Taken>
-        requires node { node.0 < length (O.spec oracle.now).nodes }
-        requires parts { Each (λ p. p.0 < length (O.spec oracle.now).nodes) parts.now }
-        ensures takes { IfSome result (λ t. TakesFirst
-            (union_choice (O.table oracle.now) node.0 (map number parts.now)) t.option t.cell) }
-        ensures ahead { IfSome result (λ t. (t.cell ≡ first_of ahead.byte t.cell.b)
+    fn find(&self, ahead: Peeked) -> Option<Taken>
+        ensures takes { IfSome result (λ t. TakesFirst (choice_by self.now) t.option t.cell) }
+        ensures ahead { IfSome result (λ t. (t.cell.k ≡ ahead.word / 2 ^ (16 - t.cell.b))
             × (t.cell.b ≤ ahead.count)) }
-        ensures raised { IfSome result (λ t. 1 ≤ O.raised oracle.now) }
     {
-        let choice = self.choices[usize::from(ahead.byte)];
+        // The first eleven of sixteen bits.
+        let choice = self.choices[usize::from(ahead.word >> 5)];
         let bits = u32::from(choice.bits);
-        if bits == 0 || bits > ahead.count || !self.is_for(parts, node, oracle) {
+        if bits == 0 || bits > ahead.count {
             return None;
         }
-        let k = u64::from(ahead.byte) >> (8 - bits);
+        let k = u64::from(ahead.word) >> (16 - bits);
         Some(Taken {
             option: u64::from(choice.option),
             cell: Cell { k, b: bits },
         })
     }
 
-    /// Whether the table is by the oracle's bounds at level 1, which is raised.
+    /// Whether the table's bounds are the oracle's at the levels that cells of up to so many bits
+    /// are looked at on, which are raised.
     #[inline]
-    fn is_for<const F: u32, O: Oracle<F>>(&self, parts: &[ExprId], node: ExprId, oracle: &O) -> bool
+    fn is_for<const F: u32, O: Oracle<F>>(
+        &self,
+        parts: &[ExprId],
+        node: ExprId,
+        bits: u32,
+        oracle: &O,
+    ) -> bool
         requires node { node.0 < length (O.spec oracle.now).nodes }
         requires parts { Each (λ p. p.0 < length (O.spec oracle.now).nodes) parts.now }
+        requires few { bits ≤ 11 }
         ensures bounds { IsTrue result
-            → AreAtFirst (O.table oracle.now) node.0 (map number parts.now) self.now }
-        ensures raised { IsTrue result → 1 ≤ O.raised oracle.now }
+            → AreFor (O.table oracle.now) node.0 (map number parts.now) bits self.now }
+        ensures raised { IsTrue result → level_for bits ≤ O.raised oracle.now }
     {
-        if self.parts.len() != parts.len() || !is_at_first(self.whole, node, oracle) {
+        if !self.first.is_for(parts, node, 1, oracle) {
             return false;
         }
-        for (i, part) in parts.iter().enumerate() {
-            if !is_at_first(self.parts[i], *part, oracle) {
-                return false;
-            }
-        }
-        true
+        bits <= LEVEL_BITS || self.second.is_for(parts, node, 2, oracle)
     }
 
     /// Keeps what a draw at the union took by its first bits.
@@ -144,40 +146,40 @@ impl UnionTable {
         requires parts { Each (λ p. p.0 < length (O.spec oracle.now).nodes) parts.now }
         requires few { length parts.now ≤ 64 }
         requires in_range { OnValue drawn (λ i cell. i < length parts.now) }
-        requires takes { OnValue drawn (λ i cell. cell.b ≤ 8 → TakesFirst
+        requires takes { OnValue drawn (λ i cell. cell.b ≤ 11 → TakesFirst
             (union_choice (O.table oracle.now) node.0 (map number parts.now)) i cell) }
     {
         let Drawn::Value { value, cell } = drawn else {
             return;
         };
-        if cell.b > 8 {
+        if cell.b > FIRST_BITS {
             return;
         }
-        if !self.is_for(parts, node, oracle) {
+        if !self.is_for(parts, node, cell.b, oracle) {
             self.begin(parts, node, oracle);
-            if !self.is_for(parts, node, oracle) {
+            if !self.is_for(parts, node, cell.b, oracle) {
                 return;
             }
         }
         self.keep(value as u8, cell);
     }
 
-    /// Forgets what was kept, and takes the oracle's bounds at level 1, as far as they are there.
+    /// Forgets what was kept, and takes the oracle's bounds, as far as their levels are raised.
     fn begin<const F: u32, O: Oracle<F>>(&mut self, parts: &[ExprId], node: ExprId, oracle: &O)
         requires node { node.0 < length (O.spec oracle.now).nodes }
         requires parts { Each (λ p. p.0 < length (O.spec oracle.now).nodes) parts.now }
     {
-        self.whole = first_bounds(node, oracle);
-        find_bounds(&mut self.parts, parts, oracle);
-        self.choices = [NOTHING; BYTES];
+        self.first.begin(parts, node, 1, oracle);
+        self.second.begin(parts, node, 2, oracle);
+        self.choices.fill(NOTHING);
     }
 
-    /// Keeps an option for each byte whose first bits are the cell.
+    /// Keeps an option for all bits that begin with the cell.
     fn keep(&mut self, option: u8, cell: Cell)
         requires { TakesFirst (choice_by self.old) option cell }
         ensures { self.new ≡ self.old }
     {
-        let width = BYTES >> cell.b;
+        let width = PLACES >> cell.b;
         let start = cell.k as usize * width;
         if self.choices[start].bits == 0 {
             let choice = FirstChoice {
@@ -193,6 +195,7 @@ impl UnionTable {
 fn put_all(choices: &mut [FirstChoice], start: usize, end: usize, choice: FirstChoice)
     requires order { start ≤ end }
     requires room { end ≤ length choices.old }
+    ensures length { length choices.new ≡ length choices.old }
     ensures inside { (i : ℕ) → start ≤ i → i < end → kept_at choices.new i ≡ choice }
     ensures outside { (i : ℕ) → (i < start) ⊎ (end ≤ i)
         → kept_at choices.new i ≡ kept_at choices.old i }
@@ -202,36 +205,7 @@ fn put_all(choices: &mut [FirstChoice], start: usize, end: usize, choice: FirstC
     }
 }
 
-/// Whether bounds are those of a node at level 1, which is raised.
-#[inline]
-fn is_at_first<const F: u32, O: Oracle<F>>(bounds: Bounds, node: ExprId, oracle: &O) -> bool
-    requires node { node.0 < length (O.spec oracle.now).nodes }
-    ensures bounds { IsTrue result → bounds ≡ O.table oracle.now 1 node.0 }
-    ensures raised { IsTrue result → 1 ≤ O.raised oracle.now }
-{
-    match oracle.bounds(node.0, 1) {
-        Some(there) => bounds == there,
-        None => false,
-    }
-}
-
-/// The bounds of a node at level 1, where it is raised.
-fn first_bounds<const F: u32, O: Oracle<F>>(node: ExprId, oracle: &O) -> Bounds
-    requires node { node.0 < length (O.spec oracle.now).nodes }
-{
-    oracle.bounds(node.0, 1).unwrap_or(NO_BOUNDS)
-}
-
-/// Finds the bounds of nodes at level 1, where it is raised.
-fn find_bounds<const F: u32, O: Oracle<F>>(found: &mut [Bounds], nodes: &[ExprId], oracle: &O)
-    requires nodes { Each (λ p. p.0 < length (O.spec oracle.now).nodes) nodes.now }
-{
-    for i in 0..found.len().min(nodes.len()) {
-        found[i] = first_bounds(nodes[i], oracle);
-    }
-}
-
-/// What draws at the unions of a system decided by their first eight bits.
+/// What draws at the unions of a system decided by their first eleven bits.
 ///
 /// Each union's choices are kept with the bounds that they were decided by, and found anew for
 /// others: so any of these serve any draw, and only its time depends on them.
@@ -268,10 +242,73 @@ impl KeptUnions {
             None
         }
     }
+
+    /// Keeps what a draw at a union took by its first bits.
+    fn learn<const F: u32, O: Oracle<F>>(
+        &mut self,
+        system: &System,
+        node: ExprId,
+        drawn: Drawn,
+        oracle: &O,
+    )
+        requires union { IsUnion system.now node.0 }
+        requires spec { O.spec oracle.now ≡ system.now }
+        requires in_range { OnValue drawn (λ i cell.
+            i < length (union_parts (node_at system.now node.0))) }
+        requires takes { OnValue drawn (λ i cell. cell.b ≤ 11
+            → TakesFirst (union_decision system.now (O.table oracle.now) node.0) i cell) }
+    {
+        if let Some(place) = self.place_of(node) {
+            let table = &mut self.tables[place];
+            table.learn(parts_of(system, node), node, drawn, oracle);
+        }
+    }
+}
+
+/// Draws the number of a union's part, as `draw_union` does, where kept choices tell it by the bits
+/// that the tape has read ahead.
+///
+/// `None`, and nothing changes, where they don't. Raises no level, asks no shelf and takes no
+/// memory.
+#[inline]
+pub fn draw_ahead<const F: u32, O: Oracle<F>>(
+    system: &System,
+    node: ExprId,
+    kept: &KeptUnions,
+    oracle: &O,
+    tape: &mut Tape,
+) -> Option<Taken>
+    requires fraction_bits { IsFractionBits F }
+    requires union { IsUnion system.now node.0 }
+    requires spec { O.spec oracle.now ≡ system.now }
+    ensures drawn { IfSome result (λ t. (contents : List ℕ → Option (List ℕ))
+        → BelongsToShelf contents tape.old
+        → IsDraw (union_decision system.now (O.table oracle.now) node.0)
+        (bits_of_source tape.old.source contents) tape.old.used tape.new.used
+        (Draw.Decided (Choice.Take t.option) t.cell)) }
+    ensures ideal { IfSome result (λ t.
+        IsIdealOfCell system.now (O.x oracle.now) node.0 t.cell t.option) }
+    ensures in_range { IfSome result (λ t.
+        t.option < length (union_parts (node_at system.now node.0))) }
+    ensures cell { IfSome result (λ t. IsCell t.cell.k t.cell.b) }
+    ensures raised { IfSome result (λ t.
+        level_for (tape.new.used - tape.old.used) ≤ O.raised oracle.now) }
+    ensures skips { IfSome result (λ t. SkipsBits tape.old t.cell.b tape.new) }
+    ensures left { IfNone result (tape.new ≡ tape.old) }
+{
+    oracle.known();
+    let place = kept.place_of(node)?;
+    let table = &kept.tables[place];
+    let taken = table.find(tape.peek())?;
+    if !table.is_for(parts_of(system, node), node, taken.cell.b, oracle) {
+        return None;
+    }
+    tape.skip(taken.cell.b);
+    Some(taken)
 }
 
 /// Draws the number of a union's part, as `draw_union` does, by kept choices: where the bits that
-/// are read ahead decided before, they are looked up, and what a draw decides by its first eight
+/// are read ahead decided before, they are looked up, and what a draw decides by its first eleven
 /// bits is kept for later ones. Takes no memory.
 pub fn draw_union_kept<const F: u32, O: Oracle<F>, S: Shelf, L: Ledger>(
     system: &System,
@@ -301,54 +338,13 @@ pub fn draw_union_kept<const F: u32, O: Oracle<F>, S: Shelf, L: Ledger>(
     ensures tape { LeavesTape S.content S.faults (is_draw_fault result) shelf.old shelf.new tape.old
         tape.new }
 {
-    match kept.place_of(node) {
-        Some(place) => {
-            let table = &mut kept.tables[place];
-            draw_by_table(system, node, table, oracle, tape, shelf, steps)
-        }
-        None => draw_union(system, node, oracle, tape, shelf, steps),
-    }
-}
-
-/// Draws by the table of a union.
-fn draw_by_table<const F: u32, O: Oracle<F>, S: Shelf, L: Ledger>(
-    system: &System,
-    node: ExprId,
-    table: &mut UnionTable,
-    oracle: &mut O,
-    tape: &mut Tape,
-    shelf: &mut S,
-    steps: &mut Steps<L>,
-) -> Drawn
-    requires fraction_bits { IsFractionBits F }
-    requires union { IsUnion system.now node.0 }
-    requires spec { O.spec oracle.old ≡ system.now }
-    requires belongs { BelongsToShelf (S.content shelf.old) tape.old }
-
-    ensures drawn { IsDraw (union_decision system.now (O.table oracle.old) node.0)
-        (bits_of_source tape.old.source (S.content shelf.old))
-        tape.old.used tape.new.used (told_draw Choice.Take result tape.new.used) }
-    ensures ideal { OnValue result (λ i cell.
-        IsIdealOfCell system.now (O.x oracle.old) node.0 cell i) }
-    ensures in_range { OnValue result (λ i cell.
-        i < length (union_parts (node_at system.now node.0))) }
-    ensures raised { O.raised oracle.new
-        ≡ max (O.raised oracle.old) (level_for (tape.new.used - tape.old.used)) }
-    ensures oracle { LeavesOracle O.spec O.x O.table O.cost O.raised
-        oracle.old oracle.new steps.old steps.new }
-    ensures tape { LeavesTape S.content S.faults (is_draw_fault result) shelf.old shelf.new tape.old
-        tape.new }
-{
-    oracle.known();
-    let parts = parts_of(system, node);
-    if let Some(taken) = table.find(parts, node, tape.peek(), oracle) {
-        tape.skip(taken.cell.b);
+    if let Some(taken) = draw_ahead(system, node, kept, oracle, tape) {
         return Drawn::Value {
             value: taken.option,
             cell: taken.cell,
         };
     }
     let drawn = draw_union(system, node, oracle, tape, shelf, steps);
-    table.learn(parts, node, drawn, oracle);
+    kept.learn(system, node, drawn, oracle);
     drawn
 }

@@ -102,6 +102,7 @@ pub fn decide_union<const F: u32, O: Oracle<F>>(
 }
 
 /// The parts of a union.
+#[inline]
 pub(crate) fn parts_of(system: &System, node: ExprId) -> &[ExprId]
     requires union { IsUnion system.now node.0 }
     ensures parts { map number result.now ≡ union_parts (node_at system.now node.0) }
