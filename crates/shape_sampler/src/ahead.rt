@@ -1,14 +1,9 @@
 //! Many visits in a row, as long as each moves on by bits that the tape has read ahead.
-ghost use Rattle.std.specs.Prelude.{◌≡◌, ◌≢◌, ◌-◌, ◌<◌, ◌≤◌, [], ◌∷◌, map, length, ℕ, List, Option, None, Some};
-ghost use Rattle.std.specs.Prelude.{IsTrue, IsFalse, IfSome, IfNone, slice_get};
+ghost use Rattle.std.specs.Prelude.{◌≡◌, ◌≢◌, ◌≤◌, [], ◌∷◌, map, length, ℕ, List, Option, None, Some};
+ghost use Rattle.std.specs.Prelude.{IsTrue, IsFalse, slice_get};
 ghost use Rattle.bz_model.specs.Fraction.{IsFractionBits};
 ghost use Rattle.bz_model.specs.Spec.{Node, node_at};
-ghost use Rattle.bz_model.specs.Cell.{IsCell};
-ghost use Rattle.bit_tape.specs.Tape.{BelongsToShelf, SkipsBits, bits_of_source};
-ghost use Rattle.choice_draw.specs.Answer.{IsDraw};
-ghost use Rattle.choice_draw.specs.Draw.{Draw};
-ghost use Rattle.choice_draw.specs.Decision.{Choice, IsUnion, level_for, union_decision, union_parts};
-ghost use Rattle.choice_draw.specs.IdealOfCell.{IsIdealOfCell};
+ghost use Rattle.bit_tape.specs.Tape.{BelongsToShelf, bits_of_source};
 ghost use Rattle.class_system.specs.Views.{number};
 ghost use Rattle.shape_sampler.specs.State.{SessionBelongs};
 ghost use Rattle.shape_sampler.specs.Visit.{leaf_visited};
@@ -19,10 +14,9 @@ use crate::placing::{drop_first, put_drawn, put_first, put_token, replace_first,
 use crate::session::Session;
 use crate::stepped::Stepped;
 use bit_tape::tape::Tape;
-use bz_model::cell::Cell;
 use bz_model::oracle::Oracle;
 use choice_draw::drawn::Drawn;
-use choice_draw::kept::KeptUnions;
+use choice_draw::kept::draw_ahead;
 use class_system::expr::Expr;
 use class_system::ids::ExprId;
 use class_system::system::System;
@@ -228,41 +222,4 @@ impl Session {
         );
         true
     }
-}
-
-/// An option that was taken by a cell.
-#[derive(Clone, Copy, Debug, PartialEq, Eq)]
-struct Taken {
-    option: u64,
-    cell: Cell,
-}
-
-/// Draws the number of a union's part where the bits read ahead decided before.
-#[inline(always)]
-fn draw_ahead<const F: u32, O: Oracle<F>>(
-    system: &System,
-    node: ExprId,
-    kept: &KeptUnions,
-    oracle: &O,
-    tape: &mut Tape,
-) -> Option<Taken>
-    requires fraction_bits { IsFractionBits F }
-    requires union { IsUnion system.now node.0 }
-    requires spec { O.spec oracle.now ≡ system.now }
-    ensures drawn { IfSome result (λ t. (contents : List ℕ → Option (List ℕ))
-        → BelongsToShelf contents tape.old
-        → IsDraw (union_decision system.now (O.table oracle.now) node.0)
-            (bits_of_source tape.old.source contents) tape.old.used tape.new.used
-            (Draw.Decided (Choice.Take t.option) t.cell)) }
-    ensures ideal { IfSome result (λ t.
-        IsIdealOfCell system.now (O.x oracle.now) node.0 t.cell t.option) }
-    ensures in_range { IfSome result (λ t.
-        t.option < length (union_parts (node_at system.now node.0))) }
-    ensures cell { IfSome result (λ t. IsCell t.cell.k t.cell.b) }
-    ensures raised { IfSome result (λ t.
-        level_for (tape.new.used - tape.old.used) ≤ O.raised oracle.now) }
-    ensures skips { IfSome result (λ t. SkipsBits tape.old t.cell.b tape.new) }
-    ensures left { IfNone result (tape.new ≡ tape.old) }
-{
-    None
 }
