@@ -1,5 +1,6 @@
 -- What runs stand for where one is put at the end, which is in front, or taken from there.
-use Rattle.std.proofs.Common.{◌≡◌, ℕ, zero, suc, ◌+◌, ◌-◌, ◌<◌, List, [], ◌∷◌, ◌++◌, arith, sym, ◌∙◌, ap, subst, append_assoc, append-nil, replicate, length, take, take_all, slice_get, Some}
+use Rattle.std.proofs.Common.{◌≡◌, ℕ, zero, suc, ◌+◌, ◌-◌, ◌<◌, ◌≤◌, List, [], ◌∷◌, ◌++◌, arith, refl, sym, ◌∙◌, ap, subst, append_assoc, append-nil, replicate, length, take, take_all, slice_get, Some}
+use Rattle.std.proofs.lemmas.List.{length-append, length-replicate}
 use Rattle.std.proofs.lemmas.Option.{slice_get_within}
 use Rattle.class_system.proofs.Results.{take-at}
 use Rattle.object_store.specs.declared.pending.Run.{Run}
@@ -36,3 +37,56 @@ unrolled-first runs r h at =
     let some = HaveSome-rest front r (subst HaveSome whole h) in
     let is : unrolled runs ≡ (r.node.0 ∷ replicate (r.times - 1) r.node.0) ++ unrolled front = ap unrolled whole ∙ unrolled-push front r ∙ ap (λ es. es ++ unrolled front) (replicate-first r.times r.node.0 some.1) in
     ap (λ es. slice_get es 0) is
+
+-- Where no run is empty, the runs stand for as many nodes as they are, or more.
+many-unrolled : (runs : List Run) → HaveSome runs → length runs ≤ length (unrolled runs)
+many-unrolled [] h = omega arith
+many-unrolled (r ∷ runs) h = let before = many-unrolled runs h.1 in let some = h.0 in omega (arith, length-append (unrolled runs) (replicate r.times r.node.0), length-replicate r.times r.node.0)
+
+-- How many runs stand before the last one, which isn't empty, and how many nodes there are.
+pub record Counted (runs : List Run) (r : Run) : Type 0 where
+  pub others : ℕ
+  pub some : 0 < r.times
+  pub runs_all : length runs ≡ others + 1
+  pub at_least : r.times + others ≤ length (unrolled runs)
+  pub alone : others ≡ 0 → length (unrolled runs) ≡ r.times
+
+pub last-counted : (runs : List Run) (r : Run) → HaveSome runs → slice_get runs (length runs - 1) ≡ Some r → Counted runs r
+last-counted runs r h at =
+    let within = slice_get_within runs (length runs - 1) r at in
+    let front = take (length runs - 1) runs in
+    let all : take (length runs - 1 + 1) runs ≡ runs = take_all (length runs - 1 + 1) runs (omega arith) in
+    let whole : runs ≡ front ++ r ∷ [] = sym all ∙ take-at runs (length runs - 1) r at in
+    let some = HaveSome-rest front r (subst HaveSome whole h) in
+    let is : length (unrolled runs) ≡ length (replicate r.times r.node.0 ++ unrolled front) = ap (λ rs. length (unrolled rs)) whole ∙ ap length (unrolled-push front r) in
+    let parts = length-append (replicate r.times r.node.0) (unrolled front) in
+    let times = length-replicate r.times r.node.0 in
+    let count : length runs ≡ length front + 1 = ap length whole ∙ length-append front (r ∷ []) in
+    let many = many-unrolled front some.0 in
+    record {
+      others = length front;
+      some = some.1;
+      runs_all = count;
+      at_least = omega arith;
+      alone = λ none. let nothing = no-runs front none in omega arith;
+    }
+  where
+    no-runs : (front : List Run) → length front ≡ 0 → length (unrolled front) ≡ 0
+    no-runs [] none = refl
+    no-runs (q ∷ front) none = absurd (omega arith)
+
+-- more than one node waits where the last run has more than one, or isn't the only run
+pub waits-more : (runs : List Run) (r : Run) → HaveSome runs → slice_get runs (length runs - 1) ≡ Some r → 1 < r.times → 1 < length (unrolled runs)
+waits-more runs r h at many = let l = (last-counted runs r h at).at_least in omega arith
+
+pub waits-others : (runs : List Run) (r : Run) → HaveSome runs → slice_get runs (length runs - 1) ≡ Some r → r.times ≤ 1 → (1 < length runs → 1 < length (unrolled runs)) × (1 < length (unrolled runs) → 1 < length runs)
+waits-others runs r h at few =
+    let c = last-counted runs r h at in
+    (λ more. waits c.others c.some c.runs_all c.at_least more, λ more. runs-too c.others c.runs_all c.alone more)
+  where
+    waits : (others : ℕ) → 0 < r.times → length runs ≡ others + 1 → r.times + others ≤ length (unrolled runs) → 1 < length runs → 1 < length (unrolled runs)
+    waits others some here at_least more = omega arith
+
+    runs-too : (others : ℕ) → length runs ≡ others + 1 → (others ≡ 0 → length (unrolled runs) ≡ r.times) → 1 < length (unrolled runs) → 1 < length runs
+    runs-too zero here alone more = let is = alone refl in absurd (omega arith)
+    runs-too (suc others) here alone more = omega arith

@@ -76,6 +76,17 @@ impl Pending {
         self.first().is_none()
     }
 
+    /// Whether nodes wait after the next one. Takes no memory.
+    #[inline(always)]
+    pub fn has_more(&self) -> bool
+        ensures { IsTrue result ↔ (1 < length self.now.items) }
+    {
+        match self.runs.last() {
+            Some(run) => run.times > 1 || self.runs.len() > 1,
+            None => false,
+        }
+    }
+
     /// The next node; None exactly where nothing waits. Takes no memory.
     #[inline(always)]
     pub fn first(&self) -> Option<ExprId>

@@ -8,3 +8,5 @@ pub mod Plain
 pub mod Union
 pub mod FreeParts
 pub mod CountVisits
+pub mod PlainMoves
+pub mod Moves

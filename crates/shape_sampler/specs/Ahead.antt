@@ -1,8 +1,9 @@
 -- Many visits in a row, each of which moved on by bits that the tape had read ahead.
-use Rattle.std.specs.Prelude.{◌≡◌, ◌≢◌, ℕ, suc, ◌+◌, ◌-◌, ◌≤◌, Bool, [], Option, None}
+use Rattle.std.specs.Prelude.{◌≡◌, ◌≢◌, ℕ, suc, ◌+◌, ◌-◌, ◌≤◌, Bool, List, [], Option, None}
 use Rattle.bz_model.specs.declared.cell.Bounds.{Bounds}
 use Rattle.bz_model.specs.Fraction.{Fraction}
 use Rattle.bz_model.specs.Spec.{Spec}
+use Rattle.bit_tape.specs.Tape.{TapeState, BelongsToShelf, bits_of_source}
 use Rattle.choice_draw.specs.Decision.{level_for}
 use Rattle.shape_sampler.specs.declared.stepped.Stepped.TheVariants.{Moved}
 use Rattle.shape_sampler.specs.State.{SessionState, SessionBelongs, Leaves}
@@ -33,3 +34,20 @@ pub data AreMoves (s : Spec) (x : Fraction) (f : ℕ) (table : (level node : ℕ
       → AreMoves s x f table told raised n before start mid place
       → IsMove s x f table told raised mid place now used
       → AreMoves s x f table told raised (suc n) before start now used
+
+-- What visits that moved on leave, over every shelf that the tape belongs to: so many moves were
+-- made, the session goes on, and the tape still belongs.
+pub record MovesOn (s : Spec) (x : Fraction) (f : ℕ) (table : (level node : ℕ) → Bounds)
+    (raised : ℕ) (n : ℕ) (before : SessionState) (tape : TapeState) (now : SessionState)
+    (tape_now : TapeState) : Type 0 where
+  pub moves : (contents : List ℕ → Option (List ℕ)) → BelongsToShelf contents tape
+      → AreMoves s x f table (bits_of_source tape.source contents) raised n before tape.used now
+      tape_now.used
+  pub session : SessionBelongs s x now
+  pub running : now.stopped ≡ None
+  pub whole : now.whole ≡ before.whole
+  pub root : now.root ≡ before.root
+  pub source : tape_now.source ≡ tape.source
+  pub used : tape.used ≤ tape_now.used
+  pub belongs : (contents : List ℕ → Option (List ℕ)) → BelongsToShelf contents tape
+      → BelongsToShelf contents tape_now

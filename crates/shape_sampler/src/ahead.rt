@@ -1,13 +1,26 @@
 //! Many visits in a row, as long as each moves on by bits that the tape has read ahead.
-ghost use Rattle.std.specs.Prelude.{◌≡◌, ◌≤◌, ℕ, List, Option};
+ghost use Rattle.std.specs.Prelude.{◌≡◌, ◌≢◌, ◌≤◌, [], ◌∷◌, map, length, ℕ, List, Option, None, Some};
+ghost use Rattle.std.specs.Prelude.{IsTrue, IsFalse, slice_get};
 ghost use Rattle.bz_model.specs.Fraction.{IsFractionBits};
+ghost use Rattle.bz_model.specs.Spec.{Node, node_at};
 ghost use Rattle.bit_tape.specs.Tape.{BelongsToShelf, bits_of_source};
+ghost use Rattle.class_system.specs.Views.{number};
 ghost use Rattle.shape_sampler.specs.State.{SessionBelongs};
-ghost use Rattle.shape_sampler.specs.Ahead.{AreMoves};
+ghost use Rattle.shape_sampler.specs.Visit.{leaf_visited};
+ghost use Rattle.shape_sampler.specs.Answer.{IsPlainVisit, room_atom_visited, replaced_by};
+ghost use Rattle.shape_sampler.specs.Ahead.{AreMoves, MovesOn};
 
+use crate::placing::{drop_first, put_drawn, put_first, put_token, replace_first, reserve_drawn};
 use crate::session::Session;
+use crate::stepped::Stepped;
 use bit_tape::tape::Tape;
 use bz_model::oracle::Oracle;
+use choice_draw::drawn::Drawn;
+use choice_draw::kept::draw_ahead;
+use class_system::expr::Expr;
+use class_system::ids::ExprId;
+use class_system::system::System;
+use object_store::token::Token;
 use well_founded::examination::Founded;
 
 impl Session {
@@ -38,6 +51,175 @@ impl Session {
         ensures belongs { (contents : List ℕ → Option (List ℕ)) → BelongsToShelf contents tape.old
             → BelongsToShelf contents tape.new }
     {
-        0
+        if self.stopped.is_some() {
+            return 0;
+        }
+        self.move_on(founded, oracle, tape, most)
+    }
+
+    /// Visits first pending nodes one after the other, while each moves on.
+    fn move_on<const F: u32, O: Oracle<F>>(
+        &mut self,
+        founded: &Founded,
+        oracle: &O,
+        tape: &mut Tape,
+        most: u64,
+    ) -> u64
+        requires fraction_bits { IsFractionBits F }
+        requires spec { O.spec oracle.now ≡ founded.now }
+        requires running { self.old.stopped ≡ None }
+        requires session { SessionBelongs founded.now (O.x oracle.now) self.old }
+        ensures most { result ≤ most }
+        ensures moved { MovesOn founded.now (O.x oracle.now) F (O.table oracle.now)
+            (O.raised oracle.now) result self.old tape.old self.new tape.new }
+    {
+        let system = founded.system();
+        let mut made = 0;
+        'moves: while made < most {
+            if !self.move_first(system, oracle, tape) {
+                break;
+            }
+            made += 1;
+        }
+        made
+    }
+
+    /// Visits the first pending node where that moves on by bits that are read ahead; else leaves
+    /// all as it was.
+    #[inline(always)]
+    fn move_first<const F: u32, O: Oracle<F>>(
+        &mut self,
+        system: &System,
+        oracle: &O,
+        tape: &mut Tape,
+    ) -> bool
+        requires fraction_bits { IsFractionBits F }
+        requires spec { O.spec oracle.now ≡ system.now }
+        requires running { self.old.stopped ≡ None }
+        requires session { SessionBelongs system.now (O.x oracle.now) self.old }
+        ensures moved { IsTrue result → MovesOn system.now (O.x oracle.now) F (O.table oracle.now)
+            (O.raised oracle.now) 1 self.old tape.old self.new tape.new }
+        ensures left { IsFalse result → (self.new ≡ self.old) × (tape.new ≡ tape.old) }
+    {
+        system.known();
+        let Some(node) = self.pending.first() else {
+            return false;
+        };
+        match system.node(node) {
+            Expr::Empty(_) => self.move_leaf(),
+            Expr::Atom(_) => self.move_atom(),
+            Expr::Class(c) => self.move_class(system.body(*c)),
+            Expr::Product(parts) => self.move_product(parts.items()),
+            Expr::Union(parts) => self.move_union(system, node, parts.items(), oracle, tape),
+            Expr::Seq(_) | Expr::Set(_) | Expr::Cyc(_) => false,
+        }
+    }
+
+    /// A neutral leaf adds its token, where more nodes are pending.
+    #[inline(always)]
+    fn move_leaf(&mut self) -> bool
+        requires running { self.old.stopped ≡ None }
+        ensures moved { IsTrue result
+            → IsPlainVisit leaf_visited self.old Stepped.Moved self.new }
+        ensures left { IsFalse result → self.new ≡ self.old }
+    {
+        if !self.pending.has_more() || self.shape.reserve(1).is_err() {
+            return false;
+        }
+        put_token(&mut self.shape, Token::Unit);
+        drop_first(&mut self.pending);
+        true
+    }
+
+    /// An atom adds its token and lowers the room, where there is room and more nodes are pending.
+    #[inline(always)]
+    fn move_atom(&mut self) -> bool
+        requires running { self.old.stopped ≡ None }
+        ensures moved { IsTrue result
+            → IsPlainVisit room_atom_visited self.old Stepped.Moved self.new }
+        ensures left { IsFalse result → self.new ≡ self.old }
+    {
+        if self.room == 0 || !self.pending.has_more() || self.shape.reserve(1).is_err() {
+            return false;
+        }
+        put_token(&mut self.shape, Token::Dot);
+        drop_first(&mut self.pending);
+        self.room -= 1;
+        true
+    }
+
+    /// A class puts its body in its place.
+    #[inline(always)]
+    fn move_class(&mut self, body: ExprId) -> bool
+        requires running { self.old.stopped ≡ None }
+        requires pending { self.old.pending ≢ [] }
+        ensures moved { IsTrue result
+            → IsPlainVisit (replaced_by (body.0 ∷ [])) self.old Stepped.Moved self.new }
+        ensures left { IsFalse result → self.new ≡ self.old }
+    {
+        if self.pending.reserve(1).is_err() {
+            return false;
+        }
+        put_first(&mut self.pending, body);
+        true
+    }
+
+    /// A product puts its parts in its place, in order, where it has some.
+    #[inline(always)]
+    fn move_product(&mut self, parts: &[ExprId]) -> bool
+        requires running { self.old.stopped ≡ None }
+        requires pending { self.old.pending ≢ [] }
+        ensures moved { IsTrue result
+            → IsPlainVisit (replaced_by (map number parts.now)) self.old Stepped.Moved self.new }
+        ensures left { IsFalse result → self.new ≡ self.old }
+    {
+        if parts.is_empty() || self.pending.reserve(parts.len()).is_err() {
+            return false;
+        }
+        replace_first(&mut self.pending, parts);
+        true
+    }
+
+    /// A union whose option is decided by bits that are read ahead adds it, and puts that part in
+    /// its place.
+    #[inline(always)]
+    fn move_union<const F: u32, O: Oracle<F>>(
+        &mut self,
+        system: &System,
+        node: ExprId,
+        parts: &[ExprId],
+        oracle: &O,
+        tape: &mut Tape,
+    ) -> bool
+        requires fraction_bits { IsFractionBits F }
+        requires spec { O.spec oracle.now ≡ system.now }
+        requires union { node_at system.now node.0 ≡ Some (Node.Union (map number parts.now)) }
+        requires few { length parts.now ≤ 64 }
+        requires running { self.old.stopped ≡ None }
+        requires first { slice_get self.old.pending 0 ≡ Some node.0 }
+        requires session { SessionBelongs system.now (O.x oracle.now) self.old }
+        ensures moved { IsTrue result → MovesOn system.now (O.x oracle.now) F (O.table oracle.now)
+            (O.raised oracle.now) 1 self.old tape.old self.new tape.new }
+        ensures left { IsFalse result → (self.new ≡ self.old) × (tape.new ≡ tape.old) }
+    {
+        if reserve_drawn(&mut self.pending, &mut self.shape, &mut self.cells).is_err() {
+            return false;
+        }
+        system.known();
+        let Some(taken) = draw_ahead(system, node, &self.unions, oracle, tape) else {
+            return false;
+        };
+        let drawn = Drawn::Value {
+            value: taken.option,
+            cell: taken.cell,
+        };
+        put_drawn(
+            &mut self.pending,
+            &mut self.shape,
+            &mut self.cells,
+            parts,
+            drawn,
+        );
+        true
     }
 }

@@ -11,5 +11,6 @@
 pub mod ahead;
 mod counted;
 mod placing;
+mod plain_visits;
 pub mod session;
 pub mod stepped;

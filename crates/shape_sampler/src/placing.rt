@@ -42,6 +42,28 @@ pub(crate) fn replace_first(pending: &mut Pending, nodes: &[ExprId])
     }
 }
 
+/// Takes the first pending node away.
+#[inline(always)]
+pub(crate) fn drop_first(pending: &mut Pending)
+    ensures { (e : ℕ) (rest : List ℕ) → pending.old.items ≡ e ∷ rest → pending.new.items ≡ rest }
+{
+    let _first = pending.pop();
+}
+
+/// Puts a node in the place of the first pending one.
+#[inline(always)]
+pub(crate) fn put_first(pending: &mut Pending, node: ExprId)
+    requires spare { 0 < pending.old.spare }
+    ensures { (e : ℕ) (rest : List ℕ) → pending.old.items ≡ e ∷ rest
+        → pending.new.items ≡ node.0 ∷ rest }
+{
+    let _first = pending.pop();
+    match pending.push(node, 1) {
+        Ok(()) => {}
+        Err(_) => unreachable!(),
+    }
+}
+
 /// The answer after a visit: whether nodes are still pending.
 #[inline(always)]
 pub(crate) fn answer(pending: &Pending) -> Stepped

@@ -9,17 +9,12 @@ ghost use Rattle.class_system.specs.Views.{number};
 ghost use Rattle.bit_tape.specs.Tape.{BelongsToShelf, LeavesTape, bits_of_source};
 ghost use Rattle.choice_draw.specs.Decision.{IsUnion, level_for};
 ghost use Rattle.count_draw.specs.Kinds.{IsCountedNode};
-ghost use Rattle.shape_sampler.specs.Visit.{leaf_visited};
 ghost use Rattle.shape_sampler.specs.State.{SessionState, SessionBelongs, HasCountedPart};
 ghost use Rattle.shape_sampler.specs.State.{begun_state, emptied, Leaves};
-ghost use Rattle.shape_sampler.specs.Answer.{IsVisitByBits, IsIdealAnswer, IsVisitOfAll};
-ghost use Rattle.shape_sampler.specs.Answer.{IsPlainAnswer, IsPlainVisit, room_atom_visited};
-ghost use Rattle.shape_sampler.specs.Answer.{replaced_by, Draws, is_visit_fault};
+ghost use Rattle.shape_sampler.specs.Answer.{IsVisitByBits, IsIdealAnswer, Draws, is_visit_fault};
 
 use crate::counted::{answer_to_count, counted_part, put_counted, room_for};
-use crate::placing::{
-    answer, answer_to, put_drawn, put_token, replace_first, reserve_drawn, stop_of,
-};
+use crate::placing::{answer_to, put_drawn, reserve_drawn, stop_of};
 use crate::stepped::Stepped;
 use bit_tape::tape::Tape;
 use bz_model::cell::Cell;
@@ -36,7 +31,6 @@ use count_draw::cache::KeptTables;
 use count_draw::count::draw_count_kept;
 use object_store::pending::Pending;
 use object_store::shape::Shape;
-use object_store::token::Token;
 use std::alloc::{AllocError, Global};
 use std::marker::Model;
 use std::mem::replace;
@@ -46,16 +40,16 @@ use well_founded::examination::Founded;
 /// An attempt at an object of class 0 within a room, and what stopped it.
 #[derive(Drop)]
 pub struct Session {
-    pub(crate) alloc: Global,
-    pub(crate) root: ExprId,
-    pub(crate) whole: u64,
+    alloc: Global,
+    root: ExprId,
+    whole: u64,
     pub(crate) pending: Pending,
     pub(crate) shape: Shape,
     pub(crate) cells: Cells,
     pub(crate) room: u64,
     pub(crate) stopped: Option<Stepped>,
     // What draws keep for later ones, whatever the attempt.
-    pub(crate) kept: KeptTables,
+    kept: KeptTables,
     pub(crate) unions: KeptUnions,
 }
 
@@ -246,96 +240,6 @@ impl Session {
             return self.visit_union(system, e, parts.items(), oracle, tape, shelf, steps);
         }
         self.visit_plain(system, e)
-    }
-
-    /// Visits a node that takes no number.
-    #[inline(always)]
-    fn visit_plain(&mut self, system: &System, node: ExprId) -> Stepped
-        requires in_range { node.0 < length system.now.nodes }
-        requires no_union { ¬ IsUnion system.now node.0 }
-        requires uncounted { ¬ IsCountedNode system.now node.0 }
-        requires running { self.old.stopped ≡ None }
-        requires first { slice_get self.old.pending 0 ≡ Some node.0 }
-        ensures plain { IsPlainAnswer result }
-        ensures leaves { Leaves result self.old self.new }
-        ensures cells { self.new.cells ≡ self.old.cells }
-        ensures exact { result ≢ Stepped.OutOfMemory
-            → IsVisitOfAll system.now self.old result self.new }
-        ensures session { (x : Fraction) → SessionBelongs system.now x self.old
-            → SessionBelongs system.now x self.new × IsIdealAnswer system.now x result self.new }
-    {
-        system.known();
-        match system.node(node) {
-            Expr::Empty(_) => self.visit_leaf(),
-            Expr::Atom(_) => self.visit_atom(),
-            Expr::Class(c) => self.visit_class(system.body(*c)),
-            Expr::Product(parts) => self.visit_product(parts.items()),
-            Expr::Union(_) => unreachable!(),
-            Expr::Seq(_) | Expr::Set(_) | Expr::Cyc(_) => unreachable!(),
-        }
-    }
-
-    /// A neutral leaf adds its token.
-    #[inline(always)]
-    fn visit_leaf(&mut self) -> Stepped
-        requires running { self.old.stopped ≡ None }
-        requires pending { self.old.pending ≢ [] }
-        ensures { IsPlainVisit leaf_visited self.old result self.new }
-    {
-        if self.shape.reserve(1).is_err() {
-            return Stepped::OutOfMemory;
-        }
-        put_token(&mut self.shape, Token::Unit);
-        replace_first(&mut self.pending, &[]);
-        answer(&self.pending)
-    }
-
-    /// An atom adds its token and lowers the room, and is over at room 0.
-    #[inline(always)]
-    fn visit_atom(&mut self) -> Stepped
-        requires running { self.old.stopped ≡ None }
-        requires pending { self.old.pending ≢ [] }
-        ensures { IsPlainVisit room_atom_visited self.old result self.new }
-    {
-        if self.room == 0 {
-            self.pending.clear();
-            return Stepped::Overshot;
-        }
-        if self.shape.reserve(1).is_err() {
-            return Stepped::OutOfMemory;
-        }
-        put_token(&mut self.shape, Token::Dot);
-        replace_first(&mut self.pending, &[]);
-        self.room -= 1;
-        answer(&self.pending)
-    }
-
-    /// A class puts its body in its place.
-    #[inline(always)]
-    fn visit_class(&mut self, body: ExprId) -> Stepped
-        requires running { self.old.stopped ≡ None }
-        requires pending { self.old.pending ≢ [] }
-        ensures { IsPlainVisit (replaced_by (body.0 ∷ [])) self.old result self.new }
-    {
-        if self.pending.reserve(1).is_err() {
-            return Stepped::OutOfMemory;
-        }
-        replace_first(&mut self.pending, &[body]);
-        answer(&self.pending)
-    }
-
-    /// A product puts its parts in its place, in order.
-    #[inline(always)]
-    fn visit_product(&mut self, parts: &[ExprId]) -> Stepped
-        requires running { self.old.stopped ≡ None }
-        requires pending { self.old.pending ≢ [] }
-        ensures { IsPlainVisit (replaced_by (map number parts.now)) self.old result self.new }
-    {
-        if self.pending.reserve(parts.len()).is_err() {
-            return Stepped::OutOfMemory;
-        }
-        replace_first(&mut self.pending, parts);
-        answer(&self.pending)
     }
 
     /// A union draws its option and puts that part in its place.

@@ -1,7 +1,12 @@
--- No visit is made.
-use Rattle.std.proofs.Common.{refl}
+-- A session that is stopped makes no move.
+use Rattle.std.proofs.Common.{refl, sym, ◌∙◌, ap}
+use Rattle.shape_sampler.specs.State.{SessionState}
 use Rattle.shape_sampler.specs.Ahead.{AreMoves}
+use Rattle.shape_sampler.proofs.PlainMoves.{not-stopped}
 use Rattle.shape_sampler.proofs.session.Session.visit_ahead.Goals as goal
 
-pub returns-clause-moves : goal.returns-clause-moves
-returns-clause-moves g c = λ contents belongs. AreMoves.still refl refl
+pub returns-then-is_some-clause-moves : goal.returns-then-is_some-clause-moves
+returns-then-is_some-clause-moves g c = λ contents belongs. AreMoves.still refl refl
+
+pub move_on-requires-clause-running : goal.move_on-requires-clause-running
+move_on-requires-clause-running g c = ap (λ (st : SessionState). st.stopped) (sym c.self.view_is) ∙ not-stopped c.self.inside.stopped c.if-is_some.ensures

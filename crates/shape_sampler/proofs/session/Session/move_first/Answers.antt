@@ -1,0 +1,70 @@
+-- Each kind of node that moves on.
+use Rattle.std.proofs.Common.{◌≡◌, ◌≤◌, ◌∷◌, [], length, map, slice_get, Some, refl, sym, ◌∙◌, ap, subst}
+use Rattle.bz_model.specs.Spec.{Node, node_at}
+use Rattle.class_system.specs.Views.{number, spec_node}
+use Rattle.object_store.proofs.InRange.{class-known}
+use Rattle.shape_sampler.specs.declared.stepped.Stepped.TheVariants.{Moved}
+use Rattle.shape_sampler.specs.State.{SessionState, attempt_of}
+use Rattle.shape_sampler.specs.Visit.{leaf_visited}
+use Rattle.shape_sampler.specs.Answer.{room_atom_visited, replaced_by}
+use Rattle.shape_sampler.proofs.Ideal.{ideal-leaf, ideal-atom, ideal-class, ideal-product}
+use Rattle.shape_sampler.proofs.Plain.{class-visit, few-parts}
+use Rattle.shape_sampler.proofs.Moves.{all-visit, plain-moves}
+use Rattle.shape_sampler.proofs.session.Session.move_first.Goals as goal
+
+pub body-requires : goal.body-requires
+body-requires g c = record { in_range = class-known c.args.system.now c.known.ensures.sound c.in-Some.node.0 c.in-Class.c.0 (c.node.ensures.node ∙ ap (λ n. Some (spec_node n)) c.in-Class.is) }
+
+pub move_union-requires-clause-few : goal.move_union-requires-clause-few
+move_union-requires-clause-few g c =
+    let few = few-parts c.args.system.now c.known.ensures.limits c.in-Some.node.0 c.in-Union.parts (c.node.ensures.node ∙ ap (λ n. Some (spec_node n)) c.in-Union.is) in
+    subst (λ ps. length ps ≤ 64) (sym c.items-in-Union.ensures.items) few
+
+pub returns-in-Empty-clause-moved : goal.returns-in-Empty-clause-moved
+returns-in-Empty-clause-moved g c = λ told.
+    let s = c.args.system.now in
+    let x = g.O.Oracle.x c.args.oracle.now in
+    let before = c.args.self.now in
+    let first : slice_get before.pending 0 ≡ Some c.in-Some.node.0 = ap (λ (st : SessionState). slice_get st.pending 0) (sym c.self.view_is) ∙ sym c.in-Some.ensures in
+    let at = c.node.ensures.node ∙ ap (λ n. Some (spec_node n)) c.in-Empty.is in
+    let visited = c.move_leaf.ensures.moved told in
+    plain-moves s x g.row.F (g.O.Oracle.table c.args.oracle.now) (g.O.Oracle.raised c.args.oracle.now) before c.move_leaf.new.self c.args.tape.now c.in-Some.node.0 leaf_visited c.requires.running first c.requires.session visited
+    (all-visit s before c.move_leaf.new.self c.in-Some.node.0 (Node.Empty c.in-Empty.field-0) leaf_visited first at (λ chooser bit a rest. refl) visited)
+    (λ rest pending. ideal-leaf s x before.whole (attempt_of before 0) c.requires.session.attempt c.in-Some.node.0 rest pending c.in-Empty.field-0 at)
+
+pub returns-in-Atom-clause-moved : goal.returns-in-Atom-clause-moved
+returns-in-Atom-clause-moved g c = λ told.
+    let s = c.args.system.now in
+    let x = g.O.Oracle.x c.args.oracle.now in
+    let before = c.args.self.now in
+    let first : slice_get before.pending 0 ≡ Some c.in-Some.node.0 = ap (λ (st : SessionState). slice_get st.pending 0) (sym c.self.view_is) ∙ sym c.in-Some.ensures in
+    let at = c.node.ensures.node ∙ ap (λ n. Some (spec_node n)) c.in-Atom.is in
+    let visited = c.move_atom.ensures.moved told in
+    plain-moves s x g.row.F (g.O.Oracle.table c.args.oracle.now) (g.O.Oracle.raised c.args.oracle.now) before c.move_atom.new.self c.args.tape.now c.in-Some.node.0 room_atom_visited c.requires.running first c.requires.session visited
+    (all-visit s before c.move_atom.new.self c.in-Some.node.0 (Node.Atom c.in-Atom.field-0) room_atom_visited first at (λ chooser bit a rest. refl) visited)
+    (λ rest pending. ideal-atom s x before.whole (attempt_of before 0) c.requires.session.attempt c.in-Some.node.0 rest pending c.in-Atom.field-0 at before.room refl)
+
+pub returns-in-Class-clause-moved : goal.returns-in-Class-clause-moved
+returns-in-Class-clause-moved g c = λ told.
+    let s = c.args.system.now in
+    let x = g.O.Oracle.x c.args.oracle.now in
+    let before = c.args.self.now in
+    let first : slice_get before.pending 0 ≡ Some c.in-Some.node.0 = ap (λ (st : SessionState). slice_get st.pending 0) (sym c.self.view_is) ∙ sym c.in-Some.ensures in
+    let at = c.node.ensures.node ∙ ap (λ n. Some (spec_node n)) c.in-Class.is in
+    let visited = c.move_class.ensures.moved told in
+    plain-moves s x g.row.F (g.O.Oracle.table c.args.oracle.now) (g.O.Oracle.raised c.args.oracle.now) before c.move_class.new.self c.args.tape.now c.in-Some.node.0 (replaced_by (c.body.result.0 ∷ [])) c.requires.running first c.requires.session visited
+    (class-visit s before c.move_class.new.self Moved c.in-Some.node.0 c.in-Class.c.0 c.body.result.0 first at c.body.ensures.body visited (λ other. cc))
+    (λ rest pending. ideal-class s x before.whole (attempt_of before 0) c.requires.session.attempt c.in-Some.node.0 rest pending c.known.ensures.sound c.in-Class.c.0 c.body.result.0 at c.body.ensures.body)
+
+pub returns-in-Product-clause-moved : goal.returns-in-Product-clause-moved
+returns-in-Product-clause-moved g c = λ told.
+    let s = c.args.system.now in
+    let x = g.O.Oracle.x c.args.oracle.now in
+    let before = c.args.self.now in
+    let first : slice_get before.pending 0 ≡ Some c.in-Some.node.0 = ap (λ (st : SessionState). slice_get st.pending 0) (sym c.self.view_is) ∙ sym c.in-Some.ensures in
+    let parts = map number c.items.result.now in
+    let at = c.node.ensures.node ∙ ap (λ n. Some (spec_node n)) c.in-Product.is ∙ ap (λ ps. Some (Node.Product (map number ps))) (sym c.items.ensures.items) in
+    let visited = c.move_product.ensures.moved told in
+    plain-moves s x g.row.F (g.O.Oracle.table c.args.oracle.now) (g.O.Oracle.raised c.args.oracle.now) before c.move_product.new.self c.args.tape.now c.in-Some.node.0 (replaced_by parts) c.requires.running first c.requires.session visited
+    (all-visit s before c.move_product.new.self c.in-Some.node.0 (Node.Product parts) (replaced_by parts) first at (λ chooser bit a rest. refl) visited)
+    (λ rest pending. ideal-product s x before.whole (attempt_of before 0) c.requires.session.attempt c.in-Some.node.0 rest pending c.known.ensures.sound parts at)

@@ -1,0 +1,39 @@
+-- The moves so far, and one more.
+use Rattle.std.proofs.Common.{◌≤◌, ℕ, arith, sym, ap, subst}
+use Rattle.bz_model.specs.Spec.{Spec}
+use Rattle.bit_tape.specs.Tape.{TapeState}
+use Rattle.shape_sampler.specs.State.{SessionState, SessionBelongs}
+use Rattle.shape_sampler.specs.Ahead.{MovesOn}
+use Rattle.shape_sampler.proofs.Moves.{none-moved, more-moved}
+use Rattle.shape_sampler.proofs.session.Session.move_on.Goals as goal
+
+pub moves-init : goal.moves-init
+moves-init g c = record {
+  few = omega arith;
+  moved = none-moved c.args.founded.now (g.O.Oracle.x c.args.oracle.now) g.row.F (g.O.Oracle.table c.args.oracle.now) (g.O.Oracle.raised c.args.oracle.now) c.args.self.now c.args.tape.now c.requires.running c.requires.session;
+}
+
+pub move_first-requires-clause-running : goal.move_first-requires-clause-running
+move_first-requires-clause-running g c = c.moves.invariant.moved.running
+
+pub move_first-requires-clause-session : goal.move_first-requires-clause-session
+move_first-requires-clause-session g c = subst (λ (s : Spec). SessionBelongs s (g.O.Oracle.x c.args.oracle.now) c.moves.self) (sym c.system-system.ensures.system) c.moves.invariant.moved.session
+
+pub moves-preserved : goal.moves-preserved
+moves-preserved g c =
+    let x = g.O.Oracle.x c.args.oracle.now in
+    let table = g.O.Oracle.table c.args.oracle.now in
+    let raised = g.O.Oracle.raised c.args.oracle.now in
+    let next = subst (λ (s : Spec). MovesOn s x g.row.F table raised 1 c.moves.self c.moves.tape c.move_first.new.self c.move_first.new.tape) c.system-system.ensures.system (c.move_first.ensures.moved (cc)) in
+    let below = c.moves-test.true in
+    record {
+      few = omega arith;
+      moved = more-moved c.args.founded.now x g.row.F table raised c.moves.made 1 c.args.self.now c.moves.self c.move_first.new.self c.args.tape.now c.moves.tape c.move_first.new.tape c.moves.invariant.moved next;
+    }
+
+pub returns-then-not-move_first-clause-moved : goal.returns-then-not-move_first-clause-moved
+returns-then-not-move_first-clause-moved g c =
+    let left = c.move_first.ensures.left (cc) in
+    subst (λ (st : SessionState). MovesOn c.args.founded.now (g.O.Oracle.x c.args.oracle.now) g.row.F (g.O.Oracle.table c.args.oracle.now) (g.O.Oracle.raised c.args.oracle.now) c.moves.made c.args.self.now c.args.tape.now st c.move_first.new.tape) (sym left.0)
+    (subst (λ (t : TapeState). MovesOn c.args.founded.now (g.O.Oracle.x c.args.oracle.now) g.row.F (g.O.Oracle.table c.args.oracle.now) (g.O.Oracle.raised c.args.oracle.now) c.moves.made c.args.self.now c.args.tape.now c.moves.self t) (sym left.1)
+    c.moves.invariant.moved)
