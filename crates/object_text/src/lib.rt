@@ -11,6 +11,7 @@
 //! `specs/Taken.antt`. No clause says how long a call takes or that memory suffices.
 #![tactic(auto)]
 
+pub mod append;
 pub mod fault;
 pub mod laws;
 mod output;
