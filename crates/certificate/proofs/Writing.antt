@@ -1,8 +1,10 @@
 -- Lines put one after the other.
-use Rattle.std.proofs.Common.{◌≡◌, ℕ, zero, suc, ◌+◌, ◌<◌, List, [], ◌∷◌, ◌++◌, length, take, get_or, arith, refl, sym, ◌∙◌, ap, append_assoc, append-nil, add-one, Some}
+use Rattle.std.proofs.Common.{◌≡◌, ℕ, zero, suc, ◌+◌, ◌<◌, List, [], ◌∷◌, ◌++◌, length, take, get_or, arith, refl, sym, ◌∙◌, ap, append_assoc, append-nil, add-one, decimal, Some}
 use Rattle.std.specs.Prelude.{slice_get, codes}
+use Rattle.bz_model.specs.declared.cell.Cell.{Cell}
 use Rattle.certificate.specs.declared.certificate.Header.{Header}
-use Rattle.certificate.specs.Patterns.{filled}
+use Rattle.certificate.specs.Patterns.{filled, filled_from}
+use Rattle.certificate.specs.Fields.{cell_field}
 use Rattle.certificate.specs.Lines.{Line, text_of, whole_line}
 use Rattle.certificate.specs.Certificates.{spec_lines, base_lines, lines_below_version, lines_above_window, lines_without_window}
 
@@ -78,3 +80,13 @@ base-step names base i name start t t1 t2 t3 e at lt e1 e2 e3 =
   where
     joined : (t a n f : List ℕ) → ((t ++ a) ++ n) ++ (f ++ 10 ∷ []) ≡ t ++ ((a ++ (n ++ f)) ++ 10 ∷ [])
     joined t a n f = simp append_assoc
+
+-- A space, a number, a slash and a number after a text are the field of a cell with these numbers.
+pub cell-put : (c : Cell) (t t1 t2 t3 t4 : List ℕ) → t1 ≡ t ++ 32 ∷ [] → t2 ≡ t1 ++ decimal c.k → t3 ≡ t2 ++ 47 ∷ [] → t4 ≡ t3 ++ decimal c.b → t4 ≡ t ++ cell_field c
+unfolding filled_from
+cell-put c t t1 t2 t3 t4 e1 e2 e3 e4 =
+    e4 ∙ ap (λ u. u ++ decimal c.b) (e3 ∙ ap (λ u. u ++ 47 ∷ []) (e2 ∙ ap (λ u. u ++ decimal c.k) e1)) ∙ joined t (decimal c.k) (decimal c.b)
+    ∙ ap (λ u. t ++ 32 ∷ (decimal c.k ++ 47 ∷ u)) (sym (append-nil (decimal c.b)))
+  where
+    joined : (t k b : List ℕ) → (((t ++ 32 ∷ []) ++ k) ++ 47 ∷ []) ++ b ≡ t ++ 32 ∷ (k ++ 47 ∷ b)
+    joined t k b = simp append_assoc

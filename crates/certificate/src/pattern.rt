@@ -1,22 +1,14 @@
 //! Lines of words and numbers, written and read by their patterns.
 ghost use Rattle.std.specs.Prelude.{◌≡◌, ◌≢◌, ℕ, ◌+◌, ◌^◌, ◌<◌, ◌≤◌, ◌↔◌, ◌∷◌, ◌++◌, [], List};
-ghost use Rattle.std.specs.Prelude.{true, length, decimal, slice_index, IsTrue, IfSome, IfNone};
+ghost use Rattle.std.specs.Prelude.{true, length, slice_index, IsTrue, IfSome, IfNone};
 ghost use Rattle.std.specs.Prelude.{OnOk};
 ghost use Rattle.std.specs.Bool.{OnTrue};
 ghost use Rattle.certificate.specs.Patterns.{filled, places, is_apart, HasNoDigit, AreSmall};
 ghost use Rattle.certificate.specs.Patterns.{BeginsNumber, BeginsFilled};
 
 use bz_model::number::read_number;
-use itoa::Buffer;
+use object_text::append::{push_byte, push_number};
 use std::alloc::AllocError;
-
-/// Appends a number in decimal digits.
-fn push_number(text: &mut Vec<u8>, n: u64) -> Result<(), AllocError>
-    ensures { OnOk result (text.new.items ≡ text.old.items ++ decimal n) }
-{
-    let mut buffer = Buffer::new();
-    text.extend_from_slice(buffer.format(n).as_bytes())
-}
 
 /// Appends a pattern filled with these numbers: each `#` of it is replaced by the next one.
 pub(crate) fn push_filled(
@@ -33,7 +25,7 @@ pub(crate) fn push_filled(
             push_number(text, numbers[next])?;
             next += 1;
         } else {
-            text.push(*byte)?;
+            push_byte(text, *byte)?;
         }
     }
     Ok(())

@@ -1,12 +1,12 @@
 //! The texts of a certificate's header, entries and closing: as texts of their own, or appended to
 //! another.
-ghost use Rattle.std.specs.Prelude.{◌≡◌, ◌<◌, ◌≤◌, ◌∷◌, ◌++◌, [], length, codes, IfOk, OnOk, OnErr};
+ghost use Rattle.std.specs.Prelude.{◌≡◌, ◌+◌, ◌*◌, ◌<◌, ◌≤◌, ◌∷◌, ◌++◌, [], length, codes, IfOk, OnOk, OnErr};
 ghost use Rattle.std.specs.Prelude.{take};
 ghost use Rattle.hex.specs.Hex.{encode_lower};
 ghost use Rattle.class_system.specs.CanonicalText.{mode_word};
 ghost use Rattle.class_system.specs.Views.{spec_mode};
 ghost use Rattle.certificate.specs.Patterns.{filled, places};
-ghost use Rattle.certificate.specs.Fields.{cells_text};
+ghost use Rattle.certificate.specs.Fields.{cell_field, cells_text};
 ghost use Rattle.certificate.specs.Lines.{Line, text_of, whole_line, end_pattern, open_line};
 ghost use Rattle.certificate.specs.Certificates.{spec_lines, base_lines, lines_below_version};
 ghost use Rattle.certificate.specs.Certificates.{lines_above_window, lines_without_window};
@@ -20,6 +20,7 @@ use crate::digest::SpecDigest;
 use crate::pattern::push_filled;
 use bz_model::cell::Cell;
 use class_system::draft::Mode;
+use object_text::append::{push_byte, push_number};
 use size_window::ending::Straddle;
 use std::alloc::{AllocError, Global};
 
@@ -152,10 +153,24 @@ fn push_object(
     ensures { OnOk result (text.new.items ≡ text.old.items
         ++ text_of (object_lines number place size object.now cells.now)) }
 {
+    text.reserve(room_for(object.len(), cells.len()))?;
     push_line(text, b"object # at # size #", &[number, place, size])?;
     push_words(text, b"text ", object)?;
     push_cells(text, cells)?;
     Ok(())
+}
+
+/// How many bytes are taken at once for the lines of an object with a text of so many bytes.
+///
+/// Most cells take at most eight bytes, and most first lines at most 80 with the other words. Other
+/// lines take more as they grow.
+fn room_for(object: usize, cells: usize) -> usize
+    ensures { result ≤ 80 + object + 8 * cells }
+{
+    cells
+        .saturating_mul(8)
+        .saturating_add(object)
+        .saturating_add(80)
 }
 
 /// Appends the lines of a closing; a refusal may leave some of them.
@@ -242,9 +257,20 @@ fn push_cells(text: &mut Vec<u8>, cells: &[Cell]) -> Result<(), AllocError>
 {
     text.extend_from_slice(b"cells")?;
     for cell in cells {
-        push_filled(text, b" #/#", &[cell.k, u64::from(cell.b)])?;
+        push_cell(text, *cell)?;
     }
     text.push(b'\n')?;
+    Ok(())
+}
+
+/// Appends a cell, after a space.
+fn push_cell(text: &mut Vec<u8>, cell: Cell) -> Result<(), AllocError>
+    ensures { OnOk result (text.new.items ≡ text.old.items ++ cell_field cell) }
+{
+    push_byte(text, b' ')?;
+    push_number(text, cell.k)?;
+    push_byte(text, b'/')?;
+    push_number(text, u64::from(cell.b))?;
     Ok(())
 }
 

@@ -30,3 +30,4 @@ mod Arranging
 mod Shuffles
 mod Unarranged
 mod PrintedRead
+mod ShortNumbers

@@ -8,9 +8,11 @@
 //!
 //! The state of the walk that prints stands in `specs/Printing.antt`, what is printed so far in
 //! `specs/Output.antt`, what the reader expects in `specs/Expected.antt`, and what it has read in
-//! `specs/Taken.antt`. No clause says how long a call takes or that memory suffices.
+//! `specs/Taken.antt`. `append` appends bytes and numbers, to an object's text and to any other. No
+//! clause says how long a call takes or that memory suffices.
 #![tactic(auto)]
 
+pub mod append;
 pub mod fault;
 pub mod laws;
 mod output;

@@ -2,13 +2,13 @@
 //!
 //! The text of a part of a set or a cycle is kept by itself until all parts are there: their order
 //! is known only then.
-ghost use Rattle.std.specs.Prelude.{◌≡◌, ◌≤◌, ◌++◌, ◌∷◌, [], OnOk, decimal, length, take, drop};
+ghost use Rattle.std.specs.Prelude.{◌≡◌, ◌≤◌, ◌++◌, ◌∷◌, [], IfOk, OnOk, decimal, length, take, drop};
 ghost use Rattle.bz_model.specs.ObjectText.{lesser_label, least_of, spaced, rotated_to};
 ghost use Rattle.object_text.specs.Output.{blank, grown, form_opened, part_printed, form_closed};
 ghost use Rattle.object_text.specs.Output.{arranged, opening_byte};
 ghost use Rattle.object_text.specs.Output.{closing_byte};
 
-use itoa::Buffer;
+use crate::append::{push_byte, push_number, push_word};
 use smallvec::SmallVec;
 use std::alloc::{AllocError, Global};
 use std::default::MadeWith;
@@ -87,15 +87,15 @@ impl Model for Output {
 }
 
 impl Output {
-    /// Nothing.
-    pub(crate) fn new(alloc: Global) -> Output
-        ensures { result ≡ blank }
+    /// Nothing, with room for so many bytes of the open text.
+    pub(crate) fn with_room(alloc: Global, bytes: usize) -> Result<Output, AllocError>
+        ensures { IfOk result (λ output. output ≡ blank) }
     {
-        Output {
+        Ok(Output {
             least: 0,
-            text: Vec::new(alloc),
+            text: Vec::with_capacity(alloc, bytes)?,
             frames: Vec::new(alloc),
-        }
+        })
     }
 
     /// The open text.
@@ -110,29 +110,35 @@ impl Output {
         text
     }
 
-    /// Appends bytes without a label to the open text.
-    pub(crate) fn write(&mut self, bytes: &[u8]) -> Result<(), AllocError>
-        ensures { OnOk result (self.new ≡ grown self.old 0 bytes.now) }
+    /// Appends a byte to the open text.
+    #[inline(always)]
+    pub(crate) fn write_byte(&mut self, byte: u8) -> Result<(), AllocError>
+        ensures { OnOk result (self.new ≡ grown self.old 0 (byte ∷ [])) }
     {
-        self.text.extend_from_slice(bytes)
+        push_byte(&mut self.text, byte)
+    }
+
+    /// Appends a word without a label to the open text.
+    #[inline(always)]
+    pub(crate) fn write_word(&mut self, word: &[u8]) -> Result<(), AllocError>
+        ensures { OnOk result (self.new ≡ grown self.old 0 word.now) }
+    {
+        push_word(&mut self.text, word)
     }
 
     /// Appends a number to the open text.
     pub(crate) fn write_number(&mut self, n: u64) -> Result<(), AllocError>
         ensures { OnOk result (self.new ≡ grown self.old 0 (decimal n)) }
     {
-        let mut buffer = Buffer::new();
-        self.text.extend_from_slice(buffer.format(n).as_bytes())
+        push_number(&mut self.text, n)
     }
 
     /// Appends the number sign and a label to the open text.
     pub(crate) fn write_label(&mut self, label: u64) -> Result<(), AllocError>
         ensures { OnOk result (self.new ≡ grown self.old label (35 ∷ decimal label)) }
     {
-        let mut buffer = Buffer::new();
-        self.text.push(b'#')?;
-        self.text
-            .extend_from_slice(buffer.format(label).as_bytes())?;
+        push_byte(&mut self.text, b'#')?;
+        push_number(&mut self.text, label)?;
         self.least = lesser(self.least, label);
         Ok(())
     }
@@ -202,15 +208,15 @@ fn write_parts(
     match form {
         Form::Set => {
             sort(&mut parts)?;
-            text.push(b'{')?;
+            push_byte(text, b'{')?;
             write_spaced(text, &parts)?;
-            text.push(b'}')?;
+            push_byte(text, b'}')?;
         }
         Form::Cycle => {
             rotate(&mut parts);
-            text.push(b'<')?;
+            push_byte(text, b'<')?;
             write_spaced(text, &parts)?;
-            text.push(b'>')?;
+            push_byte(text, b'>')?;
         }
     }
     Ok(())
@@ -255,7 +261,7 @@ fn write_spaced(text: &mut Vec<u8>, parts: &[Part]) -> Result<(), AllocError>
     };
     text.extend_from_slice(&first.text)?;
     for part in later {
-        text.push(b' ')?;
+        push_byte(text, b' ')?;
         text.extend_from_slice(&part.text)?;
     }
     Ok(())

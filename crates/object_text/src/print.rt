@@ -1,5 +1,5 @@
 //! Printing the object of a shape.
-ghost use Rattle.std.specs.Prelude.{◌≡◌, ◌<◌, [], length, IfOk, option_map};
+ghost use Rattle.std.specs.Prelude.{◌≡◌, ◌+◌, ◌*◌, ◌<◌, ◌≤◌, [], length, IfOk, option_map};
 ghost use Rattle.bz_model.specs.Spec.{Mode};
 ghost use Rattle.bz_model.specs.ObjectText.{object_text};
 ghost use Rattle.object_store.specs.Tokens.{IsOf};
@@ -93,9 +93,19 @@ pub fn print_labelled(
     ensures text { IfOk result (λ text. (of : IsOf system.now c.0 shape.now.items)
         → text.items ≡ object_text system.now of.body of.object of.belongs labels.now) }
 {
+    let tokens = shape.tokens();
     let mut todos = Todos::new(alloc);
-    let mut output = Output::new(alloc);
+    let mut output = Output::with_room(alloc, room_for(tokens.len(), labels.len()))?;
     todos.push_one(Todo::Node(system.body(c)))?;
-    print_all(system, &mut todos, shape.tokens(), labels, &mut output)?;
+    print_all(system, &mut todos, tokens, labels, &mut output)?;
     Ok(output.into_text())
+}
+
+/// How many bytes are taken at once for the text of so many tokens and labels.
+///
+/// Most texts have at most four for each token and each label. Others take more as they grow.
+fn room_for(tokens: usize, labels: usize) -> usize
+    ensures { result ≤ 4 * (tokens + labels) }
+{
+    tokens.saturating_add(labels).saturating_mul(4)
 }

@@ -82,7 +82,7 @@ fn begin(todo: Todo, todos: &mut Todos, output: &mut Output) -> Result<Option<Ex
     ensures begun { IfOk result (IsDoneOrAtNode todo todos.old output.old todos.new output.new) }
 {
     match todo {
-        Todo::Byte(byte) => output.write(&[byte])?,
+        Todo::Byte(byte) => output.write_byte(byte)?,
         Todo::EndPart => output.end_part()?,
         Todo::Close(form) => output.close(form)?,
         Todo::Node(e) => return Ok(Some(e)),
@@ -109,7 +109,7 @@ fn expand(
     match system.node(e) {
         Expr::Class(c) => todos.push_one(Todo::Node(system.body(*c)))?,
         Expr::Product(parts) => {
-            output.write(b"(")?;
+            output.write_byte(b'(')?;
             todos.push_one(Todo::Byte(b')'))?;
             todos.push_each(parts.items())?;
         }
@@ -142,14 +142,14 @@ fn print_token(
                 unreachable!()
             };
             output.write_number(u64::from(i))?;
-            output.write(b".")?;
+            output.write_byte(b'.')?;
             todos.push_one(Todo::Node(parts.items()[i as usize]))
         }
         Expr::Seq(part) => {
             let Token::Count(k) = token else {
                 unreachable!()
             };
-            output.write(b"[")?;
+            output.write_byte(b'[')?;
             todos.push_one(Todo::Byte(b']'))?;
             todos.push_objects(*part, k)
         }
@@ -196,7 +196,7 @@ fn print_leaf(
     ensures { OnOk result (
         output.new ≡ labelled_leaf output.old (leaf_text letter.now word.now) label) }
 {
-    output.write(if word.is_empty() { letter } else { word })?;
+    output.write_word(if word.is_empty() { letter } else { word })?;
     match label {
         None => Ok(()),
         Some(label) => output.write_label(label),

@@ -3,7 +3,7 @@ use Rattle.std.proofs.Common.{◌≡◌, ◌≢◌, ◌+◌, ◌<◌, ◌++◌, 
 use Rattle.certificate.specs.Patterns.{filled_from}
 use Rattle.certificate.proofs.Filling.{sign-at, byte-at, end-at, sign-places-at, byte-places-at}
 use Rattle.certificate.proofs.pattern.push_filled.Goals as goal
-use Rattle.certificate.proofs.pattern.push_filled.Goals.{then-byte-eq35+in_ok-push_number, else-byte-eq35+in_ok-push}
+use Rattle.certificate.proofs.pattern.push_filled.Goals.{then-byte-eq35+in_ok-push_number, else-byte-eq35+in_ok-push_byte}
 
 pub loop-byte-preserved : goal.loop-byte-preserved
 loop-byte-preserved c =
@@ -20,19 +20,19 @@ loop-byte-preserved c =
           record {
             whole = ap (λ t. t.items ++ filled_from (drop (i + 1) p) ns c.if-byte-eq35.next) w.text-is
                 ∙ ap (λ k. w.push_number.new.text.items ++ filled_from (drop (i + 1) p) ns k) w.next-is
-                ∙ ap (λ t. t ++ filled_from (drop (i + 1) p) ns (j + 1)) w.in_ok-push_number.ensures
+                ∙ ap (λ t. t ++ filled_from (drop (i + 1) p) ns (j + 1)) w.in_ok-push_number.ensures.ok
                 ∙ append_assoc text (decimal (get_or ns j 0)) (filled_from (drop (i + 1) p) ns (j + 1))
                 ∙ ap (λ t. text ++ t) (sym (sign-at p ns i j lt s)) ∙ c.loop-byte.invariant.whole;
             room = let n = w.next-is in let r = c.loop-byte.invariant.room in omega arith;
           }
-      | else-byte-eq35+in_ok-push w ↦
+      | else-byte-eq35+in_ok-push_byte w ↦
           let lt : i < length p = c.loop-byte-test.true in
           let s : get_or p i 0 ≢ 35 = w.if-byte-eq35.false in
           let e = byte-places-at p i lt s in
           record {
             whole = ap (λ t. t.items ++ filled_from (drop (i + 1) p) ns c.if-byte-eq35.next) w.text-is
-                ∙ ap (λ k. w.push.new.self.items ++ filled_from (drop (i + 1) p) ns k) w.next-is
-                ∙ ap (λ t. t ++ filled_from (drop (i + 1) p) ns j) w.in_ok-push.ensures.items
+                ∙ ap (λ k. w.push_byte.new.text.items ++ filled_from (drop (i + 1) p) ns k) w.next-is
+                ∙ ap (λ t. t ++ filled_from (drop (i + 1) p) ns j) w.in_ok-push_byte.ensures.ok
                 ∙ append_assoc text (get_or p i 0 ∷ []) (filled_from (drop (i + 1) p) ns j)
                 ∙ ap (λ t. text ++ t) (sym (byte-at p ns i j lt s)) ∙ c.loop-byte.invariant.whole;
             room = let n = w.next-is in let r = c.loop-byte.invariant.room in omega arith;

@@ -6,7 +6,7 @@ use Rattle.object_text.proofs.output.write_spaced.Goals as goal
 pub loop-part-preserved : goal.loop-part-preserved
 loop-part-preserved c =
     c.in_ok-extend_from_slice-2.ensures.items
-    ∙ ap (λ t. t ++ c.deref-in-loop-part.result.now) c.in_ok-push.ensures.items
+    ∙ ap (λ t. t ++ c.deref-in-loop-part.result.now) c.in_ok-push_byte.ensures.ok
     ∙ ap (λ t. (c.loop-part.text.items ++ 32 ∷ []) ++ t) (c.deref-in-loop-part.ensures.value ∙ ap (λ p. p.text) c.part.view_is ∙ ap (λ p. p.text) c.part-item.is)
     ∙ spaces-next 0 c.loop-part.part-index c.in-Some.later.now c.in-Some.later.now c.part-item.result c.loop-part-test.true c.loop-part.text.items c.extend_from_slice.new.self.items c.loop-part.invariant
 

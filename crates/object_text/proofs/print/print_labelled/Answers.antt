@@ -9,12 +9,12 @@ print_all-requires-clause-unlabelled c = none-unlabelled c.args.system.now.mode 
 pub print_all-requires-clause-printed : goal.print_all-requires-clause-printed
 print_all-requires-clause-printed c = record {
   whole = object_text c.args.system.now c.requires.is_of.body c.requires.is_of.object c.requires.is_of.belongs c.args.labels.now;
-  prints = of-start c.args.system.now c.args.c.0 c.args.shape.now.items c.tokens.result.now c.requires.is_of c.args.labels.now (takes-all c.args.system.now c.args.c.0 c.args.shape.now.items c.args.labels.now c.args.system.now.mode c.requires.labels c.requires.is_of) c.body.result c.body.ensures.body c.push_one.new.self c.new-todos.result c.new-output.result c.new-todos.ensures c.in_ok-push_one.ensures c.tokens.ensures c.new-output.ensures;
+  prints = of-start c.args.system.now c.args.c.0 c.args.shape.now.items c.tokens-tokens.result.now c.requires.is_of c.args.labels.now (takes-all c.args.system.now c.args.c.0 c.args.shape.now.items c.args.labels.now c.args.system.now.mode c.requires.labels c.requires.is_of) c.body.result c.body.ensures.body c.push_one.new.self c.new-todos.result c.in_ok-output.output c.new-todos.ensures c.in_ok-push_one.ensures c.tokens-tokens.ensures c.in_ok-output.ensures;
 }
 
 pub returns : goal.returns
 returns c = record {
   text = λ of. let done = c.in_ok-print_all.ensures (object_text c.args.system.now of.body of.object of.belongs c.args.labels.now)
-      (of-start c.args.system.now c.args.c.0 c.args.shape.now.items c.tokens.result.now of c.args.labels.now (takes-all c.args.system.now c.args.c.0 c.args.shape.now.items c.args.labels.now c.args.system.now.mode c.requires.labels of) c.body.result c.body.ensures.body c.push_one.new.self c.new-todos.result c.new-output.result c.new-todos.ensures c.in_ok-push_one.ensures c.tokens.ensures c.new-output.ensures) in
+      (of-start c.args.system.now c.args.c.0 c.args.shape.now.items c.tokens-tokens.result.now of c.args.labels.now (takes-all c.args.system.now c.args.c.0 c.args.shape.now.items c.args.labels.now c.args.system.now.mode c.requires.labels of) c.body.result c.body.ensures.body c.push_one.new.self c.new-todos.result c.in_ok-output.output c.new-todos.ensures c.in_ok-push_one.ensures c.tokens-tokens.ensures c.in_ok-output.ensures) in
       let told = c.into_text.ensures in cc;
 }

@@ -6,12 +6,12 @@ use Rattle.object_text.specs.Printing.{Prints, nodes_of}
 use Rattle.object_text.proofs.Ways.{passes-one, passes-from}
 use Rattle.object_text.proofs.walk.begin.Goals as goal
 
-pub returns-in_ok-write-in-Byte : goal.returns-in_ok-write-in-Byte
-returns-in_ok-write-in-Byte c = record {
+pub returns-in_ok-write_byte-in-Byte : goal.returns-in_ok-write_byte-in-Byte
+returns-in_ok-write_byte-in-Byte c = record {
   begun = record {
     left = refl;
-    passes = passes-from (todo.Byte c.in-Byte.byte ∷ c.args.todos.now) (c.args.todo ∷ c.args.todos.now) c.args.todos.now c.args.output.now c.write.new.self (ap (λ t. t ∷ c.args.todos.now) c.in-Byte.is)
-        (passes-one (todo.Byte c.in-Byte.byte) c.args.todos.now c.args.output.now (grown c.args.output.now 0 (c.in-Byte.byte ∷ [])) c.write.new.self c.in_ok-write-in-Byte.ensures refl (λ s. record { on = λ whole tokens labels p. p }));
+    passes = passes-from (todo.Byte c.in-Byte.byte ∷ c.args.todos.now) (c.args.todo ∷ c.args.todos.now) c.args.todos.now c.args.output.now c.write_byte.new.self (ap (λ t. t ∷ c.args.todos.now) c.in-Byte.is)
+        (passes-one (todo.Byte c.in-Byte.byte) c.args.todos.now c.args.output.now (grown c.args.output.now 0 (c.in-Byte.byte ∷ [])) c.write_byte.new.self c.in_ok-write_byte-in-Byte.ensures refl (λ s. record { on = λ whole tokens labels p. p }));
   };
 }
 

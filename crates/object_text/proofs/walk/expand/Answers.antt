@@ -34,7 +34,7 @@ returns-in_ok-push_each-in-Product c =
         step = Expands.product (map number c.items.result.now) at (ap nodes_of all ∙ nodes-joined c.items.result.now (todo.Byte 41 ∷ c.args.todos.now));
         goes = record {
           on = λ whole tokens labels p.
-              subst (Prints c.args.system.now whole c.push_each.new.self tokens labels) (sym c.in_ok-write-in-Product.ensures)
+              subst (Prints c.args.system.now whole c.push_each.new.self tokens labels) (sym c.in_ok-write_byte-in-Product.ensures)
               (subst (λ todos. Prints c.args.system.now whole todos tokens labels (grown c.args.output.now 0 (40 ∷ []))) (sym all) (of-product c.args.system.now whole c.args.todos.now c.args.e.0 labels c.args.output.now c.items.result.now at tokens p));
         };
       };

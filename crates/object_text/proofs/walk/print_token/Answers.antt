@@ -32,11 +32,11 @@ returns-in-Atom c =
           c.print_leaf-in-Atom.ensures;
     }
 
-pub returns-in_ok-write-in-Union : goal.returns-in_ok-write-in-Union
-returns-in_ok-write-in-Union c =
+pub returns-in_ok-write_byte-in-Union : goal.returns-in_ok-write_byte-in-Union
+returns-in_ok-write_byte-in-Union c =
     let at : node_at c.args.system.now c.args.e.0 ≡ Some (Node.Union (map number c.items.result.now)) = c.node.ensures.node ∙ ap (λ n. Some (spec_node n)) c.in-Union.is ∙ ap (λ ps. Some (Node.Union (map number ps))) (sym c.items.ensures.items) in
     let n = c.from.ensures in
-    let written : c.write.new.self ≡ grown (grown c.args.output.now 0 (decimal c.in-Pick.i)) 0 (46 ∷ []) = c.in_ok-write-in-Union.ensures ∙ ap (λ o. grown o 0 (46 ∷ [])) (c.in_ok-write_number-in-Union.ensures ∙ ap (λ k. grown c.args.output.now 0 (decimal k)) (cc)) in
+    let written : c.write_byte.new.self ≡ grown (grown c.args.output.now 0 (decimal c.in-Pick.i)) 0 (46 ∷ []) = c.in_ok-write_byte-in-Union.ensures ∙ ap (λ o. grown o 0 (46 ∷ [])) (c.in_ok-write_number-in-Union.ensures ∙ ap (λ k. grown c.args.output.now 0 (decimal k)) (cc)) in
     record {
       takes = on_ok_weaker c.push_one.result
           (λ put. record {
@@ -54,7 +54,7 @@ returns-in_ok-push_one-in-Seq c =
       takes = on_ok_weaker c.push_objects.result
           (λ put. record {
             on = λ whole rest labels is p.
-                subst (Prints c.args.system.now whole c.push_objects.new.self rest (drop (token_size c.args.token) labels)) (sym c.in_ok-write-in-Seq.ensures)
+                subst (Prints c.args.system.now whole c.push_objects.new.self rest (drop (token_size c.args.token) labels)) (sym c.in_ok-write_byte-in-Seq.ensures)
                 (subst (λ todos. Prints c.args.system.now whole todos rest (drop (token_size c.args.token) labels) (grown c.args.output.now 0 (91 ∷ []))) (sym (put ∙ ap (λ todos. joined_objects (replicate c.in-Count.k c.in-Seq.part) ++ todos) c.in_ok-push_one-in-Seq.ensures)) (prints-count c.args.system.now whole c.args.todos.now c.args.e.0 labels c.args.output.now c.args.token rest c.in-Seq.part c.in-Count.k at c.in-Count.is p));
           })
           c.push_objects.ensures;
