@@ -1,5 +1,5 @@
 -- A course with one turn more.
-use Rattle.std.proofs.Common.{◌≡◌, ℕ, zero, suc, ◌+◌, ◌-◌, ◌*◌, ◌≤◌, max, arith, Bool, List, [], ◌++◌, append-nil, refl, sym, ◌∙◌, ap, subst}
+use Rattle.std.proofs.Common.{◌≡◌, ℕ, zero, suc, ◌+◌, ◌-◌, ◌*◌, ◌<◌, ◌≤◌, max, arith, Bool, List, [], ◌++◌, append-nil, refl, sym, ◌∙◌, ap, subst}
 use Rattle.std.specs.Prelude.{Option, Some, None, IfSome, option_to_list}
 use Rattle.bz_model.specs.declared.cell.Bounds.{Bounds}
 use Rattle.bz_model.specs.declared.cell.Cell.{Cell}
@@ -108,7 +108,7 @@ at-end s x contents table limits d now tape e can counted done turn_limit tells_
 }
 
 -- a drawing that goes on can make another turn
-pub can-turn-on : (s : Spec) (x : Fraction) (F : ℕ) (table : (level node : ℕ) → Bounds) (limits : Limits) (told : Option (ℕ → Option Bool)) (contents : List ℕ → Option (List ℕ)) (d now : DrawingState) (before_tape tape : TapeState) (a : Answer) → TellsTurn s x F table limits told d now before_tape.used tape.used a → CanTurn s x contents limits d before_tape → turns_by None a ≡ 1 → ending_by d.ending a ≡ d.ending → DrawingBelongs s x now → BelongsToShelf contents tape → CanTurn s x contents limits now tape × (now.turns ≡ d.turns + 1)
+pub can-turn-on : (s : Spec) (x : Fraction) (F : ℕ) (table : (level node : ℕ) → Bounds) (limits : Limits) (told : Option (ℕ → Option Bool)) (contents : List ℕ → Option (List ℕ)) (d now : DrawingState) (before_tape tape : TapeState) (a : Answer) → TellsTurn s x F table limits told d now before_tape.used tape.used a → CanTurn s x contents limits d before_tape → turns_by None a ≡ 1 → ending_by d.ending a ≡ d.ending → DrawingBelongs s x now → BelongsToShelf contents tape → CanTurn s x contents limits now tape × (d.turns < now.turns)
 can-turn-on s x F table limits told contents d now before_tape tape a h can one same belongs ahead = (
   record {
     sound = can.sound;
@@ -118,7 +118,7 @@ can-turn-on s x F table limits told contents d now before_tape tape a h can one 
     ahead = ahead;
     so_far = course-on s x F table limits told d now before_tape.used tape.used a h can.so_far;
   },
-  h.counted.turns ∙ ap (λ n. d.turns + n) (turns-one d.ending a can.goes_on one),
+  let more = h.counted.turns in let by = turns-one d.ending a can.goes_on one in omega (arith, more, by),
 )
 
 -- a read failed in the turn exactly where the drawing ended with a failed read

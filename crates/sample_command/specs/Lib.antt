@@ -2,3 +2,4 @@ pub mod Starts
 pub mod Drawn
 pub mod UnderWay
 pub mod SampleCommand
+pub mod Ahead
