@@ -10,7 +10,7 @@ use Rattle.size_window.specs.RunByBits.{Limits}
 use Rattle.size_window.specs.Drawing.{DrawingState}
 use Rattle.size_window.specs.Turn.{node_bits}
 use Rattle.size_window.specs.Trace.{TurnsContinue}
-use Rattle.sample_command.specs.Ahead.{Goes}
+use Rattle.size_window.specs.Ahead.{Goes}
 use Rattle.size_window.specs.declared.turned.Turned.TheVariants as answer
 use Rattle.class_system.specs.Sound.{IsSound}
 use Rattle.sample_command.proofs.OneTurn.{TellsTurn, so-far-on}

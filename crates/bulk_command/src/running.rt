@@ -1,9 +1,5 @@
 //! Runs whose objects are counted and let go.
 ghost use Rattle.std.specs.Prelude.{◌≡◌, ℕ, ◌≤◌, ◌++◌, IfOk, string_bytes};
-ghost use Rattle.std.specs.Prelude.{◌+◌, List, Option};
-ghost use Rattle.bit_tape.specs.Tape.{BelongsToShelf, bits_of_source};
-ghost use Rattle.size_window.specs.Drawing.{DrawingBelongs};
-ghost use Rattle.sample_command.specs.Ahead.{Goes};
 ghost use Rattle.bz_model.specs.Fraction.{IsFractionBits};
 ghost use Rattle.bit_tape.specs.Tape.{CountsFault};
 ghost use Rattle.bz_model.specs.Oracle.{AreCosts, LeavesOracle};
@@ -231,7 +227,7 @@ fn go_ahead<const F: u32, O: Oracle<F>>(
     ensures source { tape.new.source ≡ tape.old.source }
 {
     a_turn_continues_a_trace();
-    turn_ahead(drawing, founded, oracle, tape);
+    drawing.turn_ahead(founded, oracle, tape);
 }
 
 /// Makes one turn, and lets go what it kept.
@@ -270,27 +266,4 @@ fn turn_once<const F: u32, O: Oracle<F>, L: Ledger>(
         Turned::Finished(ending) => Ok(Some(ending)),
         Turned::OutOfMemory => Err(AllocError),
     }
-}
-
-/// Stand-in.
-fn turn_ahead<const F: u32, O: Oracle<F>>(
-    drawing: &mut Drawing,
-    founded: &Founded,
-    oracle: &O,
-    tape: &mut Tape,
-) -> u64
-    requires fraction_bits { IsFractionBits F }
-    requires spec { O.spec oracle.now ≡ founded.now }
-    requires drawing { DrawingBelongs founded.now (O.x oracle.now) drawing.old }
-    ensures goes { (contents : List ℕ → Option (List ℕ)) → BelongsToShelf contents tape.old
-        → Goes founded.now (O.x oracle.now) F (O.table oracle.now)
-        (bits_of_source tape.old.source contents) (O.raised oracle.now) result drawing.old
-        tape.old.used drawing.new tape.new.used }
-    ensures drawing { DrawingBelongs founded.now (O.x oracle.now) drawing.new }
-    ensures source { tape.new.source ≡ tape.old.source }
-    ensures belongs { (contents : List ℕ → Option (List ℕ)) → BelongsToShelf contents tape.old
-        → BelongsToShelf contents tape.new }
-    ensures turns { drawing.new.turns ≡ drawing.old.turns + result }
-{
-    0
 }

@@ -1,6 +1,6 @@
 -- A course with one turn more.
-use Rattle.std.proofs.Common.{◌≡◌, ℕ, zero, suc, ◌+◌, ◌-◌, ◌*◌, ◌<◌, ◌≤◌, max, arith, Bool, List, [], ◌++◌, append-nil, refl, sym, ◌∙◌, ap, subst}
-use Rattle.std.specs.Prelude.{Option, Some, None, IfSome, option_to_list}
+use Rattle.std.proofs.Common.{◌≡◌, ℕ, suc, ◌-◌, ◌<◌, max, arith, Bool, List, [], ◌++◌, append-nil, refl, sym, ◌∙◌, ap, subst}
+use Rattle.std.specs.Prelude.{Option, Some, None, option_to_list}
 use Rattle.bz_model.specs.declared.cell.Bounds.{Bounds}
 use Rattle.bz_model.specs.declared.cell.Cell.{Cell}
 use Rattle.bz_model.specs.Fraction.{Fraction}
@@ -16,11 +16,10 @@ use Rattle.size_window.specs.declared.ending.Straddle.TheVariants as straddle
 use Rattle.size_window.specs.declared.turned.Turned.{Turned as Answer}
 use Rattle.size_window.specs.declared.turned.Turned.TheVariants as answer
 use Rattle.size_window.specs.RunByBits.{Limits, Entry, Course, followed_by}
-use Rattle.size_window.specs.Drawing.{MadeShape, DrawingState, DrawingBelongs, Waits, state_of, ending_of}
+use Rattle.size_window.specs.Drawing.{DrawingState, DrawingBelongs, state_of, ending_of}
 use Rattle.size_window.specs.Follows.{GoesIdeally}
 use Rattle.size_window.specs.Trace.{TurnsContinue}
-use Rattle.size_window.specs.Turn.{IsTurn, IsCountedTurn, told_entry, turns_by, turns_of, ending_by, TellsOpen, is_turn_fault, node_bits, most_bits}
-use Rattle.size_window.proofs.Going.{ideal-fits}
+use Rattle.size_window.specs.Turn.{IsTurn, IsCountedTurn, told_entry, turns_by, turns_of, ending_by, TellsOpen, is_turn_fault, node_bits}
 use Rattle.sample_command.specs.Drawn.{AreLinesOf, Lists, straddle_of}
 use Rattle.sample_command.specs.Drawn as drawn
 use Rattle.sample_command.specs.UnderWay.{IsCourseSoFar, HasCourse, CanTurn, IsAtEnd, has_failed, told_open}

@@ -1,5 +1,5 @@
 -- Drawings under way, with turns more that were made ahead.
-use Rattle.std.proofs.Common.{◌≡◌, ℕ, zero, suc, ◌+◌, ◌-◌, ◌<◌, ◌≤◌, max, Bool, false, List, [], ◌++◌, append-nil, refl, sym, ◌∙◌, ap, subst, arith}
+use Rattle.std.proofs.Common.{◌≡◌, ℕ, zero, suc, ◌-◌, ◌≤◌, max, Bool, false, List, [], append-nil, refl, sym, ◌∙◌, ap, subst, arith}
 use Rattle.std.specs.Prelude.{Option, None, Some}
 use Rattle.bz_model.specs.declared.cell.Bounds.{Bounds}
 use Rattle.bz_model.specs.Fraction.{Fraction}
@@ -13,7 +13,7 @@ use Rattle.size_window.specs.RunByBits.{Limits}
 use Rattle.size_window.specs.Drawing.{DrawingState, DrawingBelongs}
 use Rattle.size_window.specs.Trace.{TurnsContinue}
 use Rattle.size_window.specs.Turn.{node_bits}
-use Rattle.sample_command.specs.Ahead.{IsGoing, Goes}
+use Rattle.size_window.specs.Ahead.{IsGoing, Goes}
 use Rattle.sample_command.specs.UnderWay.{HasCourse, CanTurn, IsAtEnd, IsUnderWay, DrawingGoesOn}
 use Rattle.sample_command.proofs.OneTurn.{TellsTurn, course-on}
 use Rattle.sample_command.proofs.Turns.{under-way-on}
@@ -50,8 +50,8 @@ module _ (law : TurnsContinue) (s : Spec) (sound : IsSound s) (x : Fraction) (F 
   pub can-turn-ahead : (contents : List ℕ → Option (List ℕ)) (n : ℕ) (d now : DrawingState) (before tape : TapeState) → Goes s x F table told raised n d before.used now tape.used → CanTurn s x contents limits d before → DrawingBelongs s x now → BelongsToShelf contents tape → CanTurn s x contents limits now tape
   can-turn-ahead contents n d now before tape goes can belongs ahead =
       let on = carried-ahead (λ z k. (z.ending ≡ None) × HasCourse s x limits z k)
-          (λ mid later place end g h q. (g.counted.ending ∙ q.0, course-on s x F table limits told mid later place end answer.Going h q.1))
-          n d now before.used tape.used can.within goes (can.goes_on, can.so_far) in
+      (λ mid later place end g h q. (g.counted.ending ∙ q.0, course-on s x F table limits told mid later place end answer.Going h q.1))
+      n d now before.used tape.used can.within goes (can.goes_on, can.so_far) in
       record { sound = can.sound; belongs = belongs; within = on.0; goes_on = on.1.0; ahead = ahead; so_far = on.1.1 }
 
 -- one that goes on after turns that were made ahead has made more turns than before them

@@ -2,4 +2,3 @@ pub mod Starts
 pub mod Drawn
 pub mod UnderWay
 pub mod SampleCommand
-pub mod Ahead

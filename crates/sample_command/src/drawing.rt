@@ -13,7 +13,6 @@ ghost use Rattle.sample_command.specs.Drawn.{Drawn, ending_status};
 ghost use Rattle.call_stages.specs.Ends.{EndsBy, output};
 ghost use Rattle.call_stages.specs.Outcomes.{MaySay};
 ghost use Rattle.sample_command.specs.UnderWay.{met, has_failed, CanTurn, IsAtEnd, IsUnderWay};
-ghost use Rattle.sample_command.specs.Ahead.{Goes};
 ghost use Rattle.sample_command.specs.UnderWay.{IsBroken, DrawingGoesOn, told_closing};
 ghost use Rattle.call_stages.specs.declared.report.Stop.TheVariants as stop;
 
@@ -244,7 +243,7 @@ fn go_ahead<const F: u32, O: Oracle<F>>(
     ensures source { tape.new.source ≡ tape.old.source }
 {
     a_turn_continues_a_trace();
-    turn_ahead(drawing, founded, oracle, tape);
+    drawing.turn_ahead(founded, oracle, tape);
 }
 
 /// Makes one turn, and appends the lines of what it kept.
@@ -297,27 +296,4 @@ fn turn_once<const F: u32, O: Oracle<F>, S: Shelf, L: Ledger>(
         Turned::Finished(ending) => Ok(Some(ending)),
         Turned::OutOfMemory => Err(AllocError),
     }
-}
-
-/// Stand-in.
-fn turn_ahead<const F: u32, O: Oracle<F>>(
-    drawing: &mut Drawing,
-    founded: &Founded,
-    oracle: &O,
-    tape: &mut Tape,
-) -> u64
-    requires fraction_bits { IsFractionBits F }
-    requires spec { O.spec oracle.now ≡ founded.now }
-    requires drawing { DrawingBelongs founded.now (O.x oracle.now) drawing.old }
-    ensures goes { (contents : List ℕ → Option (List ℕ)) → BelongsToShelf contents tape.old
-        → Goes founded.now (O.x oracle.now) F (O.table oracle.now)
-        (bits_of_source tape.old.source contents) (O.raised oracle.now) result drawing.old
-        tape.old.used drawing.new tape.new.used }
-    ensures drawing { DrawingBelongs founded.now (O.x oracle.now) drawing.new }
-    ensures source { tape.new.source ≡ tape.old.source }
-    ensures belongs { (contents : List ℕ → Option (List ℕ)) → BelongsToShelf contents tape.old
-        → BelongsToShelf contents tape.new }
-    ensures turns { drawing.new.turns ≡ drawing.old.turns + result }
-{
-    0
 }

@@ -1,4 +1,4 @@
-use Rattle.std.proofs.Common.{refl, false}
+use Rattle.std.proofs.Common.{refl}
 use Rattle.std.proofs.lemmas.Result.{IfOk-weaker, on_ok_weaker, on_err_weaker}
 use Rattle.bit_tape.specs.Tape.{bits_of_source}
 use Rattle.bit_tape.proofs.Leaving.{leaves-more}
