@@ -2,3 +2,4 @@ pub mod Visit
 pub mod Belonging
 pub mod State
 pub mod Answer
+pub mod Ahead

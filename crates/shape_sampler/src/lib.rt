@@ -8,6 +8,7 @@
 //! that memory suffices.
 #![tactic(auto)]
 
+pub mod ahead;
 mod counted;
 mod placing;
 pub mod session;

@@ -46,17 +46,17 @@ use well_founded::examination::Founded;
 /// An attempt at an object of class 0 within a room, and what stopped it.
 #[derive(Drop)]
 pub struct Session {
-    alloc: Global,
-    root: ExprId,
-    whole: u64,
-    pending: Pending,
-    shape: Shape,
-    cells: Cells,
-    room: u64,
-    stopped: Option<Stepped>,
+    pub(crate) alloc: Global,
+    pub(crate) root: ExprId,
+    pub(crate) whole: u64,
+    pub(crate) pending: Pending,
+    pub(crate) shape: Shape,
+    pub(crate) cells: Cells,
+    pub(crate) room: u64,
+    pub(crate) stopped: Option<Stepped>,
     // What draws keep for later ones, whatever the attempt.
-    kept: KeptTables,
-    unions: KeptUnions,
+    pub(crate) kept: KeptTables,
+    pub(crate) unions: KeptUnions,
 }
 
 impl Model for Session {

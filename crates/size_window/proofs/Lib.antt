@@ -22,3 +22,4 @@ pub mod TapeEnds
 pub mod TraceEntries
 pub mod ToldTraces
 pub mod OpenBits
+pub mod TurnsAhead

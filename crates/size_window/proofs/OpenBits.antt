@@ -1,5 +1,5 @@
 -- How many bits of a course are those of a number that was left open.
-use Rattle.std.proofs.Common.{◌≡◌, ℕ, ◌+◌, Bool, List, [], ◌++◌, length, length-append, Option, Some, arith, ap, subst}
+use Rattle.std.proofs.Common.{◌≡◌, ℕ, ◌+◌, Bool, List, [], length, length-append, Option, Some, arith, ap, subst}
 use Rattle.bz_model.specs.Cell.{bits_of, spelled}
 use Rattle.choice_draw.proofs.LeastCells.{bits-length}
 use Rattle.size_window.specs.RunByBits.{Open, Ending, Course}

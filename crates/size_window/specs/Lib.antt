@@ -8,3 +8,4 @@ pub mod Trace
 pub mod Redrawn
 pub mod InOrder
 pub mod TapeEnd
+pub mod Ahead

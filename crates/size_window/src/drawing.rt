@@ -7,7 +7,6 @@ ghost use Rattle.bz_model.specs.Oracle.{LeavesOracle};
 ghost use Rattle.bit_tape.specs.Tape.{BelongsToShelf, LeavesTape, bits_of_source};
 ghost use Rattle.class_system.specs.Views.{spec_mode};
 ghost use Rattle.choice_draw.specs.Decision.{level_for};
-ghost use Rattle.labelling.specs.Answer.{OnLabels};
 ghost use Rattle.labelling.specs.LabelsByBits.{bits_in};
 ghost use Rattle.object_store.specs.Tokens.{size_of};
 ghost use Rattle.size_window.specs.RunByBits.{start};
@@ -19,7 +18,6 @@ ghost use Rattle.size_window.specs.Turn.{IsNextKept};
 ghost use Rattle.size_window.specs.Turn.{EntryHasLabels, node_bits, most_bits, TellsOpen};
 ghost use Rattle.size_window.specs.Turn.{outcome_of};
 ghost use Rattle.size_window.specs.Turn.{IsIdleTurn, IfStraddles, Settles, KeepsOrWaits, MaySettle};
-ghost use Rattle.size_window.specs.LabelTurn.{IsLabelTurn, SettlesLabels};
 
 use crate::ending::{Ending, Straddle};
 use crate::finished_shape::{Made, place_before};
@@ -31,8 +29,6 @@ use bz_model::oracle::Oracle;
 use bz_model::steps::Steps;
 use bz_outside::shelf::Shelf;
 use class_system::draft::Mode;
-use labelling::label::label;
-use labelling::labelled::Labelled;
 use labelling::labels::Labels;
 use shape_sampler::session::Session;
 use shape_sampler::stepped::Stepped;
@@ -45,12 +41,12 @@ use well_founded::examination::Founded;
 /// Attempts within a window, what became of them, and why they ended.
 #[derive(Drop)]
 pub struct Drawing {
-    alloc: Global,
-    session: Session,
-    waiting: Option<Made>,
-    limits: Limits,
-    counts: Counts,
-    ending: Option<Ending>,
+    pub(crate) alloc: Global,
+    pub(crate) session: Session,
+    pub(crate) waiting: Option<Made>,
+    pub(crate) limits: Limits,
+    pub(crate) counts: Counts,
+    pub(crate) ending: Option<Ending>,
 }
 
 impl Model for Drawing {
@@ -226,7 +222,7 @@ impl Drawing {
 
     /// Ends the drawing.
     #[inline(always)]
-    fn end(&mut self, ending: Ending) -> Turned
+    pub(crate) fn end(&mut self, ending: Ending) -> Turned
         ensures ended { self.new ≡ ended_by self.old ending }
         ensures told { result ≡ Turned.Finished ending }
     {
@@ -259,75 +255,6 @@ impl Drawing {
         }
     }
 
-    /// Labels a shape that waited and keeps it. Where its labelling is cut short it waits on.
-    #[tactic(auto, using(crate::proofs::LabelTurns::nothing_labelled))]
-    #[inline(never)]
-    fn label<S: Shelf>(&mut self, mut made: Made, tape: &mut Tape, shelf: &mut S) -> Turned
-        requires none_waits { self.old.waiting ≡ None }
-        requires size { size_of made.shape.items ≤ 1000000 }
-        requires kept { self.old.kept < 100000 }
-        requires turns { self.old.turns < 50000000 }
-        requires atoms { self.old.atoms ≤ self.old.kept * 1000000 }
-        requires tape { BelongsToShelf (S.content shelf.old) tape.old }
-
-        ensures no_memory { result ≡ Turned.OutOfMemory
-            → (tape.new ≡ tape.old) × (shelf.new ≡ shelf.old) }
-        ensures labelled { IsLabelTurn (bits_of_source tape.old.source (S.content shelf.old))
-            (shape_of made) self.old tape.old.used result self.new tape.new.used }
-
-        ensures used { (tape.old.used ≤ tape.new.used)
-            × (tape.new.used ≤ tape.old.used + 60 * size_of made.shape.items) }
-        ensures tape { LeavesTape S.content S.faults (is_turn_fault result None)
-            shelf.old shelf.new tape.old tape.new }
-    {
-        let atoms = made.shape.size();
-        let answer = match made.cells.reserve(atoms as usize) {
-            Ok(()) => label(self.alloc, atoms, tape, shelf),
-            Err(_) => Labelled::OutOfMemory,
-        };
-        self.settle_labels(made, answer, tape.used())
-    }
-
-    /// Does what a labelling left to do, so many tape bits being used.
-    fn settle_labels(&mut self, mut made: Made, answer: Labelled, used: u64) -> Turned
-        requires none_waits { self.old.waiting ≡ None }
-        requires size { size_of made.shape.items ≤ 1000000 }
-        requires kept { self.old.kept < 100000 }
-        requires turns { self.old.turns < 50000000 }
-        requires atoms { self.old.atoms ≤ self.old.kept * 1000000 }
-        requires room { OnLabels answer (λ labels cells. length cells ≤ made.cells.spare) }
-        ensures { SettlesLabels answer (shape_of made) used self.old result self.new }
-    {
-        match answer {
-            Labelled::Labels { labels, cells } => {
-                made.cells.append(&cells);
-                self.counts.turns += 1;
-                Turned::Kept(self.keep(made, Some(labels), used))
-            }
-            Labelled::Straddles { m, cell } => {
-                self.cut_short(made, Ending::Undecided(Straddle::Label { m, cell }))
-            }
-            Labelled::Ended => self.cut_short(made, Ending::TapeEnded),
-            Labelled::ReadFault => self.cut_short(made, Ending::ReadFault),
-            Labelled::OutOfMemory => {
-                self.waiting = Some(made);
-                Turned::OutOfMemory
-            }
-        }
-    }
-
-    /// Ends the drawing while a shape waits for its labels, in a turn that is counted.
-    fn cut_short(&mut self, made: Made, ending: Ending) -> Turned
-        requires turns { self.old.turns < 50000000 }
-        ensures ended { self.new ≡ ended_by (counted (waiting_with self.old
-            (shape_of made))) ending }
-        ensures told { result ≡ Turned.Finished ending }
-    {
-        self.waiting = Some(made);
-        self.go_on();
-        self.end(ending)
-    }
-
     /// Does what a visit left to do, so many tape bits being used.
     #[inline(always)]
     fn settle(&mut self, mode: Mode, outcome: Outcome, used: u64) -> Turned
@@ -348,7 +275,7 @@ impl Drawing {
 
     /// Counts a turn.
     #[inline(always)]
-    fn go_on(&mut self) -> Turned
+    pub(crate) fn go_on(&mut self) -> Turned
         requires { self.old.turns < 50000000 }
         ensures turns { self.new ≡ counted self.old }
         ensures told { result ≡ Turned.Going }
@@ -414,7 +341,7 @@ impl Drawing {
 
     /// Keeps a made shape with these labels, so many tape bits being used.
     #[inline(always)]
-    fn keep(&mut self, made: Made, labels: Option<Labels>, used: u64) -> Entry
+    pub(crate) fn keep(&mut self, made: Made, labels: Option<Labels>, used: u64) -> Entry
         requires size { size_of made.shape.items ≤ 1000000 }
         requires kept { self.old.kept < 100000 }
         requires atoms { self.old.atoms ≤ self.old.kept * 1000000 }

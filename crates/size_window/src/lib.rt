@@ -14,9 +14,11 @@
 //! that an object is ever kept, nor what a tape's bits are where its shelf doesn't tell.
 #![tactic(auto)]
 
+mod ahead;
 pub mod drawing;
 pub mod ending;
 mod finished_shape;
+mod labelling_turn;
 pub mod laws;
 pub mod limits;
 pub mod turned;
