@@ -15,9 +15,10 @@ impl Drawing {
     /// ahead, and their level is raised. Answers how many.
     ///
     /// Each is counted, and no more are made than the limit of turns leaves. None keeps an object,
-    /// throws an attempt away or begins one, and none ends the drawing: what is left is for `turn`.
-    /// The shelf is never asked, no level is raised, and no memory is wanting. A drawing that ended,
-    /// that kept as many objects as wanted, or whose shape waits for its labels answers 0.
+    /// throws an attempt away or begins one, and none ends the drawing: what is left is for `turn`,
+    /// also where memory is wanting. The shelf is never asked, and no level is raised. A drawing
+    /// that ended, that kept as many objects as wanted, or whose shape waits for its labels answers
+    /// 0.
     pub fn turn_ahead<const F: u32, O: Oracle<F>>(
         &mut self,
         founded: &Founded,
