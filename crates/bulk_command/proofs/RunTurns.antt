@@ -9,8 +9,13 @@ use Rattle.size_window.specs.declared.turned.Turned.{Turned as Answer}
 use Rattle.size_window.specs.RunByBits.{Limits}
 use Rattle.size_window.specs.Drawing.{DrawingState}
 use Rattle.size_window.specs.Turn.{node_bits}
+use Rattle.size_window.specs.Trace.{TurnsContinue}
+use Rattle.size_window.specs.Ahead.{Goes}
+use Rattle.size_window.specs.declared.turned.Turned.TheVariants as answer
+use Rattle.class_system.specs.Sound.{IsSound}
 use Rattle.sample_command.proofs.OneTurn.{TellsTurn, so-far-on}
 use Rattle.sample_command.proofs.Turns.{raised-for}
+use Rattle.sample_command.proofs.TurnsAhead.{carried-ahead, raises-none}
 use Rattle.bulk_command.specs.NoFiles.{empty_files}
 use Rattle.bulk_command.specs.Running.{IsRunning}
 
@@ -21,6 +26,14 @@ running-on s x F table limits source d now start used a h raised raised_now rais
   so_far = so-far-on s x F table limits (bits_of_source source empty_files) d now start used a h p.most p.so_far;
   raised_is = raised-for raised raised_now p.most (node_bits d.waiting (used - start)) p.raised_is raises;
 }
+
+-- one with turns that were made ahead is so too
+pub running-ahead : (law : TurnsContinue) (s : Spec) (sound : IsSound s) (x : Fraction) (F : ℕ) (table : (level node : ℕ) → Bounds) (limits : Limits) (source : TapeSource) (raised n : ℕ) (d now : DrawingState) (start used : ℕ) → d.limits ≡ limits → Goes s x F table (bits_of_source source empty_files) raised n d start now used → IsRunning s x F table limits source d start raised → IsRunning s x F table limits source now used raised
+running-ahead law s sound x F table limits source raised n d now start used within goes p =
+    let told = bits_of_source source empty_files in
+    (carried-ahead law s sound x F table limits told raised (λ z k. IsRunning s x F table limits source z k raised)
+    (λ mid later place end g h q. running-on s x F table limits source mid later place end answer.Going h raised raised (raises-none law s sound x F table limits told raised mid later place end g) q)
+    n d now start used within goes p).1
 
 -- one whose drawing, tape and levels are the same is so too
 pub still-running : (s : Spec) (x : Fraction) (F : ℕ) (table : (level node : ℕ) → Bounds) (limits : Limits) (source : TapeSource) (d now : DrawingState) (used later raised raised_now : ℕ) → now ≡ d → later ≡ used → raised_now ≡ raised → IsRunning s x F table limits source d used raised → IsRunning s x F table limits source now later raised_now

@@ -168,13 +168,66 @@ fn draw_to_the_end<const F: u32, O: Oracle<F>, L: Ledger>(
         no_faults }
 {
     'turns: loop {
-        let Ok(turned) = turn_once(founded, oracle, tape, drawing, steps) else {
+        let Ok(turned) = make_turns(founded, oracle, tape, drawing, steps) else {
             return Err(AllocError);
         };
         if let Some(ending) = turned {
             return Ok(ending);
         }
     }
+}
+
+/// Makes turns ahead, and then one turn more, and lets go what that one kept.
+fn make_turns<const F: u32, O: Oracle<F>, L: Ledger>(
+    founded: &Founded,
+    oracle: &mut O,
+    tape: &mut Tape,
+    drawing: &mut Drawing,
+    steps: &mut Steps<L>,
+) -> Result<Option<Ending>, AllocError>
+    requires fraction_bits { IsFractionBits F }
+    requires spec { O.spec oracle.old ≡ founded.now }
+    requires can_turn { CanTurn founded.now (O.x oracle.old) empty_files drawing.old.limits
+        drawing.old tape.old }
+    ensures under_way { IsRunning founded.now (O.x oracle.old) F (O.table oracle.old)
+        drawing.old.limits tape.old.source drawing.old tape.old.used (O.raised oracle.old)
+        → IsRunning founded.now (O.x oracle.old) F (O.table oracle.old)
+        drawing.old.limits tape.old.source drawing.new tape.new.used (O.raised oracle.new) }
+    ensures goes_on { IfOk result (DrawingGoesOn founded.now (O.x oracle.old) (O.table oracle.old)
+        empty_files drawing.old.limits drawing.old drawing.new tape.new) }
+    ensures oracle { LeavesOracle O.spec O.x O.table O.cost O.raised
+        oracle.old oracle.new steps.old steps.new }
+    ensures levels { O.raised oracle.old ≤ 6 → O.raised oracle.new ≤ 6 }
+    ensures source { tape.new.source ≡ tape.old.source }
+    ensures reads { CountsFault (has_failed drawing.new.ending) tape.old.source no_faults
+        no_faults }
+{
+    go_ahead(founded, oracle, tape, drawing);
+    turn_once(founded, oracle, tape, drawing, steps)
+}
+
+/// Makes the turns that the bits read ahead decide by the levels raised so far. They keep nothing.
+fn go_ahead<const F: u32, O: Oracle<F>>(
+    founded: &Founded,
+    oracle: &O,
+    tape: &mut Tape,
+    drawing: &mut Drawing,
+)
+    requires fraction_bits { IsFractionBits F }
+    requires spec { O.spec oracle.now ≡ founded.now }
+    requires can_turn { CanTurn founded.now (O.x oracle.now) empty_files drawing.old.limits
+        drawing.old tape.old }
+    ensures can_turn { CanTurn founded.now (O.x oracle.now) empty_files drawing.old.limits
+        drawing.new tape.new }
+    ensures under_way { IsRunning founded.now (O.x oracle.now) F (O.table oracle.now)
+        drawing.old.limits tape.old.source drawing.old tape.old.used (O.raised oracle.now)
+        → IsRunning founded.now (O.x oracle.now) F (O.table oracle.now)
+        drawing.old.limits tape.old.source drawing.new tape.new.used (O.raised oracle.now) }
+    ensures turns { drawing.old.turns ≤ drawing.new.turns }
+    ensures source { tape.new.source ≡ tape.old.source }
+{
+    a_turn_continues_a_trace();
+    drawing.turn_ahead(founded, oracle, tape);
 }
 
 /// Makes one turn, and lets go what it kept.

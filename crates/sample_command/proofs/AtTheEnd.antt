@@ -12,15 +12,14 @@ use Rattle.certificate.specs.declared.closing.Closing.{Closing}
 use Rattle.certificate.specs.declared.closing.ClosingWord.{ClosingWord}
 use Rattle.certificate.specs.Certificates as certificate
 use Rattle.certificate.specs.Lines.{text_of}
-use Rattle.shape_sampler.specs.Answer.{ChoosesBy}
 use Rattle.size_window.specs.declared.ending.Ending.{Ending as Told}
 use Rattle.size_window.specs.declared.ending.Ending.TheVariants as told
 use Rattle.size_window.specs.declared.ending.Straddle.{Straddle}
 use Rattle.size_window.specs.RunByBits.{Limits, RunState, Ending, start, at_start}
 use Rattle.size_window.specs.Drawing.{AreLimits, DrawingState, DrawingBelongs, state_of, ending_of}
 use Rattle.size_window.specs.Ideally.{chooser_of}
-use Rattle.size_window.specs.Trace.{EndsAt, TracesStart}
-use Rattle.size_window.proofs.Turning.{if-told, attempt-used}
+use Rattle.size_window.specs.Trace.{TracesStart}
+use Rattle.size_window.proofs.Turning.{attempt-used}
 use Rattle.size_window.proofs.Going.{goes-start}
 use Rattle.well_founded.specs.EmptyObjects.{has_empty}
 use Rattle.sample_command.specs.Drawn.{TapeMet, ended_by_fault, IsCourse, IsDrawn, Drawn, Lists, closing_text, straddle_of, closing_word, ending_status}

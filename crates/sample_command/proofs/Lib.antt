@@ -5,5 +5,6 @@ pub mod TapeEnds
 pub mod OneTurn
 pub mod AtTheEnd
 pub mod Turns
+pub mod TurnsAhead
 pub mod OneDrawing
 pub mod Starting

@@ -1,6 +1,6 @@
 -- A course with one turn more.
-use Rattle.std.proofs.Common.{◌≡◌, ℕ, zero, suc, ◌+◌, ◌-◌, ◌*◌, ◌≤◌, max, arith, Bool, List, [], ◌++◌, append-nil, refl, sym, ◌∙◌, ap, subst}
-use Rattle.std.specs.Prelude.{Option, Some, None, IfSome, option_to_list}
+use Rattle.std.proofs.Common.{◌≡◌, ℕ, suc, ◌-◌, ◌<◌, max, arith, Bool, List, [], ◌++◌, append-nil, refl, sym, ◌∙◌, ap, subst}
+use Rattle.std.specs.Prelude.{Option, Some, None, option_to_list}
 use Rattle.bz_model.specs.declared.cell.Bounds.{Bounds}
 use Rattle.bz_model.specs.declared.cell.Cell.{Cell}
 use Rattle.bz_model.specs.Fraction.{Fraction}
@@ -16,11 +16,10 @@ use Rattle.size_window.specs.declared.ending.Straddle.TheVariants as straddle
 use Rattle.size_window.specs.declared.turned.Turned.{Turned as Answer}
 use Rattle.size_window.specs.declared.turned.Turned.TheVariants as answer
 use Rattle.size_window.specs.RunByBits.{Limits, Entry, Course, followed_by}
-use Rattle.size_window.specs.Drawing.{MadeShape, DrawingState, DrawingBelongs, Waits, state_of, ending_of}
+use Rattle.size_window.specs.Drawing.{DrawingState, DrawingBelongs, state_of, ending_of}
 use Rattle.size_window.specs.Follows.{GoesIdeally}
 use Rattle.size_window.specs.Trace.{TurnsContinue}
-use Rattle.size_window.specs.Turn.{IsTurn, IsCountedTurn, told_entry, turns_by, turns_of, ending_by, TellsOpen, is_turn_fault, node_bits, most_bits}
-use Rattle.size_window.proofs.Going.{ideal-fits}
+use Rattle.size_window.specs.Turn.{IsTurn, IsCountedTurn, told_entry, turns_by, turns_of, ending_by, TellsOpen, is_turn_fault, node_bits}
 use Rattle.sample_command.specs.Drawn.{AreLinesOf, Lists, straddle_of}
 use Rattle.sample_command.specs.Drawn as drawn
 use Rattle.sample_command.specs.UnderWay.{IsCourseSoFar, HasCourse, CanTurn, IsAtEnd, has_failed, told_open}
@@ -108,7 +107,7 @@ at-end s x contents table limits d now tape e can counted done turn_limit tells_
 }
 
 -- a drawing that goes on can make another turn
-pub can-turn-on : (s : Spec) (x : Fraction) (F : ℕ) (table : (level node : ℕ) → Bounds) (limits : Limits) (told : Option (ℕ → Option Bool)) (contents : List ℕ → Option (List ℕ)) (d now : DrawingState) (before_tape tape : TapeState) (a : Answer) → TellsTurn s x F table limits told d now before_tape.used tape.used a → CanTurn s x contents limits d before_tape → turns_by None a ≡ 1 → ending_by d.ending a ≡ d.ending → DrawingBelongs s x now → BelongsToShelf contents tape → CanTurn s x contents limits now tape × (now.turns ≡ d.turns + 1)
+pub can-turn-on : (s : Spec) (x : Fraction) (F : ℕ) (table : (level node : ℕ) → Bounds) (limits : Limits) (told : Option (ℕ → Option Bool)) (contents : List ℕ → Option (List ℕ)) (d now : DrawingState) (before_tape tape : TapeState) (a : Answer) → TellsTurn s x F table limits told d now before_tape.used tape.used a → CanTurn s x contents limits d before_tape → turns_by None a ≡ 1 → ending_by d.ending a ≡ d.ending → DrawingBelongs s x now → BelongsToShelf contents tape → CanTurn s x contents limits now tape × (d.turns < now.turns)
 can-turn-on s x F table limits told contents d now before_tape tape a h can one same belongs ahead = (
   record {
     sound = can.sound;
@@ -118,7 +117,7 @@ can-turn-on s x F table limits told contents d now before_tape tape a h can one 
     ahead = ahead;
     so_far = course-on s x F table limits told d now before_tape.used tape.used a h can.so_far;
   },
-  h.counted.turns ∙ ap (λ n. d.turns + n) (turns-one d.ending a can.goes_on one),
+  let more = h.counted.turns in let by = turns-one d.ending a can.goes_on one in omega (arith, more, by),
 )
 
 -- a read failed in the turn exactly where the drawing ended with a failed read

@@ -1,5 +1,5 @@
 -- A course that met its tape's end used all bits of a file.
-use Rattle.std.proofs.Common.{◌≡◌, ℕ, ◌*◌, ◌^◌, ◌<◌, ◌≤◌, min, arith, Bool, List, length, sym, subst}
+use Rattle.std.proofs.Common.{◌≡◌, ℕ, ◌*◌, ◌^◌, ◌<◌, ◌≤◌, min, arith, List, length, sym, subst}
 use Rattle.std.specs.Prelude.{Option, Some, None, IfSome, option_map}
 use Rattle.std.proofs.Math.Nat.{mul-le-mul}
 use Rattle.bz_model.specs.declared.cell.Bounds.{Bounds}

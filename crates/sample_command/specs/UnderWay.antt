@@ -1,5 +1,5 @@
 -- Drawings under way and at their end, as the code has them.
-use Rattle.std.specs.Prelude.{◌≡◌, ℕ, ◌+◌, Bool, true, false, List, [], ◌++◌, Option, Some, None}
+use Rattle.std.specs.Prelude.{◌≡◌, ℕ, ◌<◌, Bool, true, false, List, ◌++◌, Option, Some, None}
 use Rattle.bz_model.specs.Fraction.{Fraction}
 use Rattle.bz_model.specs.Spec.{Spec}
 use Rattle.bz_model.specs.declared.cell.Bounds.{Bounds}
@@ -112,12 +112,12 @@ pub record IsBroken (s : Spec) (x : Fraction) (F : ℕ) (table : (level node : �
   pub raised_is : raised ≡ level_for most
   pub front : AppendsFront start now (header ++ lines)
 
--- Where a drawing goes on it can make another turn, and has made one more; else it has come to its
--- end.
+-- Where a drawing goes on it can make another turn, and has made more than before; else it has come
+-- to its end.
 abbrev pub DrawingGoesOn : (s : Spec) (x : Fraction) (table : (level node : ℕ) → Bounds)
     (contents : List ℕ → Option (List ℕ)) (limits : Limits) (before d : DrawingState)
     (tape : TapeState)
     → Option Ending → Type 0
 DrawingGoesOn s x table contents limits before d tape None = CanTurn s x contents limits d tape
-    × (d.turns ≡ before.turns + 1)
+    × (before.turns < d.turns)
 DrawingGoesOn s x table contents limits before d tape (Some ending) = IsAtEnd table limits d ending

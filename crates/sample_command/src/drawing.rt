@@ -8,7 +8,7 @@ ghost use Rattle.bit_tape.specs.Tape.{BelongsToShelf, LeavesTape, bits_of_source
 ghost use Rattle.certificate.specs.Certificates.{closing_lines};
 ghost use Rattle.certificate.specs.Lines.{text_of};
 ghost use Rattle.oracle_memo.specs.Levels.{cost_at, costs};
-ghost use Rattle.size_window.specs.Drawing.{AreLimits, ending_of, limits_of};
+ghost use Rattle.size_window.specs.Drawing.{AreLimits, DrawingBelongs, ending_of, limits_of};
 ghost use Rattle.sample_command.specs.Drawn.{Drawn, ending_status};
 ghost use Rattle.call_stages.specs.Ends.{EndsBy, output};
 ghost use Rattle.call_stages.specs.Outcomes.{MaySay};
@@ -161,7 +161,8 @@ fn draw_to_the_end<const F: u32, O: Oracle<F>, S: Shelf, K: Sink, L: Ledger>(
     ensures writes { K.faults out.old ≤ K.faults out.new }
 {
     'turns: loop {
-        let Ok(turned) = turn_once(alloc, founded, oracle, tape, drawing, shelf, steps, page) else {
+        let Ok(turned) = make_turns(alloc, founded, oracle, tape, drawing, shelf, steps, page)
+        else {
             return Err(Stop::OutOfMemory);
         };
         if let Some(ending) = turned {
@@ -171,6 +172,78 @@ fn draw_to_the_end<const F: u32, O: Oracle<F>, S: Shelf, K: Sink, L: Ledger>(
             return Err(Stop::WriteFault);
         };
     }
+}
+
+/// Makes turns ahead, and then one turn more, and appends the lines of what that one kept.
+fn make_turns<const F: u32, O: Oracle<F>, S: Shelf, L: Ledger>(
+    alloc: Global,
+    founded: &Founded,
+    oracle: &mut O,
+    tape: &mut Tape,
+    drawing: &mut Drawing,
+    shelf: &mut S,
+    steps: &mut Steps<L>,
+    page: &mut Vec<u8>,
+) -> Result<Option<Ending>, AllocError>
+    requires fraction_bits { IsFractionBits F }
+    requires spec { O.spec oracle.old ≡ founded.now }
+    requires can_turn { CanTurn founded.now (O.x oracle.old) (S.content shelf.old)
+        drawing.old.limits drawing.old tape.old }
+    ensures under_way { IfOk result (λ _. (header : List ℕ) (start now : Option (List ℕ))
+        → IsUnderWay founded.now (O.x oracle.old) F (O.table oracle.old) drawing.old.limits
+        (bits_of_source tape.old.source (S.content shelf.old)) drawing.old tape.old.used
+        (O.raised oracle.old) header start now page.old.items
+        → IsUnderWay founded.now (O.x oracle.old) F (O.table oracle.old) drawing.old.limits
+        (bits_of_source tape.old.source (S.content shelf.old)) drawing.new tape.new.used
+        (O.raised oracle.new) header start now page.new.items) }
+    ensures broken { OnErr result ((header : List ℕ) (start now : Option (List ℕ))
+        → IsUnderWay founded.now (O.x oracle.old) F (O.table oracle.old) drawing.old.limits
+        (bits_of_source tape.old.source (S.content shelf.old)) drawing.old tape.old.used
+        (O.raised oracle.old) header start now page.old.items
+        → IsBroken founded.now (O.x oracle.old) F (O.table oracle.old) drawing.old.limits
+        (bits_of_source tape.old.source (S.content shelf.old)) drawing.new tape.new.used
+        (O.raised oracle.new) header start now) }
+    ensures goes_on { IfOk result (DrawingGoesOn founded.now (O.x oracle.old) (O.table oracle.old)
+        (S.content shelf.old) drawing.old.limits drawing.old drawing.new tape.new) }
+    ensures oracle { LeavesOracle O.spec O.x O.table O.cost O.raised
+        oracle.old oracle.new steps.old steps.new }
+    ensures levels { O.raised oracle.old ≤ 6 → O.raised oracle.new ≤ 6 }
+    ensures tape { LeavesTape S.content S.faults (has_failed drawing.new.ending)
+        shelf.old shelf.new tape.old tape.new }
+{
+    go_ahead(founded, oracle, tape, drawing);
+    turn_once(alloc, founded, oracle, tape, drawing, shelf, steps, page)
+}
+
+/// Makes the turns that the bits read ahead decide by the levels raised so far.
+///
+/// They keep nothing, and ask no shelf.
+fn go_ahead<const F: u32, O: Oracle<F>>(
+    founded: &Founded,
+    oracle: &O,
+    tape: &mut Tape,
+    drawing: &mut Drawing,
+)
+    requires fraction_bits { IsFractionBits F }
+    requires spec { O.spec oracle.now ≡ founded.now }
+    requires drawing { DrawingBelongs founded.now (O.x oracle.now) drawing.old }
+    ensures can_turn { (contents : List ℕ → Option (List ℕ))
+        → CanTurn founded.now (O.x oracle.now) contents drawing.old.limits drawing.old tape.old
+        → CanTurn founded.now (O.x oracle.now) contents drawing.old.limits drawing.new tape.new }
+    ensures under_way { (contents : List ℕ → Option (List ℕ))
+        → CanTurn founded.now (O.x oracle.now) contents drawing.old.limits drawing.old tape.old
+        → (header : List ℕ) (start now : Option (List ℕ)) (page : List ℕ)
+        → IsUnderWay founded.now (O.x oracle.now) F (O.table oracle.now) drawing.old.limits
+        (bits_of_source tape.old.source contents) drawing.old tape.old.used
+        (O.raised oracle.now) header start now page
+        → IsUnderWay founded.now (O.x oracle.now) F (O.table oracle.now) drawing.old.limits
+        (bits_of_source tape.old.source contents) drawing.new tape.new.used
+        (O.raised oracle.now) header start now page }
+    ensures turns { drawing.old.turns ≤ drawing.new.turns }
+    ensures source { tape.new.source ≡ tape.old.source }
+{
+    a_turn_continues_a_trace();
+    drawing.turn_ahead(founded, oracle, tape);
 }
 
 /// Makes one turn, and appends the lines of what it kept.
