@@ -1,6 +1,5 @@
 //! Numbers of parts that first bits decided, kept from draw to draw.
-ghost use Rattle.std.specs.Prelude.{◌≡◌, ℕ, ◌*◌, ◌/◌, ◌^◌, ◌<◌, ◌≤◌, ◌⊎◌, length, IsTrue, IfSome};
-ghost use Rattle.bz_model.specs.Cell.{IsCell};
+ghost use Rattle.std.specs.Prelude.{◌≡◌, ℕ, ◌<◌, ◌≤◌, ◌⊎◌, length, IsTrue, IfSome};
 ghost use Rattle.class_system.specs.Views.{spec_range};
 ghost use Rattle.choice_draw.specs.Decision.{level_for};
 ghost use Rattle.count_draw.specs.Kinds.{series_of_kind};
@@ -195,7 +194,7 @@ impl FirstCounts {
         requires part { counted.now.part.0 < length (O.spec oracle.now).nodes }
         ensures takes { IfSome result (λ first. TakesAtRoom
             (counted_choice (series_of_kind counted.now.kind) F (spec_range counted.now.range)
-                (O.table oracle.now) counted.now.part.0 node.0)
+            (O.table oracle.now) counted.now.part.0 node.0)
             first.count (peeked_cell ahead.word first.bits)) }
         ensures ahead { IfSome result (λ first. first.bits ≤ ahead.count) }
         ensures room { IfSome result (λ first. first.count ≤ room) }
@@ -263,7 +262,7 @@ impl FirstCounts {
         requires small { OnCount drawn (λ i cell. i ≤ 1000000) }
         requires takes { OnCount drawn (λ i cell. cell.b ≤ 11 → TakesAtRoom
             (counted_choice (series_of_kind counted.now.kind) F (spec_range counted.now.range)
-                (O.table oracle.now) counted.now.part.0 node.0) i cell) }
+            (O.table oracle.now) counted.now.part.0 node.0) i cell) }
     {
         let CountDrawn::Count { value, cell } = drawn else {
             return;

@@ -7,9 +7,10 @@
 //! cell, and where all are passed over, none is ideal.
 //!
 //! The values that decide are summed term by term and kept: in a draw for its later bits, and in
-//! [`kept::KeptTables`] for later draws. [`table::CountTable`] keeps the partial values of the
-//! first 256 numbers of parts (`specs/Table.antt`), for many cells of one choice. No clause says
-//! that a cell is ever decided, nor what a tape's bits are where its shelf doesn't tell.
+//! [`cache::KeptTables`] for later draws, which look up there what the first eleven bits decided
+//! (`specs/FirstCounts.antt`). [`table::CountTable`] keeps the partial values of the first 256
+//! numbers of parts (`specs/Table.antt`), for many cells of one choice. No clause says that a cell
+//! is ever decided, nor what a tape's bits are where its shelf doesn't tell.
 #![tactic(auto)]
 
 pub mod cache;
