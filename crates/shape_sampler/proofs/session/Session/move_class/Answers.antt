@@ -1,12 +1,10 @@
 -- A class's body is pending in its place.
-use Rattle.std.proofs.Common.{◌≡◌, ◌≢◌, [], ◌∷◌, ◌++◌, length, map, refl, sym, ◌∙◌, ap, subst, ℕ, List}
-use Rattle.class_system.specs.Views.{number}
+use Rattle.std.proofs.Common.{◌≡◌, ◌≢◌, [], ◌∷◌, sym, ◌∙◌, ap, subst, ℕ, List}
 use Rattle.shape_sampler.specs.declared.stepped.Stepped.TheVariants.{Moved}
 use Rattle.shape_sampler.specs.contracts.session.Session.{the_view}
 use Rattle.shape_sampler.specs.State.{SessionState}
-use Rattle.shape_sampler.specs.Visit.{leaf_visited}
-use Rattle.shape_sampler.specs.Answer.{IsPlainVisit, room_atom_visited, replaced_by}
-use Rattle.shape_sampler.proofs.PlainMoves.{leaf-move, atom-move, nodes-move}
+use Rattle.shape_sampler.specs.Answer.{IsPlainVisit, replaced_by}
+use Rattle.shape_sampler.proofs.PlainMoves.{nodes-move}
 use Rattle.shape_sampler.proofs.session.Session.move_class.Goals as goal
 
 pub returns-clause-moved : goal.returns-clause-moved

@@ -1,6 +1,6 @@
 -- Each kind of node that moves on.
 use Rattle.std.proofs.Common.{◌≡◌, ◌≤◌, ◌∷◌, [], length, map, slice_get, Some, refl, sym, ◌∙◌, ap, subst}
-use Rattle.bz_model.specs.Spec.{Node, node_at}
+use Rattle.bz_model.specs.Spec.{Node}
 use Rattle.class_system.specs.Views.{number, spec_node}
 use Rattle.object_store.proofs.InRange.{class-known}
 use Rattle.shape_sampler.specs.declared.stepped.Stepped.TheVariants.{Moved}

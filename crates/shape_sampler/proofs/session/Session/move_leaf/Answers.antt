@@ -1,12 +1,12 @@
 -- A neutral leaf where more nodes are pending.
-use Rattle.std.proofs.Common.{◌≡◌, ◌≢◌, [], ◌∷◌, ◌++◌, length, map, refl, sym, ◌∙◌, ap, subst, ℕ, List}
+use Rattle.std.proofs.Common.{[], ◌∷◌, ◌++◌, ◌∙◌, ap, subst}
 use Rattle.object_store.specs.declared.token.Token.TheVariants as token
 use Rattle.shape_sampler.specs.declared.stepped.Stepped.TheVariants.{Moved}
 use Rattle.shape_sampler.specs.contracts.session.Session.{the_view}
 use Rattle.shape_sampler.specs.State.{SessionState}
 use Rattle.shape_sampler.specs.Visit.{leaf_visited}
-use Rattle.shape_sampler.specs.Answer.{IsPlainVisit, room_atom_visited, replaced_by}
-use Rattle.shape_sampler.proofs.PlainMoves.{leaf-move, atom-move, nodes-move}
+use Rattle.shape_sampler.specs.Answer.{IsPlainVisit}
+use Rattle.shape_sampler.proofs.PlainMoves.{leaf-move}
 use Rattle.shape_sampler.proofs.session.Session.move_leaf.Goals as goal
 
 pub returns-clause-moved : goal.returns-clause-moved

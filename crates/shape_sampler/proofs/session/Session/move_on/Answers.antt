@@ -1,5 +1,5 @@
 -- The moves so far, and one more.
-use Rattle.std.proofs.Common.{◌≤◌, ℕ, arith, sym, ap, subst}
+use Rattle.std.proofs.Common.{arith, sym, subst}
 use Rattle.bz_model.specs.Spec.{Spec}
 use Rattle.bit_tape.specs.Tape.{TapeState}
 use Rattle.shape_sampler.specs.State.{SessionState, SessionBelongs}

@@ -1,11 +1,10 @@
 -- A product's parts are pending in its place.
-use Rattle.std.proofs.Common.{◌≡◌, ◌≢◌, [], ◌∷◌, ◌++◌, length, map, refl, sym, ◌∙◌, ap, subst, ℕ, List}
+use Rattle.std.proofs.Common.{◌≡◌, ◌≢◌, [], ◌∷◌, ◌++◌, map, sym, ◌∙◌, ap, subst, ℕ, List}
 use Rattle.class_system.specs.Views.{number}
 use Rattle.shape_sampler.specs.declared.stepped.Stepped.TheVariants.{Moved}
 use Rattle.shape_sampler.specs.contracts.session.Session.{the_view}
 use Rattle.shape_sampler.specs.State.{SessionState}
-use Rattle.shape_sampler.specs.Visit.{leaf_visited}
-use Rattle.shape_sampler.specs.Answer.{IsPlainVisit, room_atom_visited, replaced_by}
+use Rattle.shape_sampler.specs.Answer.{IsPlainVisit, replaced_by}
 use Rattle.shape_sampler.proofs.PlainMoves.{nodes-move, some-parts}
 use Rattle.shape_sampler.proofs.session.Session.move_product.Goals as goal
 
