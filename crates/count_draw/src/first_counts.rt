@@ -23,6 +23,9 @@ const FIRST_BITS: u32 = 11;
 /// How many lists of so many bits there are.
 const PLACES: usize = 2048;
 
+/// The greatest number of parts that is kept.
+const MOST_PARTS: u64 = 65535;
+
 /// What is known of no bits yet.
 const NOTHING: FirstCount = FirstCount { count: 0, bits: 0 };
 
@@ -32,7 +35,7 @@ const NO_BOUNDS: Bounds = Bounds { lo: 0, hi: 0 };
 /// The number of parts that the first bits take, and how many these are; 0 where it isn't known.
 #[derive(Clone, Copy, Debug, PartialEq, Eq)]
 pub(crate) struct FirstCount {
-    pub(crate) count: u32,
+    pub(crate) count: u16,
     pub(crate) bits: u8,
 }
 
@@ -259,7 +262,6 @@ impl FirstCounts {
     )
         requires node { node.0 < length (O.spec oracle.now).nodes }
         requires part { counted.now.part.0 < length (O.spec oracle.now).nodes }
-        requires small { OnCount drawn (λ i cell. i ≤ 1000000) }
         requires takes { OnCount drawn (λ i cell. cell.b ≤ 11 → TakesAtRoom
             (counted_choice (series_of_kind counted.now.kind) F (spec_range counted.now.range)
             (O.table oracle.now) counted.now.part.0 node.0) i cell) }
@@ -267,7 +269,7 @@ impl FirstCounts {
         let CountDrawn::Count { value, cell } = drawn else {
             return;
         };
-        if cell.b > FIRST_BITS {
+        if cell.b > FIRST_BITS || value > MOST_PARTS {
             return;
         }
         if !self.is_for(counted, node, cell.b, oracle) {
@@ -276,7 +278,7 @@ impl FirstCounts {
                 return;
             }
         }
-        self.keep(value as u32, cell);
+        self.keep(value as u16, cell);
     }
 
     /// Forgets what was kept, and takes the oracle's bounds, as far as their levels are raised.
@@ -293,7 +295,7 @@ impl FirstCounts {
     }
 
     /// Keeps a number of parts for all bits that begin with the cell.
-    fn keep(&mut self, count: u32, cell: Cell)
+    fn keep(&mut self, count: u16, cell: Cell)
         requires { TakesAtRoom (choice_by self.old) count cell }
         ensures { self.new ≡ self.old }
     {
