@@ -119,7 +119,7 @@ pub(crate) fn put_drawn(
     };
     put_token(shape, Token::Pick(value as u32));
     cells.put(cell);
-    replace_first(pending, &[parts[value as usize]]);
+    put_first(pending, parts[value as usize]);
 }
 
 /// The answer to a draw at a union.
