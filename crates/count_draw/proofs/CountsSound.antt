@@ -1,8 +1,8 @@
 -- The options of a counted node are sound where the table is.
-use Rattle.std.proofs.Common.{◌≡◌, ℕ, zero, suc, ◌+◌, ◌-◌, ◌<◌, ◌≤◌, length, arith, refl, sym, ap, subst, Option, Some, None}
+use Rattle.std.proofs.Common.{◌≡◌, ℕ, suc, ◌+◌, ◌-◌, ◌<◌, ◌≤◌, length, arith, refl, sym, subst, Option, Some, None}
 use Rattle.bz_model.specs.declared.cell.Bounds.{Bounds}
-use Rattle.bz_model.specs.Fraction.{Fraction, AtMost, plus, units, sum_from}
-use Rattle.bz_model.specs.Spec.{Spec, Node, Range, range_at, IsWithinHigh}
+use Rattle.bz_model.specs.Fraction.{Fraction, AtMost, units, sum_from}
+use Rattle.bz_model.specs.Spec.{Spec, Range, range_at, IsWithinHigh}
 use Rattle.bz_model.specs.Totals.{Above, Below}
 use Rattle.bz_model.specs.Ideal.{Upto, IsGreatestOption}
 use Rattle.bz_model.specs.Oracle.{IsSoundTable, Encloses}

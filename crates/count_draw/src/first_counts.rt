@@ -195,7 +195,7 @@ impl FirstCounts {
         requires part { counted.now.part.0 < length (O.spec oracle.now).nodes }
         ensures takes { IfSome result (λ first. TakesAtRoom
             (counted_choice (series_of_kind counted.now.kind) F (spec_range counted.now.range)
-                (O.table oracle.now) counted.now.part.0 node.0)
+            (O.table oracle.now) counted.now.part.0 node.0)
             first.count (peeked_cell ahead.word first.bits)) }
         ensures ahead { IfSome result (λ first. first.bits ≤ ahead.count) }
         ensures room { IfSome result (λ first. first.count ≤ room) }
@@ -263,7 +263,7 @@ impl FirstCounts {
         requires small { OnCount drawn (λ i cell. i ≤ 1000000) }
         requires takes { OnCount drawn (λ i cell. cell.b ≤ 11 → TakesAtRoom
             (counted_choice (series_of_kind counted.now.kind) F (spec_range counted.now.range)
-                (O.table oracle.now) counted.now.part.0 node.0) i cell) }
+            (O.table oracle.now) counted.now.part.0 node.0) i cell) }
     {
         let CountDrawn::Count { value, cell } = drawn else {
             return;

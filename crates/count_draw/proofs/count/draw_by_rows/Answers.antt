@@ -1,10 +1,9 @@
 -- The draw over the bits given goes on bit by bit as the definition's does; each choice is decided by the oracle's table, which is sound.
-use Rattle.std.proofs.Common.{◌≡◌, ◌+◌, ◌≤◌, max, true, false, Some, None, arith, ◌∙◌, ap}
+use Rattle.std.proofs.Common.{◌≡◌, ◌+◌, ◌≤◌, true, false, Some, None, arith, ◌∙◌, ap}
 use Rattle.bz_model.specs.Spec.{range_at, IsInRange}
 use Rattle.class_system.specs.Views.{spec_range}
 use Rattle.bit_tape.specs.Tape.{bits_of_source}
 use Rattle.bit_tape.proofs.Leaving.{leaves-none, leaves-more}
-use Rattle.choice_draw.specs.Decision.{level_for}
 use Rattle.choice_draw.specs.IdealOfCell.{IsIdealOfCell, IsOverOfCell}
 use Rattle.choice_draw.proofs.Ticks.{oracle-none, oracle-more}
 use Rattle.choice_draw.proofs.GivenDraws.{draw-begins, draw-on, draw-decides, draw-ends, draw-fails, draw-straddles}

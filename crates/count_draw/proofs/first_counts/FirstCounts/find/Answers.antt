@@ -1,5 +1,5 @@
 -- What is kept by the oracle's bounds is what its table takes.
-use Rattle.std.proofs.Common.{arith, refl, ◌∙◌}
+use Rattle.std.proofs.Common.{arith, refl}
 use Rattle.class_system.specs.Views.{spec_range}
 use Rattle.count_draw.specs.Kinds.{series_of_kind}
 use Rattle.count_draw.specs.FirstCounts.{peeked_cell}

@@ -1,9 +1,9 @@
 -- What is kept for the first eleven bits is what their cell takes.
-use Rattle.std.proofs.Common.{◌≡◌, ◌<◌, ◌≤◌, arith, sym, ◌∙◌, ap, subst}
+use Rattle.std.proofs.Common.{◌≡◌, ◌<◌, ◌≤◌, arith, sym, ap, subst}
 use Rattle.std.proofs.lemmas.List.{get_or_read_under}
 use Rattle.choice_draw.specs.KeptChoices.{first_of}
 use Rattle.choice_draw.proofs.KeptBounds.{first_of-sixteen}
-use Rattle.count_draw.specs.FirstCounts.{TakesAtRoom, choice_by, kept_at, peeked_cell}
+use Rattle.count_draw.specs.FirstCounts.{TakesAtRoom, choice_by, kept_at}
 use Rattle.count_draw.proofs.first_counts.FirstCounts.kept.Goals as goal
 
 pub returns-clause-takes : goal.returns-clause-takes
