@@ -1,12 +1,14 @@
 //! Numbers of parts, drawn from bits.
-ghost use Rattle.std.specs.Prelude.{◌≡◌, ◌-◌, ◌<◌, ◌≤◌, max, length, Some};
+ghost use Rattle.std.specs.Prelude.{◌≡◌, ℕ, ◌-◌, ◌<◌, ◌≤◌, max, List, length, Option, Some};
+ghost use Rattle.std.specs.Prelude.{IfSome, IfNone};
 ghost use Rattle.bz_model.specs.Fraction.{IsFractionBits};
 ghost use Rattle.bz_model.specs.Spec.{node_at, range_at, IsInRange};
 ghost use Rattle.bz_model.specs.Cell.{IsCell};
 ghost use Rattle.bz_model.specs.Oracle.{LeavesOracle};
 ghost use Rattle.class_system.specs.Views.{spec_range};
-ghost use Rattle.bit_tape.specs.Tape.{BelongsToShelf, LeavesTape, bits_of_source};
-ghost use Rattle.choice_draw.specs.Decision.{level_for, level_of};
+ghost use Rattle.bit_tape.specs.Tape.{BelongsToShelf, LeavesTape, SkipsBits, bits_of_source};
+ghost use Rattle.choice_draw.specs.Decision.{Choice, level_for, level_of};
+ghost use Rattle.choice_draw.specs.Draw.{Draw};
 ghost use Rattle.choice_draw.specs.Answer.{IsDraw};
 ghost use Rattle.choice_draw.specs.IdealOfCell.{IsIdealOfCell, IsOverOfCell};
 ghost use Rattle.count_draw.specs.Kinds.{series_of_kind, counted_node, IsCountedNode, SuitsRange};
@@ -16,7 +18,7 @@ ghost use Rattle.count_draw.specs.Answer.{OnCount, OnOver, told_count, is_count_
 
 use crate::cache::{KeptRows, KeptTables, NodeTables};
 use crate::choice::top_of;
-use crate::drawn_count::CountDrawn;
+use crate::drawn_count::{CountDrawn, CountTaken};
 use crate::kind::{CountChoice, CountKind, Counted};
 use crate::partial_sums::CountSums;
 use bit_tape::tape::{BitAnswer, Tape};
@@ -37,6 +39,7 @@ use std::sync::ledger::Ledger;
 /// bits, one for each ten bits begun, is raised before they are looked at, and no other. Where the
 /// shelf tells its content, the answer is fixed by the tape's bits and the oracle's table. Takes no
 /// memory.
+#[inline(never)]
 pub fn draw_count<const F: u32, O: Oracle<F>, S: Shelf, L: Ledger>(
     system: &System,
     node: ExprId,
@@ -81,6 +84,53 @@ pub fn draw_count<const F: u32, O: Oracle<F>, S: Shelf, L: Ledger>(
     )
 }
 
+/// Draws the number of parts of a sequence, set or cycle, as `draw_count` does, where kept tables
+/// tell it by the bits that the tape has read ahead.
+///
+/// `None`, and nothing changes, where they don't. Raises no level, asks no shelf and takes no
+/// memory.
+#[inline]
+pub fn draw_count_ahead<const F: u32, O: Oracle<F>>(
+    system: &System,
+    node: ExprId,
+    room: u64,
+    kept: &KeptTables,
+    oracle: &O,
+    tape: &mut Tape,
+) -> Option<CountTaken>
+    requires fraction_bits { IsFractionBits F }
+    requires counted { IsCountedNode system.now node.0 }
+    requires room { room ≤ 1000000 }
+    requires spec { O.spec oracle.now ≡ system.now }
+    ensures drawn { IfSome result (λ t. (contents : List ℕ → Option (List ℕ))
+        → BelongsToShelf contents tape.old
+        → IsDraw (count_decision system.now F (O.table oracle.now) node.0 room)
+        (bits_of_source tape.old.source contents) tape.old.used tape.new.used
+        (Draw.Decided (Choice.Take t.count) t.cell)) }
+    ensures ideal { IfSome result (λ t.
+        IsIdealOfCell system.now (O.x oracle.now) node.0 t.cell t.count) }
+    ensures in_range { IfSome result (λ t. IsInRange t.count (range_at system.now node.0)
+        × (t.count ≤ room)) }
+    ensures cell { IfSome result (λ t. IsCell t.cell.k t.cell.b) }
+    ensures raised { IfSome result (λ t.
+        level_for (tape.new.used - tape.old.used) ≤ O.raised oracle.now) }
+    ensures skips { IfSome result (λ t. SkipsBits tape.old t.cell.b tape.new) }
+    ensures left { IfNone result (tape.new ≡ tape.old) }
+{
+    oracle.known();
+    let place = kept.place_of(node)?;
+    let counted = counted_at(system, node);
+    let ahead = tape.peek();
+    let firsts = &kept.tables[place].firsts;
+    let first = firsts.find(&counted, node, room, ahead, oracle)?;
+    let cell = first.cell(ahead.word);
+    tape.skip(cell.b);
+    Some(CountTaken {
+        count: u64::from(first.count),
+        cell,
+    })
+}
+
 /// Draws the number of parts of a sequence, set or cycle, as `draw_count` does, by what is kept:
 /// where the bits that are read ahead decided before, the number is looked up; else kept values
 /// serve, and what a draw decides by its first eleven bits is kept for later ones, as are the values
@@ -118,6 +168,12 @@ pub fn draw_count_kept<const F: u32, O: Oracle<F>, S: Shelf, L: Ledger>(
         (is_count_fault result) shelf.old shelf.new tape.old
         tape.new }
 {
+    if let Some(taken) = draw_count_ahead(system, node, room, kept, oracle, tape) {
+        return CountDrawn::Count {
+            value: taken.count,
+            cell: taken.cell,
+        };
+    }
     match kept.place_of(node) {
         Some(place) => {
             let tables = &mut kept.tables[place];
@@ -127,7 +183,7 @@ pub fn draw_count_kept<const F: u32, O: Oracle<F>, S: Shelf, L: Ledger>(
     }
 }
 
-/// Draws by the tables of a node.
+/// Draws by the rows of a node's tables, and keeps what first bits decide.
 fn draw_by_tables<const F: u32, O: Oracle<F>, S: Shelf, L: Ledger>(
     system: &System,
     node: ExprId,
@@ -161,17 +217,7 @@ fn draw_by_tables<const F: u32, O: Oracle<F>, S: Shelf, L: Ledger>(
         (is_count_fault result) shelf.old shelf.new tape.old
         tape.new }
 {
-    oracle.known();
     let counted = counted_at(system, node);
-    let ahead = tape.peek();
-    if let Some(first) = tables.firsts.find(&counted, node, room, ahead, oracle) {
-        let cell = first.cell(ahead.word);
-        tape.skip(cell.b);
-        return CountDrawn::Count {
-            value: u64::from(first.count),
-            cell,
-        };
-    }
     let rows = &mut tables.rows;
     let drawn = draw_by_rows(system, node, room, rows, oracle, tape, shelf, steps);
     tables.firsts.learn(&counted, node, drawn, oracle);

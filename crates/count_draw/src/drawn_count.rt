@@ -21,6 +21,13 @@ pub enum CountDrawn {
     ReadFault,
 }
 
+/// A number of parts that the bits read ahead take, with its cell.
+#[derive(Clone, Copy, Debug, PartialEq, Eq)]
+pub struct CountTaken {
+    pub count: u64,
+    pub cell: Cell,
+}
+
 impl CountDrawn {
     /// The answer that a choice gives with its cell.
     pub(crate) fn of(choice: CountChoice, cell: Cell) -> CountDrawn

@@ -1,0 +1,77 @@
+-- What the bits took before they take again, with each room that isn't below it.
+use Rattle.std.proofs.Common.{◌+◌, ◌≤◌, refl, sym, ◌∙◌, ap, subst, Some}
+use Rattle.bz_model.specs.Spec.{range_at, IsInRange}
+use Rattle.class_system.specs.Views.{spec_range}
+use Rattle.bz_model.specs.Cell.{IsCell}
+use Rattle.bit_tape.specs.Tape.{bits_of_source}
+use Rattle.choice_draw.specs.Decision.{Choice}
+use Rattle.choice_draw.specs.Draw.{Draw}
+use Rattle.choice_draw.specs.Answer.{IsDraw}
+use Rattle.choice_draw.specs.IdealOfCell.{IsIdealOfCell}
+use Rattle.choice_draw.proofs.KeptDraws.{draw-found}
+use Rattle.count_draw.specs.declared.kind.CountChoice.TheVariants.{Take}
+use Rattle.count_draw.specs.Kinds.{series_of_kind}
+use Rattle.count_draw.specs.Decision.{count_decision}
+use Rattle.count_draw.specs.FirstCounts.{peeked_cell}
+use Rattle.count_draw.proofs.CountsIdeal.{choice-ideal, choice-ranged}
+use Rattle.count_draw.proofs.OtherRooms.{takes-within}
+use Rattle.count_draw.proofs.count.draw_count_ahead.Goals as goal
+
+pub returns-clause-drawn : goal.returns-clause-drawn
+returns-clause-drawn g c = λ contents belongs.
+    let s = c.args.system.now in
+    let x = g.O.Oracle.x c.args.oracle.now in
+    let table = g.O.Oracle.table c.args.oracle.now in
+    let counted = c.counted_at-counted.result in
+    let at = c.counted_at-counted.ensures in
+    let first = c.in_ok-first.first in
+    let cell = peeked_cell c.peek-ahead.result.word first.bits in
+    let sound = rw c.requires.spec at c.known.ensures.sound in
+    let takes = takes-within s x g.row.F c.args.node.0 counted.part.0 (series_of_kind counted.kind) (spec_range counted.range) table (record { node = at.node; range = at.range; suits = at.suits }) sound at.part c.args.room first.count cell c.in_ok-first.ensures.takes c.in_ok-first.ensures.room in
+    let told = bits_of_source c.args.tape.now.source contents in
+    let start = c.args.tape.now.used in
+    let decide = count_decision s g.row.F table c.args.node.0 c.args.room in
+    let drawn = draw-found decide told start c.skip.new.self.used c.peek-ahead.result.word c.peek-ahead.result.count first.count cell takes refl c.in_ok-first.ensures.ahead (c.peek-ahead.ensures.next contents belongs) (c.skip.ensures.used ∙ ap (λ d. start + d.b) c.cell-cell.ensures.exact) in
+    subst (λ d. IsDraw decide told start c.skip.new.self.used (Draw.Decided (Choice.Take c.from.result) d)) (sym c.cell-cell.ensures.exact)
+    (subst (λ n. IsDraw decide told start c.skip.new.self.used (Draw.Decided (Choice.Take n) cell)) (sym c.from.ensures) drawn)
+
+pub returns-clause-ideal : goal.returns-clause-ideal
+returns-clause-ideal g c =
+    let s = c.args.system.now in
+    let x = g.O.Oracle.x c.args.oracle.now in
+    let table = g.O.Oracle.table c.args.oracle.now in
+    let counted = c.counted_at-counted.result in
+    let at = c.counted_at-counted.ensures in
+    let first = c.in_ok-first.first in
+    let cell = peeked_cell c.peek-ahead.result.word first.bits in
+    let sound = rw c.requires.spec at c.known.ensures.sound in
+    let takes = takes-within s x g.row.F c.args.node.0 counted.part.0 (series_of_kind counted.kind) (spec_range counted.range) table (record { node = at.node; range = at.range; suits = at.suits }) sound at.part c.args.room first.count cell c.in_ok-first.ensures.takes c.in_ok-first.ensures.room in
+    let ideal = choice-ideal s x g.row.F c.args.node.0 counted.part.0 (series_of_kind counted.kind) (spec_range counted.range) table (record { node = at.node; range = at.range; suits = at.suits }) sound at.part c.args.room cell takes.is_cell (Some (Take first.count)) takes.takes in
+    subst (λ d. IsIdealOfCell s x c.args.node.0 d c.from.result) (sym c.cell-cell.ensures.exact) (subst (λ n. IsIdealOfCell s x c.args.node.0 cell n) (sym c.from.ensures) ideal)
+
+pub returns-clause-in_range : goal.returns-clause-in_range
+returns-clause-in_range g c =
+    let s = c.args.system.now in
+    let x = g.O.Oracle.x c.args.oracle.now in
+    let table = g.O.Oracle.table c.args.oracle.now in
+    let counted = c.counted_at-counted.result in
+    let at = c.counted_at-counted.ensures in
+    let first = c.in_ok-first.first in
+    let cell = peeked_cell c.peek-ahead.result.word first.bits in
+    let sound = rw c.requires.spec at c.known.ensures.sound in
+    let takes = takes-within s x g.row.F c.args.node.0 counted.part.0 (series_of_kind counted.kind) (spec_range counted.range) table (record { node = at.node; range = at.range; suits = at.suits }) sound at.part c.args.room first.count cell c.in_ok-first.ensures.takes c.in_ok-first.ensures.room in
+    let ranged = choice-ranged s x g.row.F c.args.node.0 counted.part.0 (series_of_kind counted.kind) (spec_range counted.range) table (record { node = at.node; range = at.range; suits = at.suits }) sound at.part c.args.room cell takes.is_cell (Some (Take first.count)) takes.takes in
+    subst (λ n. IsInRange n (range_at s c.args.node.0) × (n ≤ c.args.room)) (sym c.from.ensures) ranged
+
+pub returns-clause-cell : goal.returns-clause-cell
+returns-clause-cell g c =
+    let s = c.args.system.now in
+    let x = g.O.Oracle.x c.args.oracle.now in
+    let table = g.O.Oracle.table c.args.oracle.now in
+    let counted = c.counted_at-counted.result in
+    let at = c.counted_at-counted.ensures in
+    let first = c.in_ok-first.first in
+    let cell = peeked_cell c.peek-ahead.result.word first.bits in
+    let sound = rw c.requires.spec at c.known.ensures.sound in
+    let takes = takes-within s x g.row.F c.args.node.0 counted.part.0 (series_of_kind counted.kind) (spec_range counted.range) table (record { node = at.node; range = at.range; suits = at.suits }) sound at.part c.args.room first.count cell c.in_ok-first.ensures.takes c.in_ok-first.ensures.room in
+    subst (λ d. IsCell d.k d.b) (sym c.cell-cell.ensures.exact) takes.is_cell
