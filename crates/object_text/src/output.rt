@@ -259,10 +259,10 @@ fn write_spaced(text: &mut Vec<u8>, parts: &[Part]) -> Result<(), AllocError>
     let Some((first, later)) = parts.split_first() else {
         return Ok(());
     };
-    text.extend_from_slice(&first.text)?;
+    push_word(text, &first.text)?;
     for part in later {
         push_byte(text, b' ')?;
-        text.extend_from_slice(&part.text)?;
+        push_word(text, &part.text)?;
     }
     Ok(())
 }

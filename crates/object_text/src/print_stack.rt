@@ -92,10 +92,15 @@ impl Todos {
     }
 
     /// Puts an entry in front.
+    #[inline(always)]
     fn push(&mut self, entry: Entry) -> Result<(), AllocError>
         requires { IsSomething entry }
         ensures { OnOk result (self.new ≡ entry_items entry ++ self.old) }
     {
+        if self.entries.len() < self.entries.capacity() {
+            self.entries.push_reserved(entry);
+            return Ok(());
+        }
         self.entries.push(entry)?;
         Ok(())
     }
