@@ -1,5 +1,5 @@
 -- Runs under way, as the code has them.
-use Rattle.std.specs.Prelude.{◌≡◌, ℕ, Bool, Option}
+use Rattle.std.specs.Prelude.{◌≡◌, ℕ}
 use Rattle.bz_model.specs.Fraction.{Fraction}
 use Rattle.bz_model.specs.Spec.{Spec}
 use Rattle.bz_model.specs.declared.cell.Bounds.{Bounds}

@@ -1,4 +1,4 @@
-use Rattle.std.proofs.Common.{◌≡◌, ◌∙◌, subst}
+use Rattle.std.proofs.Common.{◌∙◌, subst}
 use Rattle.bit_tape.specs.Tape.{TapeSource, CountsFault}
 use Rattle.choice_draw.proofs.Ticks.{oracle-none, oracle-more}
 use Rattle.sample_command.specs.UnderWay.{CanTurn, DrawingGoesOn, IsAtEnd, has_failed}

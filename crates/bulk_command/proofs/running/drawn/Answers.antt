@@ -1,6 +1,6 @@
-use Rattle.std.proofs.Common.{List, refl, ap, subst, sym}
+use Rattle.std.proofs.Common.{refl, ap, subst}
 use Rattle.bz_model.specs.Fraction.{ratio}
-use Rattle.bit_tape.specs.Tape.{TapeState, TapeSource, CountsFault}
+use Rattle.bit_tape.specs.Tape.{TapeState, CountsFault}
 use Rattle.class_system.specs.Sound.{IsSound}
 use Rattle.oracle_memo.specs.Levels.{level_bounds, level_bounds_from}
 use Rattle.oracle_memo.specs.Memos.{Memory}

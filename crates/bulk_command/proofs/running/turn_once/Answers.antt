@@ -1,11 +1,10 @@
 use Rattle.std.proofs.Common.{refl, sym, ap, subst, None}
-use Rattle.std.specs.Prelude.{Bool}
-use Rattle.bit_tape.specs.Tape.{TapeState, CountsFault, bits_of_source}
+use Rattle.bit_tape.specs.Tape.{TapeState, bits_of_source}
 use Rattle.size_window.specs.declared.turned.Turned.TheVariants as answer
-use Rattle.sample_command.proofs.OneTurn.{can-turn-on, at-end, same-fault}
+use Rattle.sample_command.proofs.OneTurn.{can-turn-on, at-end}
 use Rattle.sample_command.specs.UnderWay.{DrawingGoesOn}
 use Rattle.bulk_command.specs.Running.{IsRunning}
-use Rattle.bulk_command.specs.NoFiles.{empty_files, no_faults}
+use Rattle.bulk_command.specs.NoFiles.{empty_files}
 use Rattle.bulk_command.proofs.RunTurns.{running-on, still-running}
 use Rattle.bulk_command.proofs.running.turn_once.Goals as goal
 
