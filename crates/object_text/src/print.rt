@@ -79,8 +79,8 @@ pub fn print_in(
 /// It takes one step for each token and for each class and product above it, sorts the parts of
 /// each set, and moves a part's text once for each set or cycle round it. It takes memory for the
 /// text, at once for four bytes for each token and each label, for the parts of the sets and cycles
-/// that are being printed, and for one entry for each node on the way down. A refusal comes for want
-/// of memory alone.
+/// that are being printed, and for one entry for each node on the way down. A refusal comes for
+/// want of memory alone.
 pub fn print_labelled(
     alloc: Global,
     system: &System,
