@@ -123,9 +123,9 @@ part-taken runs r taken h few =
     let new = unrolled-push runs left in
     let new_front = new ∙ ap (λ es. es ++ unrolled runs) (replicate-first (r.times - taken) r.node.0 (omega arith)) in
     let split = old
-        ∙ ap (λ es. es ++ unrolled runs) (replicate-split r.times taken r.node.0 (omega arith))
-        ∙ append_assoc (replicate taken r.node.0) (replicate (r.times - taken) r.node.0) (unrolled runs)
-        ∙ ap (λ es. replicate taken r.node.0 ++ es) (sym new) in
+    ∙ ap (λ es. es ++ unrolled runs) (replicate-split r.times taken r.node.0 (omega arith))
+    ∙ append_assoc (replicate taken r.node.0) (replicate (r.times - taken) r.node.0) (unrolled runs)
+    ∙ ap (λ es. replicate taken r.node.0 ++ es) (sym new) in
     taken-equal (unrolled (runs ++ r ∷ [])) (replicate (r.times - 1) r.node.0 ++ unrolled runs) (unrolled (runs ++ left ∷ [])) r.node.0 taken
     (old ∙ ap (λ es. es ++ unrolled runs) (replicate-first r.times r.node.0 some))
     split (λ none. let is = new_front in absurd (cc))

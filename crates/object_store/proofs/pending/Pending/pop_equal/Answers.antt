@@ -1,5 +1,5 @@
 -- A part of the last run is taken, or the whole where it isn't the only one.
-use Rattle.std.proofs.Common.{arith, ◌≡◌, ◌≤◌, ◌-◌, ◌<◌, ◌∷◌, ◌++◌, [], length, sym, ◌∙◌, ap, subst}
+use Rattle.std.proofs.Common.{arith, ◌≡◌, ◌-◌, ◌<◌, ◌∷◌, ◌++◌, [], length, sym, ◌∙◌, ap, subst}
 use Rattle.object_store.specs.Runs.{unrolled, HaveSome}
 use Rattle.object_store.proofs.Unrolled.{HaveSome-push, HaveSome-rest, TakenEqual, part-taken, run-taken, not-alone}
 use Rattle.object_store.proofs.pending.Pending.pop_equal.Goals as goal
