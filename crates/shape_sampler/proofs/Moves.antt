@@ -15,6 +15,7 @@ use Rattle.choice_draw.specs.Decision.{Choice, level_for, union_decision}
 use Rattle.choice_draw.specs.Draw.{Bit, Draw}
 use Rattle.choice_draw.specs.Answer.{IsDraw}
 use Rattle.choice_draw.specs.IdealOfCell.{IsIdealOfCell}
+use Rattle.object_store.specs.Walk.{AllBelow}
 use Rattle.object_store.specs.declared.token.Token.TheVariants as token
 use Rattle.shape_sampler.specs.declared.stepped.Stepped.TheVariants.{Moved}
 use Rattle.shape_sampler.specs.Visit.{Chooser, Attempt, Visited, node_visited, visit_among, visit}
@@ -29,6 +30,11 @@ use Rattle.shape_sampler.proofs.Union.{Settled, same-state, union-leaves, union-
 -- a list with a first item isn't empty
 some-pending : (es : List ℕ) (e : ℕ) → slice_get es 0 ≡ Some e → es ≢ []
 some-pending es e first none = let f = front es e first in let whole = f.whole in absurd (cc)
+
+-- a pending node is below what all of them are below
+pub first-below : (n : ℕ) (es : List ℕ) (e : ℕ) → AllBelow n es → slice_get es 0 ≡ Some e → e < n
+first-below n [] e below first = absurd (cc)
+first-below n (f ∷ es) e below first = let same : f ≡ e = cc in subst (λ d. d < n) same below.0
 
 -- it has an item
 some-length : (es : List ℕ) → es ≢ [] → 0 < length es
@@ -161,8 +167,8 @@ module _ (s : Spec) (x : Fraction) (F : ℕ) (table : (level e : ℕ) → Bounds
       let count = ap length t.pending ∙ ap suc (length-append (replicate k e) now.pending) in
       let visited = atom-move before running after (before.tokens ++ token.Dot ∷ []) (λ none. let many = enough in absurd (omega arith)) (omega arith) (λ f rest whole. let is = t.pending in let other = whole in cc) refl in
       let one = plain-moves before mid tape e room_atom_visited running first session visited
-          (all-visit s before mid e (Node.Atom word) room_atom_visited first at (λ chooser bit a rest. refl) visited)
-          (λ rest pending. ideal-atom s x before.whole (attempt_of before 0) session.attempt e rest pending word at before.room refl) in
+      (all-visit s before mid e (Node.Atom word) room_atom_visited first at (λ chooser bit a rest. refl) visited)
+      (λ rest pending. ideal-atom s x before.whole (attempt_of before 0) session.attempt e rest pending word at before.room refl) in
       let left : now.room ≡ before.room - 1 - k = t.room ∙ (let same : before.room - suc k ≡ before.room - 1 - k = omega arith in same) in
       let next = atoms-moves k mid now tape e word at running one.session (record {
         root = t.root;

@@ -10,7 +10,9 @@ ghost use Rattle.shape_sampler.specs.Visit.{leaf_visited};
 ghost use Rattle.shape_sampler.specs.Answer.{IsPlainVisit, replaced_by};
 ghost use Rattle.shape_sampler.specs.Ahead.{AreMoves, MovesOn, TakesAtoms};
 
-use crate::placing::{drop_first, put_dots, put_drawn, put_first, put_token, replace_first, reserve_drawn};
+use crate::placing::{
+    drop_first, put_dots, put_drawn, put_first, put_token, replace_first, reserve_drawn,
+};
 use crate::session::Session;
 use crate::stepped::Stepped;
 use bit_tape::tape::Tape;

@@ -1,8 +1,7 @@
 -- The moves so far, and one more.
 use Rattle.std.proofs.Common.{◌≡◌, ◌+◌, arith, sym, subst}
 use Rattle.bz_model.specs.Spec.{Spec}
-use Rattle.bit_tape.specs.Tape.{TapeState}
-use Rattle.shape_sampler.specs.State.{SessionState, SessionBelongs}
+use Rattle.shape_sampler.specs.State.{SessionBelongs}
 use Rattle.shape_sampler.specs.Ahead.{MovesOn}
 use Rattle.shape_sampler.proofs.Moves.{none-moved, more-moved}
 use Rattle.shape_sampler.proofs.session.Session.move_on.Goals as goal
@@ -13,11 +12,11 @@ moves-init g c = record {
   moved = none-moved c.args.founded.now (g.O.Oracle.x c.args.oracle.now) g.row.F (g.O.Oracle.table c.args.oracle.now) (g.O.Oracle.raised c.args.oracle.now) c.args.self.now c.args.tape.now c.requires.running c.requires.session;
 }
 
-pub move_first-requires-clause-running : goal.move_first-requires-clause-running
-move_first-requires-clause-running g c = c.moves.invariant.moved.running
+pub move_first-moved-requires-clause-running : goal.move_first-moved-requires-clause-running
+move_first-moved-requires-clause-running g c = c.moves.invariant.moved.running
 
-pub move_first-requires-clause-session : goal.move_first-requires-clause-session
-move_first-requires-clause-session g c = subst (λ (s : Spec). SessionBelongs s (g.O.Oracle.x c.args.oracle.now) c.moves.self) (sym c.system-system.ensures.system) c.moves.invariant.moved.session
+pub move_first-moved-requires-clause-session : goal.move_first-moved-requires-clause-session
+move_first-moved-requires-clause-session g c = subst (λ (s : Spec). SessionBelongs s (g.O.Oracle.x c.args.oracle.now) c.moves.self) (sym c.system-system.ensures.system) c.moves.invariant.moved.session
 
 pub moves-preserved : goal.moves-preserved
 moves-preserved g c =
