@@ -1,5 +1,6 @@
 -- What runs stand for where one is put at the end, which is in front, or taken from there.
-use Rattle.std.proofs.Common.{◌≡◌, ℕ, zero, suc, ◌+◌, ◌-◌, ◌<◌, ◌≤◌, List, [], ◌∷◌, ◌++◌, arith, refl, sym, ◌∙◌, ap, subst, append_assoc, append-nil, replicate, length, take, take_all, slice_get, Some}
+use Rattle.std.proofs.Common.{◌≡◌, ℕ, zero, suc, ◌+◌, ◌-◌, ◌<◌, ◌≤◌, List, [], ◌∷◌, ◌++◌, arith, refl, sym, ◌∙◌, ap, subst, append_assoc, append-nil, replicate, length, take, take_all, slice_get, Some, Bool, true, false, ◌≢◌}
+use Rattle.std.specs.Prelude.{◌==◌, IsTrue}
 use Rattle.std.proofs.lemmas.List.{length-append, length-replicate}
 use Rattle.std.proofs.lemmas.Option.{slice_get_within}
 use Rattle.class_system.proofs.Results.{take-at}
@@ -90,3 +91,58 @@ waits-others runs r h at few =
     runs-too : (others : ℕ) → length runs ≡ others + 1 → (others ≡ 0 → length (unrolled runs) ≡ r.times) → 1 < length (unrolled runs) → 1 < length runs
     runs-too zero here alone more = let is = alone refl in absurd (omega arith)
     runs-too (suc others) here alone more = omega arith
+
+-- a run of some nodes is one of the first of them and one of the others
+replicate-split : (n k e : ℕ) → k ≤ n → replicate n e ≡ replicate k e ++ replicate (n - k) e
+replicate-split n zero e few = let all : n ≡ n - 0 = omega arith in ap (λ m. replicate m e) all
+replicate-split zero (suc k) e few = absurd (omega arith)
+replicate-split (suc n) (suc k) e few =
+    let left : n - k ≡ suc n - suc k = omega arith in
+    ap (λ es. e ∷ es) (replicate-split n k e (omega arith) ∙ ap (λ m. replicate k e ++ replicate m e) left)
+
+-- So many equal nodes were taken from the front, and others wait.
+pub record TakenEqual (old : List ℕ) (taken : ℕ) (new : List ℕ) : Type 0 where
+  pub items : (first : ℕ) → slice_get old 0 ≡ Some first → old ≡ replicate taken first ++ new
+  pub waits : new ≢ []
+  pub some : old ≢ []
+
+-- from how the nodes were, and are
+taken-equal : (old rest new : List ℕ) (e taken : ℕ) → old ≡ e ∷ rest → old ≡ replicate taken e ++ new → new ≢ [] → TakenEqual old taken new
+taken-equal old rest new e taken front split waits = record {
+  items = λ first at. let same : e ≡ first = let told = at in let is = front in cc in subst (λ f. old ≡ replicate taken f ++ new) same split;
+  waits = waits;
+  some = λ none. let is = front in absurd (cc);
+}
+
+-- a part of the last run is taken
+pub part-taken : (runs : List Run) (r : Run) (taken : ℕ) → HaveSome (runs ++ r ∷ []) → taken < r.times → TakenEqual (unrolled (runs ++ r ∷ [])) taken (unrolled (runs ++ record { node = r.node; times = r.times - taken } ∷ []))
+part-taken runs r taken h few =
+    let left : Run = record { node = r.node; times = r.times - taken } in
+    let some = (HaveSome-rest runs r h).1 in
+    let old = unrolled-push runs r in
+    let new = unrolled-push runs left in
+    let new_front = new ∙ ap (λ es. es ++ unrolled runs) (replicate-first (r.times - taken) r.node.0 (omega arith)) in
+    let split = old
+    ∙ ap (λ es. es ++ unrolled runs) (replicate-split r.times taken r.node.0 (omega arith))
+    ∙ append_assoc (replicate taken r.node.0) (replicate (r.times - taken) r.node.0) (unrolled runs)
+    ∙ ap (λ es. replicate taken r.node.0 ++ es) (sym new) in
+    taken-equal (unrolled (runs ++ r ∷ [])) (replicate (r.times - 1) r.node.0 ++ unrolled runs) (unrolled (runs ++ left ∷ [])) r.node.0 taken
+    (old ∙ ap (λ es. es ++ unrolled runs) (replicate-first r.times r.node.0 some))
+    split (λ none. let is = new_front in absurd (cc))
+
+-- the last run is taken whole, where it isn't the only one
+pub run-taken : (runs : List Run) (r : Run) (taken : ℕ) → HaveSome (runs ++ r ∷ []) → taken ≡ r.times → 0 < length runs → TakenEqual (unrolled (runs ++ r ∷ [])) taken (unrolled runs)
+run-taken runs r taken h all others =
+    let rest = HaveSome-rest runs r h in
+    let old = unrolled-push runs r in
+    let many = many-unrolled runs rest.0 in
+    taken-equal (unrolled (runs ++ r ∷ [])) (replicate (r.times - 1) r.node.0 ++ unrolled runs) (unrolled runs) r.node.0 taken
+    (old ∙ ap (λ es. es ++ unrolled runs) (replicate-first r.times r.node.0 rest.1))
+    (old ∙ ap (λ n. replicate n r.node.0 ++ unrolled runs) (sym all))
+    (λ none. let nothing : length (unrolled runs) ≡ 0 = ap length none in absurd (omega arith))
+
+-- where a run isn't taken whole though as many as there are could be, it is the only one
+pub not-alone : (alone : Bool) (len free times : ℕ) → alone ≡ (len == 0) → 0 < times → (IsTrue alone → free ≡ times - 1) → times ≤ free → 0 < len
+not-alone true len free times is some h many = let e = h (cc) in absurd (omega arith)
+not-alone false zero free times is some h many = absurd (cc)
+not-alone false (suc len) free times is some h many = omega arith

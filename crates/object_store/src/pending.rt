@@ -1,7 +1,7 @@
 //! Nodes that wait to be visited, with spare room.
-ghost use Rattle.std.specs.Prelude.{◌≡◌, ◌+◌, ◌<◌, ◌≤◌, [], ◌∷◌, ◌++◌, map, length, replicate};
+ghost use Rattle.std.specs.Prelude.{◌≡◌, ◌≢◌, ◌+◌, ◌-◌, ◌<◌, ◌≤◌, [], ◌∷◌, ◌++◌, map, length, replicate};
 ghost use Rattle.std.specs.Prelude.{option_map, option_to_list, IsOk, OnOk, OnErr, IfNone, IsTrue};
-ghost use Rattle.std.specs.Prelude.{◌↔◌, slice_get, ℕ, List};
+ghost use Rattle.std.specs.Prelude.{◌↔◌, IsFalse, Some, slice_get, ℕ, List};
 ghost use Rattle.class_system.specs.Views.{number};
 
 use class_system::ids::ExprId;
@@ -114,6 +114,31 @@ impl Pending {
         Some(node)
     }
 
+    /// Takes away next nodes that are equal, at most `most` of them, and leaves at least one node
+    /// waiting. Answers how many: none only where no other node waits after the next one, or `most`
+    /// is 0. Takes no memory.
+    #[inline(always)]
+    pub fn pop_equal(&mut self, most: u32) -> u32
+        ensures most { result ≤ most }
+        ensures some { 1 < length self.old.items → 0 < most → 0 < result }
+        ensures items { (first : ℕ) → slice_get self.old.items 0 ≡ Some first
+            → self.old.items ≡ replicate result first ++ self.new.items }
+        ensures waits { 0 < result → self.new.items ≢ [] }
+        ensures nothing { self.old.items ≡ [] → (result ≡ 0) × (self.new.items ≡ []) }
+    {
+        let Some(Run { node, times }) = self.runs.pop() else {
+            return 0;
+        };
+        let taken = free_of(times, self.runs.as_slice().is_empty()).min(most);
+        if taken < times {
+            self.runs.push_reserved(Run {
+                node,
+                times: times - taken,
+            });
+        }
+        taken
+    }
+
     /// Puts a node in front, so many times.
     ///
     /// A refusal leaves what waits as it was, and none comes where there is spare room.
@@ -171,4 +196,15 @@ impl Pending {
             Err(_) => unreachable!(),
         }
     }
+}
+
+/// How many nodes of a run may be taken: all but one where it is the only run.
+#[inline(always)]
+fn free_of(times: u32, alone: bool) -> u32
+    requires some { 0 < times }
+    ensures alone { IsTrue alone → result ≡ times - 1 }
+    ensures among { IsFalse alone → result ≡ times }
+    ensures few { result ≤ times }
+{
+    if alone { times - 1 } else { times }
 }

@@ -1,5 +1,7 @@
 -- Visits that moved on, one after the other.
-use Rattle.std.proofs.Common.{◌≡◌, ◌≢◌, ℕ, suc, ◌+◌, ◌-◌, ◌<◌, ◌≤◌, arith, List, [], ◌∷◌, length, refl, sym, ◌∙◌, ap, subst, Bool, Option, Some, None, slice_get}
+use Rattle.std.proofs.Common.{◌≡◌, ◌≢◌, ℕ, zero, suc, ◌+◌, ◌-◌, ◌<◌, ◌≤◌, arith, List, [], ◌∷◌, ◌++◌, replicate, append-nil, append_assoc, length, refl, sym, ◌∙◌, ap, subst, Bool, true, false, Option, Some, None, slice_get}
+use Rattle.std.specs.Prelude.{IsTrue, IsFalse}
+use Rattle.std.proofs.lemmas.List.{length-append}
 use Rattle.bz_model.specs.declared.cell.Cell.{Cell}
 use Rattle.bz_model.specs.declared.cell.Bounds.{Bounds}
 use Rattle.bz_model.specs.Fraction.{Fraction}
@@ -13,18 +15,31 @@ use Rattle.choice_draw.specs.Decision.{Choice, level_for, union_decision}
 use Rattle.choice_draw.specs.Draw.{Bit, Draw}
 use Rattle.choice_draw.specs.Answer.{IsDraw}
 use Rattle.choice_draw.specs.IdealOfCell.{IsIdealOfCell}
+use Rattle.object_store.specs.Walk.{AllBelow}
+use Rattle.object_store.specs.declared.token.Token.TheVariants as token
 use Rattle.shape_sampler.specs.declared.stepped.Stepped.TheVariants.{Moved}
 use Rattle.shape_sampler.specs.Visit.{Chooser, Attempt, Visited, node_visited, visit_among, visit}
 use Rattle.shape_sampler.specs.State.{SessionState, SessionBelongs, Leaves, attempt_of}
-use Rattle.shape_sampler.specs.Answer.{told_visit, IsPlainVisit, IsVisitOfAll}
-use Rattle.shape_sampler.specs.Ahead.{IsMove, AreMoves, MovesOn}
-use Rattle.shape_sampler.proofs.Ideal.{IsIdealVisit}
+use Rattle.shape_sampler.specs.Answer.{told_visit, IsPlainVisit, IsVisitOfAll, room_atom_visited}
+use Rattle.shape_sampler.specs.Ahead.{IsMove, AreMoves, MovesOn, TakesAtoms}
+use Rattle.shape_sampler.proofs.Ideal.{IsIdealVisit, ideal-atom}
 use Rattle.shape_sampler.proofs.Plain.{Front, front, plain-session, plain-by-bits, plain-draws}
-use Rattle.shape_sampler.proofs.Union.{Settled, union-leaves, union-draws, union-session, answer-by-bits}
+use Rattle.shape_sampler.proofs.PlainMoves.{atom-move}
+use Rattle.shape_sampler.proofs.Union.{Settled, same-state, union-leaves, union-draws, union-session, answer-by-bits}
 
 -- a list with a first item isn't empty
 some-pending : (es : List ℕ) (e : ℕ) → slice_get es 0 ≡ Some e → es ≢ []
 some-pending es e first none = let f = front es e first in let whole = f.whole in absurd (cc)
+
+-- a pending node is below what all of them are below
+pub first-below : (n : ℕ) (es : List ℕ) (e : ℕ) → AllBelow n es → slice_get es 0 ≡ Some e → e < n
+first-below n [] e below first = absurd (cc)
+first-below n (f ∷ es) e below first = let same : f ≡ e = cc in subst (λ d. d < n) same below.0
+
+-- it has an item
+some-length : (es : List ℕ) → es ≢ [] → 0 < length es
+some-length [] some = absurd (some refl)
+some-length (e ∷ es) some = omega arith
 
 -- a visit that looks at the first pending node alone is that of every chooser
 pub all-visit : (s : Spec) (before now : SessionState) (e : ℕ) (n : Node) (visited : Attempt → List ℕ → Visited) → slice_get before.pending 0 ≡ Some e → node_at s e ≡ Some n → ((c : Chooser) (bit : ℕ → Bit) (a : Attempt) (rest : List ℕ) → visited a rest ≡ node_visited c bit a e rest (Some n)) → IsPlainVisit visited before Moved now → IsVisitOfAll s before Moved now
@@ -115,6 +130,15 @@ module _ (s : Spec) (x : Fraction) (F : ℕ) (table : (level e : ℕ) → Bounds
     belongs = λ contents h. h;
   }
 
+  -- one move where it is told, and else none
+  pub told-moves : (told : Bool) (n : ℕ) (before now : SessionState) (tape tape_now : TapeState) → (IsTrue told → n ≡ 1) → (IsFalse told → n ≡ 0) → before.stopped ≡ None → SessionBelongs s x before → (IsTrue told → MovesOn s x F table raised 1 before tape now tape_now) → (IsFalse told → (now ≡ before) × (tape_now ≡ tape)) → MovesOn s x F table raised n before tape now tape_now
+  told-moves true n before now tape tape_now one none running session moved left = subst (λ k. MovesOn s x F table raised k before tape now tape_now) (sym (one (cc))) (moved (cc))
+  told-moves false n before now tape tape_now one none running session moved left =
+      let same = left (cc) in
+      subst (λ k. MovesOn s x F table raised k before tape now tape_now) (sym (none (cc)))
+      (subst (λ st. MovesOn s x F table raised 0 before tape st tape_now) (sym same.0)
+      (subst (λ t. MovesOn s x F table raised 0 before tape before t) (sym same.1) (none-moved before tape running session)))
+
   -- further moves
   pub more-moved : (n m : ℕ) (before mid now : SessionState) (tape tape_mid tape_now : TapeState) → MovesOn s x F table raised n before tape mid tape_mid → MovesOn s x F table raised m mid tape_mid now tape_now → MovesOn s x F table raised (n + m) before tape now tape_now
   more-moved n m before mid now tape tape_mid tape_now a b = record {
@@ -127,3 +151,34 @@ module _ (s : Spec) (x : Fraction) (F : ℕ) (table : (level e : ℕ) → Bounds
     used = let first = a.used in let then = b.used in omega arith;
     belongs = λ contents h. b.belongs contents (a.belongs contents h);
   }
+
+  -- atoms that stand first, one after the other, are so many moves
+  pub atoms-moves : (k : ℕ) (before now : SessionState) (tape : TapeState) (e : ℕ) (word : List ℕ) → node_at s e ≡ Some (Node.Atom word) → before.stopped ≡ None → SessionBelongs s x before → TakesAtoms e k before now → MovesOn s x F table raised k before tape now tape
+  atoms-moves zero before now tape e word at running session t =
+      let tokens : now.tokens ≡ before.tokens = t.tokens ∙ append-nil before.tokens in
+      let room : now.room ≡ before.room = t.room ∙ (let same : before.room - 0 ≡ before.room = omega arith in same) in
+      subst (λ st. MovesOn s x F table raised 0 before tape st tape) (sym (same-state now before t.root t.whole (sym t.pending) tokens t.cells room t.stopped)) (none-moved before tape running session)
+  atoms-moves (suc k) before now tape e word at running session t =
+      let enough = t.enough in
+      let after : List ℕ = replicate k e ++ now.pending in
+      let mid : SessionState = record before { pending = after; tokens = before.tokens ++ token.Dot ∷ []; room = before.room - 1 } in
+      let first : slice_get before.pending 0 ≡ Some e = ap (λ es. slice_get es 0) t.pending in
+      let others = some-length now.pending (t.waits (omega arith)) in
+      let count = ap length t.pending ∙ ap suc (length-append (replicate k e) now.pending) in
+      let visited = atom-move before running after (before.tokens ++ token.Dot ∷ []) (λ none. let many = enough in absurd (omega arith)) (omega arith) (λ f rest whole. let is = t.pending in let other = whole in cc) refl in
+      let one = plain-moves before mid tape e room_atom_visited running first session visited
+      (all-visit s before mid e (Node.Atom word) room_atom_visited first at (λ chooser bit a rest. refl) visited)
+      (λ rest pending. ideal-atom s x before.whole (attempt_of before 0) session.attempt e rest pending word at before.room refl) in
+      let left : now.room ≡ before.room - 1 - k = t.room ∙ (let same : before.room - suc k ≡ before.room - 1 - k = omega arith in same) in
+      let next = atoms-moves k mid now tape e word at running one.session (record {
+        root = t.root;
+        whole = t.whole;
+        pending = refl;
+        waits = λ some. t.waits (omega arith);
+        tokens = t.tokens ∙ sym (append_assoc before.tokens (token.Dot ∷ []) (replicate k token.Dot));
+        cells = t.cells;
+        enough = omega arith;
+        room = left;
+        stopped = t.stopped;
+      }) in
+      subst (λ n. MovesOn s x F table raised n before tape now tape) (let sum : 1 + k ≡ suc k = omega arith in sum) (more-moved 1 k before mid now tape tape tape one next)

@@ -1,10 +1,12 @@
 -- Many visits in a row, each of which moved on by bits that the tape had read ahead.
-use Rattle.std.specs.Prelude.{◌≡◌, ◌≢◌, ℕ, suc, ◌+◌, ◌-◌, ◌≤◌, Bool, List, [], Option, None}
+use Rattle.std.specs.Prelude.{◌≡◌, ◌≢◌, ℕ, suc, ◌+◌, ◌-◌, ◌<◌, ◌≤◌, Bool, List, [], ◌++◌, replicate}
+use Rattle.std.specs.Prelude.{Option, None}
 use Rattle.bz_model.specs.declared.cell.Bounds.{Bounds}
 use Rattle.bz_model.specs.Fraction.{Fraction}
 use Rattle.bz_model.specs.Spec.{Spec}
 use Rattle.bit_tape.specs.Tape.{TapeState, BelongsToShelf, bits_of_source}
 use Rattle.choice_draw.specs.Decision.{level_for}
+use Rattle.object_store.specs.declared.token.Token.TheVariants.{Dot}
 use Rattle.shape_sampler.specs.declared.stepped.Stepped.TheVariants.{Moved}
 use Rattle.shape_sampler.specs.State.{SessionState, SessionBelongs, Leaves}
 use Rattle.shape_sampler.specs.Answer.{Draws, IsVisitByBits}
@@ -34,6 +36,19 @@ pub data AreMoves (s : Spec) (x : Fraction) (f : ℕ) (table : (level node : ℕ
       → AreMoves s x f table told raised n before start mid place
       → IsMove s x f table told raised mid place now used
       → AreMoves s x f table told raised (suc n) before start now used
+
+-- So many first pending nodes, each of which is e, were taken away as atoms: each added its token and
+-- took one of the room, and other nodes are pending after them.
+pub record TakesAtoms (e k : ℕ) (before now : SessionState) : Type 0 where
+  pub root : now.root ≡ before.root
+  pub whole : now.whole ≡ before.whole
+  pub pending : before.pending ≡ replicate k e ++ now.pending
+  pub waits : 0 < k → now.pending ≢ []
+  pub tokens : now.tokens ≡ before.tokens ++ replicate k Dot
+  pub cells : now.cells ≡ before.cells
+  pub enough : k ≤ before.room
+  pub room : now.room ≡ before.room - k
+  pub stopped : now.stopped ≡ before.stopped
 
 -- What visits that moved on leave, over every shelf that the tape belongs to: so many moves were
 -- made, the session goes on, and the tape still belongs.

@@ -1,5 +1,5 @@
 //! Many visits in a row, as long as each moves on by bits that the tape has read ahead.
-ghost use Rattle.std.specs.Prelude.{◌≡◌, ◌≢◌, ◌≤◌, [], ◌∷◌, map, length, ℕ, List, Option, None, Some};
+ghost use Rattle.std.specs.Prelude.{◌≡◌, ◌≢◌, ◌<◌, ◌≤◌, [], ◌∷◌, map, length, ℕ, List, Option, None, Some};
 ghost use Rattle.std.specs.Prelude.{IsTrue, IsFalse, slice_get};
 ghost use Rattle.bz_model.specs.Fraction.{IsFractionBits};
 ghost use Rattle.bz_model.specs.Spec.{Node, node_at};
@@ -7,10 +7,12 @@ ghost use Rattle.bit_tape.specs.Tape.{BelongsToShelf, bits_of_source};
 ghost use Rattle.class_system.specs.Views.{number};
 ghost use Rattle.shape_sampler.specs.State.{SessionBelongs};
 ghost use Rattle.shape_sampler.specs.Visit.{leaf_visited};
-ghost use Rattle.shape_sampler.specs.Answer.{IsPlainVisit, room_atom_visited, replaced_by};
-ghost use Rattle.shape_sampler.specs.Ahead.{AreMoves, MovesOn};
+ghost use Rattle.shape_sampler.specs.Answer.{IsPlainVisit, replaced_by};
+ghost use Rattle.shape_sampler.specs.Ahead.{AreMoves, MovesOn, TakesAtoms};
 
-use crate::placing::{drop_first, put_drawn, put_first, put_token, replace_first, reserve_drawn};
+use crate::placing::{
+    drop_first, put_dots, put_drawn, put_first, put_token, replace_first, reserve_drawn,
+};
 use crate::session::Session;
 use crate::stepped::Stepped;
 use bit_tape::tape::Tape;
@@ -22,6 +24,9 @@ use class_system::ids::ExprId;
 use class_system::system::System;
 use object_store::token::Token;
 use well_founded::examination::Founded;
+
+/// The most atoms that are moved in one go: so many tokens need room before.
+const RUN: u64 = 64;
 
 impl Session {
     /// Visits first pending nodes as `step` does, as long as each visit moves on, its bits are read
@@ -76,42 +81,48 @@ impl Session {
         let system = founded.system();
         let mut made = 0;
         'moves: while made < most {
-            if !self.move_first(system, oracle, tape) {
+            let moved = self.move_first(system, oracle, tape, most - made);
+            if moved == 0 {
                 break;
             }
-            made += 1;
+            made += moved;
         }
         made
     }
 
-    /// Visits the first pending node where that moves on by bits that are read ahead; else leaves
-    /// all as it was.
+    /// Visits the first pending node where that moves on by bits that are read ahead, and an atom
+    /// with the equal ones after it, at most `most`; else leaves all as it was. Answers how many
+    /// nodes.
     #[inline(always)]
     fn move_first<const F: u32, O: Oracle<F>>(
         &mut self,
         system: &System,
         oracle: &O,
         tape: &mut Tape,
-    ) -> bool
+        most: u64,
+    ) -> u64
         requires fraction_bits { IsFractionBits F }
         requires spec { O.spec oracle.now ≡ system.now }
         requires running { self.old.stopped ≡ None }
         requires session { SessionBelongs system.now (O.x oracle.now) self.old }
-        ensures moved { IsTrue result → MovesOn system.now (O.x oracle.now) F (O.table oracle.now)
-            (O.raised oracle.now) 1 self.old tape.old self.new tape.new }
-        ensures left { IsFalse result → (self.new ≡ self.old) × (tape.new ≡ tape.old) }
+        requires some { 0 < most }
+        ensures most { result ≤ most }
+        ensures moved { MovesOn system.now (O.x oracle.now) F (O.table oracle.now)
+            (O.raised oracle.now) result self.old tape.old self.new tape.new }
     {
         system.known();
         let Some(node) = self.pending.first() else {
-            return false;
+            return 0;
         };
         match system.node(node) {
-            Expr::Empty(_) => self.move_leaf(),
-            Expr::Atom(_) => self.move_atom(),
-            Expr::Class(c) => self.move_class(system.body(*c)),
-            Expr::Product(parts) => self.move_product(parts.items()),
-            Expr::Union(parts) => self.move_union(system, node, parts.items(), oracle, tape),
-            Expr::Seq(_) | Expr::Set(_) | Expr::Cyc(_) => false,
+            Expr::Empty(_) => moves_of(self.move_leaf()),
+            Expr::Atom(_) => self.move_atoms(most),
+            Expr::Class(c) => moves_of(self.move_class(system.body(*c))),
+            Expr::Product(parts) => moves_of(self.move_product(parts.items())),
+            Expr::Union(parts) => {
+                moves_of(self.move_union(system, node, parts.items(), oracle, tape))
+            }
+            Expr::Seq(_) | Expr::Set(_) | Expr::Cyc(_) => 0,
         }
     }
 
@@ -131,21 +142,22 @@ impl Session {
         true
     }
 
-    /// An atom adds its token and lowers the room, where there is room and more nodes are pending.
+    /// An atom, and equal ones after it, add their tokens and lower the room, as long as there is
+    /// room and more nodes are pending; at most `most`. Answers how many.
     #[inline(always)]
-    fn move_atom(&mut self) -> bool
-        requires running { self.old.stopped ≡ None }
-        ensures moved { IsTrue result
-            → IsPlainVisit room_atom_visited self.old Stepped.Moved self.new }
-        ensures left { IsFalse result → self.new ≡ self.old }
+    fn move_atoms(&mut self, most: u64) -> u64
+        ensures most { result ≤ most }
+        ensures moved { (e : ℕ) → slice_get self.old.pending 0 ≡ Some e
+            → TakesAtoms e result self.old self.new }
     {
-        if self.room == 0 || !self.pending.has_more() || self.shape.reserve(1).is_err() {
-            return false;
+        let many = most.min(self.room).min(RUN) as u32;
+        if self.shape.reserve(many as usize).is_err() {
+            return 0;
         }
-        put_token(&mut self.shape, Token::Dot);
-        drop_first(&mut self.pending);
-        self.room -= 1;
-        true
+        let taken = self.pending.pop_equal(many);
+        put_dots(&mut self.shape, taken);
+        self.room -= u64::from(taken);
+        u64::from(taken)
     }
 
     /// A class puts its body in its place.
@@ -222,4 +234,14 @@ impl Session {
         );
         true
     }
+}
+
+/// One move, or none.
+#[inline(always)]
+fn moves_of(moved: bool) -> u64
+    ensures one { IsTrue moved → result ≡ 1 }
+    ensures none { IsFalse moved → result ≡ 0 }
+    ensures few { result ≤ 1 }
+{
+    if moved { 1 } else { 0 }
 }

@@ -1,5 +1,5 @@
 //! Tokens, cells and nodes, put where there is spare room.
-ghost use Rattle.std.specs.Prelude.{◌≡◌, ◌<◌, ◌≤◌, [], ◌∷◌, ◌++◌, map, length, ℕ, List, OnOk};
+ghost use Rattle.std.specs.Prelude.{◌≡◌, ◌<◌, ◌≤◌, [], ◌∷◌, ◌++◌, map, length, replicate, ℕ, List, OnOk};
 ghost use Rattle.bz_model.specs.Cell.{IsCell};
 ghost use Rattle.class_system.specs.Views.{number};
 ghost use Rattle.shape_sampler.specs.State.{answer_for, union_answer, stop_after, PutsPart};
@@ -25,6 +25,20 @@ pub(crate) fn put_token(shape: &mut Shape, token: Token)
     match shape.push(token) {
         Ok(()) => {}
         Err(_) => unreachable!(),
+    }
+}
+
+/// Appends so many dots.
+#[inline(always)]
+pub(crate) fn put_dots(shape: &mut Shape, times: u32)
+    requires { times ≤ shape.old.spare }
+    ensures { shape.new.items ≡ shape.old.items ++ replicate times Token.Dot }
+{
+    for _i in 0..times {
+        match shape.push(Token::Dot) {
+            Ok(()) => {}
+            Err(_) => unreachable!(),
+        }
     }
 }
 
