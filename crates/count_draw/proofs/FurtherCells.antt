@@ -28,8 +28,8 @@ bit-is zero few = refl
 bit-is (suc zero) few = refl
 bit-is (suc (suc r)) few = let never : ⊥ = omega arith in absurd never
 
-half_nat : (k p q w h r : ℕ) → q ≡ 2 * p → h * 2 + r ≡ w → k * q + w ≡ 2 * (k * p + h) + r
-half_nat k p q w h r twice parts = let e : k * q ≡ k * (2 * p) = ap (λ n. k * n) twice in omega (arith, e, parts)
+half_nat : (k p q w h r g v : ℕ) → q ≡ 2 * p → h * 2 + r ≡ w → h ≡ g → v ≡ r → k * q + w ≡ 2 * (k * p + g) + v
+half_nat k p q w h r g v twice parts same bit = let e : k * q ≡ k * (2 * p) = ap (λ n. k * n) twice in omega (arith, e, parts, same, bit)
 
 module _ (cell : Cell) (word : ℕ) where
   -- one further bit halves a cell
@@ -41,10 +41,7 @@ module _ (cell : Cell) (word : ℕ) where
       let bit : bit_number (peeked_bit word j) ≡ w % 2 = bit-is (w % 2) (mod_below w 2 (omega arith)) in
       let low : 16 - suc j ≡ 15 - j = omega arith in
       let ks : cell.k * 2 ^ suc j + word / 2 ^ (16 - suc j) ≡ 2 * (cell.k * 2 ^ j + word / 2 ^ (16 - j)) + bit_number (peeked_bit word j) =
-      ap (λ n. cell.k * 2 ^ suc j + word / 2 ^ n) low
-      ∙ half_nat cell.k (2 ^ j) (2 ^ suc j) w (w / 2) (w % 2) (pow-succ' 2 j) (div-add-mod' w 2)
-      ∙ ap (λ h. 2 * (cell.k * 2 ^ j + h) + w % 2) half
-      ∙ ap (λ r. 2 * (cell.k * 2 ^ j + word / 2 ^ (16 - j)) + r) (sym bit) in
+      ap (λ n. cell.k * 2 ^ suc j + word / 2 ^ n) low ∙ half_nat cell.k (2 ^ j) (2 ^ suc j) w (w / 2) (w % 2) (word / 2 ^ (16 - j)) (bit_number (peeked_bit word j)) (pow-succ' 2 j) (div-add-mod' w 2) half bit in
       let bs : cell.b + suc j ≡ suc (cell.b + j) = omega arith in
       ap (λ k. record { k = k; b = cell.b + suc j }) ks ∙ ap (λ b. record { k = 2 * (cell.k * 2 ^ j + word / 2 ^ (16 - j)) + bit_number (peeked_bit word j); b = b }) bs
 
