@@ -11,3 +11,5 @@ pub mod ToldCounts
 pub mod FirstBounds
 pub mod FirstPlaces
 pub mod OtherRooms
+pub mod Halves
+pub mod FurtherCells

@@ -29,10 +29,10 @@ is_option None low room i from within upto = omega arith
 is_option (Some h) low room i from within upto = omega arith
 
 -- the number at a cell's begin lies in the cell
-abbrev begin : Cell → Fraction
+abbrev pub begin : Cell → Fraction
 begin cell = record { num = cell.k; den = 2 ^ cell.b; positive = pow_pos cell.b }
 
-begin-inside : (cell : Cell) → IsInCell cell.k cell.b (begin cell)
+pub begin-inside : (cell : Cell) → IsInCell cell.k cell.b (begin cell)
 begin-inside cell = record { from = omega arith; to = let pos = pow_pos cell.b in omega arith }
 
 -- a quotient and a divisor, both times a number

@@ -17,17 +17,14 @@ ghost use Rattle.count_draw.specs.Decision as decision;
 ghost use Rattle.count_draw.specs.Answer.{OnCount, OnOver, told_count, is_count_fault};
 
 use crate::cache::{KeptRows, KeptTables, NodeTables};
-use crate::choice::top_of;
 use crate::drawn_count::{CountDrawn, CountTaken};
-use crate::kind::{CountChoice, CountKind, Counted};
-use crate::partial_sums::CountSums;
-use bit_tape::tape::{BitAnswer, Tape};
+use crate::kind::{CountChoice, counted_at};
+use crate::leaps::{decide_by_rows, draw_by_rows};
+use bit_tape::tape::Tape;
 use bz_model::cell::Cell;
 use bz_model::oracle::Oracle;
 use bz_model::steps::Steps;
 use bz_outside::shelf::Shelf;
-use choice_draw::cells::{half_of, level_at};
-use class_system::expr::Expr;
 use class_system::ids::ExprId;
 use class_system::system::System;
 use std::sync::ledger::Ledger;
@@ -224,58 +221,6 @@ fn draw_by_tables<const F: u32, O: Oracle<F>, S: Shelf, L: Ledger>(
     drawn
 }
 
-/// Draws by rows of kept values: the first at level 1, the last at a higher level.
-fn draw_by_rows<const F: u32, O: Oracle<F>, S: Shelf, L: Ledger>(
-    system: &System,
-    node: ExprId,
-    room: u64,
-    rows: &mut [KeptRows],
-    oracle: &mut O,
-    tape: &mut Tape,
-    shelf: &mut S,
-    steps: &mut Steps<L>,
-) -> CountDrawn
-    requires fraction_bits { IsFractionBits F }
-    requires rows { 0 < length rows.old }
-    requires counted { IsCountedNode system.now node.0 }
-    requires room { room ≤ 1000000 }
-    requires spec { O.spec oracle.old ≡ system.now }
-    requires belongs { BelongsToShelf (S.content shelf.old) tape.old }
-
-    ensures drawn { IsDraw (count_decision system.now F (O.table oracle.old) node.0 room)
-        (bits_of_source tape.old.source (S.content shelf.old))
-        tape.old.used tape.new.used (told_count result tape.new.used) }
-    ensures ideal { OnCount result (λ i cell.
-        IsIdealOfCell system.now (O.x oracle.old) node.0 cell i) }
-    ensures over { OnOver result (λ cell.
-        IsOverOfCell system.now (O.x oracle.old) node.0 cell room) }
-    ensures in_range { OnCount result (λ i cell. IsInRange i (range_at system.now node.0)
-        × (i ≤ room)) }
-    ensures raised { O.raised oracle.new
-        ≡ max (O.raised oracle.old) (level_for (tape.new.used - tape.old.used)) }
-    ensures oracle { LeavesOracle O.spec O.x O.table O.cost O.raised
-        oracle.old oracle.new steps.old steps.new }
-    ensures tape { LeavesTape S.content S.faults
-        (is_count_fault result) shelf.old shelf.new tape.old
-        tape.new }
-{
-    oracle.known();
-    let counted = counted_at(system, node);
-    let mut cell = Cell { k: 0, b: 0 };
-    'bits: while cell.b < 60 {
-        match tape.next_bit(shelf) {
-            BitAnswer::Bit(bit) => cell = half_of(cell, bit),
-            BitAnswer::Ended => return CountDrawn::Ended,
-            BitAnswer::ReadFault => return CountDrawn::ReadFault,
-        }
-        oracle.raise(level_at(cell.b), steps);
-        if let Some(choice) = decide_by_rows(counted, node, room, cell, rows, oracle) {
-            return CountDrawn::of(choice, cell);
-        }
-    }
-    CountDrawn::Straddles { cell }
-}
-
 /// What a cell decides of a number of parts.
 ///
 /// It looks at the bounds of the cell's level, which is raised. `None` exactly where the cell
@@ -304,59 +249,4 @@ pub fn decide_count<const F: u32, O: Oracle<F>>(
     oracle.known();
     let counted = counted_at(system, node);
     decide_by_rows(counted, node, room, cell, &mut [KeptRows::empty()], oracle)
-}
-
-/// The sequence, set or cycle at a node.
-fn counted_at(system: &System, node: ExprId) -> Counted
-    requires counted { IsCountedNode system.now node.0 }
-    ensures node { node_at system.now node.0
-        ≡ Some (counted_node (series_of_kind result.kind) result.part.0) }
-    ensures range { range_at system.now node.0 ≡ Some (spec_range result.range) }
-    ensures suits { SuitsRange (series_of_kind result.kind) (spec_range result.range) }
-    ensures part { result.part.0 < length system.now.nodes }
-    ensures in_range { node.0 < length system.now.nodes }
-{
-    system.known();
-    let range = system.range(node);
-    let (kind, part) = match system.node(node) {
-        Expr::Seq(part) => (CountKind::Seq, *part),
-        Expr::Set(part) => (CountKind::Set, *part),
-        Expr::Cyc(part) => (CountKind::Cyc, *part),
-        _ => unreachable!(),
-    };
-    Counted { kind, part, range }
-}
-
-/// What a cell decides at this sequence, set or cycle, by the rows of its level.
-#[inline]
-fn decide_by_rows<const F: u32, O: Oracle<F>>(
-    counted: Counted,
-    node: ExprId,
-    room: u64,
-    cell: Cell,
-    rows: &mut [KeptRows],
-    oracle: &O,
-) -> Option<CountChoice>
-    requires fraction_bits { IsFractionBits F }
-    requires rows { 0 < length rows.old }
-    requires suits { SuitsRange (series_of_kind counted.kind) (spec_range counted.range) }
-    requires room { room ≤ 1000000 }
-    requires cell { IsCell cell.k cell.b }
-    requires node { node.0 < length (O.spec oracle.now).nodes }
-    requires part { counted.part.0 < length (O.spec oracle.now).nodes }
-    requires raised { level_of cell ≤ O.raised oracle.now }
-    ensures exact { chosen_if result ≡ count_choice (series_of_kind counted.kind) F
-        (spec_range counted.range)
-        (O.table oracle.now (level_of cell) counted.part.0)
-        (O.table oracle.now (level_of cell) node.0) room cell }
-{
-    let level = level_at(cell.b);
-    let part = oracle.bounds(counted.part.0, level)?;
-    let whole = oracle.bounds(node.0, level)?;
-    let Counted { kind, range, .. } = counted;
-    let top = top_of(range.high, room);
-    let sums = CountSums::<F>::new(kind, u64::from(range.low), part, whole, top);
-    let last = rows.len() - 1;
-    let at = last.min(usize::from(level) - 1);
-    rows[at].decide(&sums, range.high, room, cell)
 }

@@ -19,6 +19,7 @@ pub mod count;
 pub mod drawn_count;
 mod first_counts;
 pub mod kind;
+mod leaps;
 mod partial_sums;
 mod prefix_sums;
 pub mod table;

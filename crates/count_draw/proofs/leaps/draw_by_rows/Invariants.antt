@@ -4,7 +4,7 @@ use Rattle.bit_tape.specs.Tape.{LeavesTape, bits_of_source}
 use Rattle.choice_draw.specs.Decision.{level_for}
 use Rattle.choice_draw.proofs.GivenDraws.{IsUnderWay}
 use Rattle.count_draw.specs.Decision.{count_decision}
-use Rattle.count_draw.proofs.count.draw_by_rows.Given as goal
+use Rattle.count_draw.proofs.leaps.draw_by_rows.Given as goal
 
 -- the cell has the bits taken so far, their level is raised, and the draw over them goes on from it
 abbrev pub invariant-bits : goal.invariant-bits

@@ -4,8 +4,8 @@ use Rattle.bz_model.specs.Spec.{node_at}
 use Rattle.class_system.specs.Views.{spec_node, spec_range}
 use Rattle.count_draw.specs.Kinds.{series_of_kind, counted_node}
 use Rattle.count_draw.proofs.CountedNodes.{suits, node_inside, part_inside}
-use Rattle.count_draw.proofs.count.counted_at.Goals as goal
-use Rattle.count_draw.proofs.count.counted_at.Goals.{in-Seq, in-Set, in-Cyc}
+use Rattle.count_draw.proofs.kind.counted_at.Goals as goal
+use Rattle.count_draw.proofs.kind.counted_at.Goals.{in-Seq, in-Set, in-Cyc}
 
 pub returns-clause-suits : goal.returns-clause-suits
 returns-clause-suits c =
