@@ -1,21 +1,43 @@
 -- A draw of a whole number by bits that are read ahead.
-use Rattle.std.proofs.Common.{◌≡◌, ℕ, zero, suc, ◌+◌, ◌-◌, ◌*◌, ◌/◌, ◌^◌, ◌<◌, ◌≤◌, cond, arith, refl, sym, ◌∙◌, ap, subst, Bool, Option, Some, None}
+use Rattle.std.proofs.Common.{◌≡◌, ℕ, zero, suc, ◌+◌, ◌-◌, ◌*◌, ◌/◌, ◌^◌, ◌<◌, ◌≤◌, cond, ◌⊎◌, inl, inr, arith, refl, sym, ◌∙◌, ap, subst, Bool, Option, Some, None}
 use Rattle.std.specs.Prelude.{IfSome}
-use Rattle.std.proofs.Math.Nat.{div-mul-le_self}
+use Rattle.std.proofs.Math.Nat.{div-mul-le_self, mul-le-mul_right}
 use Rattle.std.proofs.Math.Pow.{pow_mono}
-use Rattle.std.proofs.lemmas.Bool.{lt-leb}
-use Rattle.std.proofs.lemmas.Nat.{pow-add, div_below, pow_pos}
+use Rattle.std.proofs.lemmas.Bool.{lt-leb, cases_lt}
+use Rattle.std.proofs.lemmas.Nat.{pow-add, div_below, pow_pos, leading_top}
+use lib.Count.{count_leading_zeros}
 use Rattle.bz_model.specs.declared.cell.Cell.{Cell}
 use Rattle.bz_model.specs.Cell.{IsCell}
 use Rattle.bit_tape.specs.Bits.{peeked_bit}
-use Rattle.choice_draw.specs.Draw.{Draw, halved}
+use Rattle.choice_draw.specs.Draw.{Draw, bit_number, halved}
 use Rattle.choice_draw.specs.Decision.{whole_decision}
 use Rattle.choice_draw.specs.Answer.{IsDraw}
-use Rattle.choice_draw.specs.Whole.{peeked_cell}
+use Rattle.choice_draw.specs.Whole.{IsSeen, peeked_cell}
 use Rattle.choice_draw.proofs.ToldDraws.{on_some}
 use Rattle.choice_draw.proofs.DrawsOn.{whole_cell}
 use Rattle.choice_draw.proofs.GivenDraws.{IsUnderWay, draw-begins, draw-on, draw-decides}
 use Rattle.choice_draw.proofs.LeastDrawn.{none-above, next-number}
+
+-- a number's place by the digits of the number before it
+pub open-bits : (m b : ℕ) → 2 ≤ m → m < 2 ^ 64 → b ≡ 63 - count_leading_zeros 64 (m - 1) → (2 ^ b < m) × (m ≤ 2 ^ (b + 1))
+open-bits m b two below is =
+    let t = leading_top 64 (m - 1) (omega arith) (omega arith) in
+    let digits = t.1 in
+    let from = t.2 in
+    let to = t.3 in
+    let same : b ≡ t.0 = omega (arith, is, digits) in
+    let here : 2 ^ b ≡ 2 ^ t.0 = ap (λ n. 2 ^ n) same in
+    let next : 2 ^ (b + 1) ≡ 2 ^ suc t.0 = ap (λ n. 2 ^ n) (let e : b + 1 ≡ suc t.0 = omega (arith, same) in e) in
+    (omega (arith, here, from, two), omega (arith, next, to, two))
+
+-- the end of a short cell's whole number fits
+pub short-end : (k b m w : ℕ) → k < 2 ^ b → b ≤ 16 → m ≤ 1000000 → w ≡ 2 ^ b → (k * m / 2 ^ b + 1) * w < 2 ^ 64
+short-end k b m w below few most is =
+    let wide : 2 ^ b ≤ 2 ^ 16 = pow_mono few in
+    let begin : k * m / 2 ^ b * 2 ^ b ≤ k * m = div-mul-le_self (k * m) (2 ^ b) in
+    let short : k ≤ 65536 = omega (arith, wide, below) in
+    let product : k * m ≤ 65536 * m = mul-le-mul_right m short in
+    subst (λ n. (k * m / 2 ^ b + 1) * n < 2 ^ 64) (sym is) (omega (arith, begin, product, wide, most))
 
 -- a cell that is wider than a whole number's share decides none
 pub too-wide : (m k b : ℕ) → 2 ^ b < m → whole_decision m (record { k = k; b = b }) ≡ None
@@ -24,8 +46,33 @@ too-wide m k b wide =
     ap (λ t. cond t (Some (k * m / 2 ^ b)) None) (lt-leb (suc k * m) (suc (k * m / 2 ^ b) * 2 ^ b) (omega (arith, begin)))
 
 -- so do the cells of fewer bits
-pub few-open : (m word open b : ℕ) → 2 ^ open < m → b ≤ open → whole_decision m (peeked_cell word b) ≡ None
-few-open m word open b wide few = too-wide m (word / 2 ^ (16 - b)) b (let le : 2 ^ b ≤ 2 ^ open = pow_mono few in omega arith)
+pub few-open : (m word width b : ℕ) → 2 ^ width < m → b ≤ width → whole_decision m (peeked_cell word b) ≡ None
+few-open m word width b wide few = too-wide m (word / 2 ^ (16 - b)) b (let le : 2 ^ b ≤ 2 ^ width = pow_mono few in omega arith)
+
+-- none of one bit more, where none of these and not that
+pub none-more : (m word b : ℕ) (cell : Cell) → ((j : ℕ) → j ≤ b → whole_decision m (peeked_cell word j) ≡ None) → cell ≡ peeked_cell word (suc b) → whole_decision m cell ≡ None → (j : ℕ) → j ≤ suc b → whole_decision m (peeked_cell word j) ≡ None
+none-more m word b cell before is undecided j few = either (cases_lt j (suc b))
+  where
+    either : (j < suc b) ⊎ (suc b ≤ j) → whole_decision m (peeked_cell word j) ≡ None
+    either (inl less) = before j (omega arith)
+    either (inr more) = subst (λ n. whole_decision m (peeked_cell word n) ≡ None) (let e : suc b ≡ j = omega arith in e) (ap (whole_decision m) (sym is) ∙ undecided)
+
+cell-bits : (word b : ℕ) (cell : Cell) → cell ≡ peeked_cell word b → cell.b ≡ b
+cell-bits word b cell is = ap (λ c. c.b) is
+
+cell-first : (word b : ℕ) (cell : Cell) → cell ≡ peeked_cell word b → cell ≡ peeked_cell word cell.b
+cell-first word b cell is = is ∙ ap (peeked_cell word) (sym (cell-bits word b cell is))
+
+-- what is seen where a bit decides, and where none does
+pub seen-decided : (m word n b : ℕ) (cell : Cell) (value : ℕ) → ((j : ℕ) → j ≤ b → whole_decision m (peeked_cell word j) ≡ None) → cell ≡ peeked_cell word (suc b) → b < n → Some value ≡ whole_decision m cell → IsSeen m word n cell (Some value)
+seen-decided m word n b cell value before is held decided =
+    let bits : cell.b ≡ suc b = cell-bits word (suc b) cell is in
+    record { first = cell-first word (suc b) cell is; held = omega (arith, bits, held); exact = decided; none_before = λ j less. before j (omega (arith, bits, less)); all = tt }
+
+pub seen-open : (m word n b : ℕ) (cell : Cell) → ((j : ℕ) → j ≤ b → whole_decision m (peeked_cell word j) ≡ None) → cell ≡ peeked_cell word b → b ≡ n → IsSeen m word n cell None
+seen-open m word n b cell before is held =
+    let bits : cell.b ≡ b = cell-bits word b cell is in
+    record { first = cell-first word b cell is; held = omega (arith, bits, held); exact = sym (ap (whole_decision m) is ∙ before b (omega arith)); none_before = λ j less. before j (omega (arith, bits, less)); all = bits ∙ held }
 
 -- the first b of sixteen bits are a number below 2^b
 pub peeked-below : (word b : ℕ) → word < 65536 → b ≤ 16 → word / 2 ^ (16 - b) < 2 ^ b
@@ -39,7 +86,7 @@ half-peeked : (word b : ℕ) → b < 16 → peeked_cell word (suc b) ≡ halved 
 half-peeked word b few =
     let more : suc (15 - b) ≡ 16 - b = omega arith in
     let less : 15 - b ≡ 16 - suc b = omega arith in
-    sym (ap (λ k. record { k = k; b = suc b }) (subst (λ n. 2 * (word / 2 ^ n) + _ ≡ word / 2 ^ (15 - b)) more (next-number word (15 - b)) ∙ ap (λ n. word / 2 ^ n) less))
+    sym (ap (λ k. record { k = k; b = suc b }) (subst (λ n. 2 * (word / 2 ^ n) + bit_number (peeked_bit word b) ≡ word / 2 ^ (15 - b)) more (next-number word (15 - b)) ∙ ap (λ n. word / 2 ^ n) less))
 
 module _ {A : Type 0} (decide : Cell → Option A) (told : Option (ℕ → Option Bool)) (start word n : ℕ) (short : word < 65536) (most : n ≤ 16) (shown : IfSome told (λ bits. (i : ℕ) → i < n → bits (start + i) ≡ Some (peeked_bit word i))) where
   no-bits : whole_cell ≡ peeked_cell word 0
@@ -71,8 +118,8 @@ module _ {A : Type 0} (decide : Cell → Option A) (told : Option (ℕ → Optio
   pub shown-on : (cell : Cell) (used : ℕ) → cell ≡ peeked_cell word cell.b → cell.b ≤ n → ((j : ℕ) → j < cell.b → decide (peeked_cell word j) ≡ None) → decide cell ≡ None → used ≡ start + cell.b → IsUnderWay decide told start cell used
   shown-on cell used first held none undecided is_used =
       subst (λ c. IsUnderWay decide told start c used) (sym first) (subst (λ p. IsUnderWay decide told start (peeked_cell word cell.b) p) (sym is_used)
-      (shown-way cell.b held (λ j few. either j (cases_lt j cell.b))))
+      (shown-way cell.b held (λ j few. either j few (cases_lt j cell.b))))
     where
-      either : (j : ℕ) → (j < cell.b) ⊎ (cell.b ≤ j) → decide (peeked_cell word j) ≡ None
-      either j (inl less) = none j less
-      either j (inr not) = subst (λ n. decide (peeked_cell word n) ≡ None) (let e : cell.b ≡ j = omega arith in e) (ap decide (sym first) ∙ undecided)
+      either : (j : ℕ) → j ≤ cell.b → (j < cell.b) ⊎ (cell.b ≤ j) → decide (peeked_cell word j) ≡ None
+      either j few (inl less) = none j less
+      either j few (inr not) = subst (λ n. decide (peeked_cell word n) ≡ None) (let e : cell.b ≡ j = omega arith in e) (ap decide (sym first) ∙ undecided)
