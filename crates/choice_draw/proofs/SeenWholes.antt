@@ -81,6 +81,9 @@ peeked-below word b short few =
     let all : 2 ^ (b + (16 - b)) ≡ 65536 = ap (λ n. 2 ^ n) (let e : b + (16 - b) ≡ 16 = omega arith in e) in
     div_below word (2 ^ (16 - b)) (2 ^ b) (pow_pos (16 - b)) (omega (arith, parts, all))
 
+pub shown-below : (word : ℕ) (cell : Cell) → word < 65536 → cell ≡ peeked_cell word cell.b → cell.b ≤ 16 → cell.k < 2 ^ cell.b
+shown-below word cell short first few = subst (λ n. n < 2 ^ cell.b) (sym (ap (λ c. c.k) first)) (peeked-below word cell.b short few)
+
 -- one bit more of the sixteen halves the cell
 half-peeked : (word b : ℕ) → b < 16 → peeked_cell word (suc b) ≡ halved (peeked_cell word b) (peeked_bit word b)
 half-peeked word b few =
