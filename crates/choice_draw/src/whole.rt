@@ -42,7 +42,10 @@ pub fn draw_whole<S: Shelf>(m: u64, tape: &mut Tape, shelf: &mut S) -> Drawn
     let mut cell = seen.cell;
     tape.skip(cell.b);
     if let Some(value) = seen.value {
-        return Drawn::Value { value, cell };
+        return Drawn::Value {
+            value,
+            cell: seen.cell,
+        };
     }
     'bits: while cell.b < 60 {
         match tape.next_bit(shelf) {

@@ -1,6 +1,6 @@
 -- The bits decide nothing up to the first that do.
-use Rattle.std.proofs.Common.{arith, sym}
-use Rattle.choice_draw.proofs.SeenWholes.{few-open, none-more}
+use Rattle.std.proofs.Common.{arith}
+use Rattle.choice_draw.proofs.SeenWholes.{few-open}
 use Rattle.choice_draw.proofs.whole.look_ahead.Goals as goal
 
 pub bits-init : goal.bits-init
