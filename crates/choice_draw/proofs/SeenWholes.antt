@@ -12,7 +12,7 @@ use Rattle.bit_tape.specs.Bits.{peeked_bit}
 use Rattle.choice_draw.specs.Draw.{Draw, bit_number, halved}
 use Rattle.choice_draw.specs.Decision.{whole_decision}
 use Rattle.choice_draw.specs.Answer.{IsDraw}
-use Rattle.choice_draw.specs.Whole.{IsSeen, peeked_cell}
+use Rattle.choice_draw.specs.Whole.{peeked_cell}
 use Rattle.choice_draw.proofs.ToldDraws.{on_some}
 use Rattle.choice_draw.proofs.DrawsOn.{whole_cell}
 use Rattle.choice_draw.proofs.GivenDraws.{IsUnderWay, draw-begins, draw-on, draw-decides}
@@ -48,31 +48,6 @@ too-wide m k b wide =
 -- so do the cells of fewer bits
 pub few-open : (m word width b : ℕ) → 2 ^ width < m → b ≤ width → whole_decision m (peeked_cell word b) ≡ None
 few-open m word width b wide few = too-wide m (word / 2 ^ (16 - b)) b (let le : 2 ^ b ≤ 2 ^ width = pow_mono few in omega arith)
-
--- none of one bit more, where none of these and not that
-pub none-more : (m word b : ℕ) (cell : Cell) → ((j : ℕ) → j ≤ b → whole_decision m (peeked_cell word j) ≡ None) → cell ≡ peeked_cell word (suc b) → whole_decision m cell ≡ None → (j : ℕ) → j ≤ suc b → whole_decision m (peeked_cell word j) ≡ None
-none-more m word b cell before is undecided j few = either (cases_lt j (suc b))
-  where
-    either : (j < suc b) ⊎ (suc b ≤ j) → whole_decision m (peeked_cell word j) ≡ None
-    either (inl less) = before j (omega arith)
-    either (inr more) = subst (λ n. whole_decision m (peeked_cell word n) ≡ None) (let e : suc b ≡ j = omega arith in e) (ap (whole_decision m) (sym is) ∙ undecided)
-
-cell-bits : (word b : ℕ) (cell : Cell) → cell ≡ peeked_cell word b → cell.b ≡ b
-cell-bits word b cell is = ap (λ c. c.b) is
-
-cell-first : (word b : ℕ) (cell : Cell) → cell ≡ peeked_cell word b → cell ≡ peeked_cell word cell.b
-cell-first word b cell is = is ∙ ap (peeked_cell word) (sym (cell-bits word b cell is))
-
--- what is seen where a bit decides, and where none does
-pub seen-decided : (m word n b : ℕ) (cell : Cell) (value : ℕ) → ((j : ℕ) → j ≤ b → whole_decision m (peeked_cell word j) ≡ None) → cell ≡ peeked_cell word (suc b) → b < n → Some value ≡ whole_decision m cell → IsSeen m word n cell (Some value)
-seen-decided m word n b cell value before is held decided =
-    let bits : cell.b ≡ suc b = cell-bits word (suc b) cell is in
-    record { first = cell-first word (suc b) cell is; held = omega (arith, bits, held); exact = decided; none_before = λ j less. before j (omega (arith, bits, less)); all = tt }
-
-pub seen-open : (m word n b : ℕ) (cell : Cell) → ((j : ℕ) → j ≤ b → whole_decision m (peeked_cell word j) ≡ None) → cell ≡ peeked_cell word b → b ≡ n → IsSeen m word n cell None
-seen-open m word n b cell before is held =
-    let bits : cell.b ≡ b = cell-bits word b cell is in
-    record { first = cell-first word b cell is; held = omega (arith, bits, held); exact = sym (ap (whole_decision m) is ∙ before b (omega arith)); none_before = λ j less. before j (omega (arith, bits, less)); all = bits ∙ held }
 
 -- the first b of sixteen bits are a number below 2^b
 pub peeked-below : (word b : ℕ) → word < 65536 → b ≤ 16 → word / 2 ^ (16 - b) < 2 ^ b
