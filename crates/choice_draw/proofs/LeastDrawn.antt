@@ -23,7 +23,7 @@ with-lowest q =
     ap (λ n. 2 * (q / 2) + n) low ∙ (let e : 2 * (q / 2) + q % 2 ≡ q = omega (arith, parts) in e)
 
 -- one bit more of a number
-next-number : (k m : ℕ) → 2 * (k / 2 ^ suc m) + bit_number (eqb (k / 2 ^ m % 2) 1) ≡ k / 2 ^ m
+pub next-number : (k m : ℕ) → 2 * (k / 2 ^ suc m) + bit_number (eqb (k / 2 ^ m % 2) 1) ≡ k / 2 ^ m
 next-number k m =
     let twice : 2 ^ suc m ≡ 2 * 2 ^ m = pow-succ' 2 m in
     let turned : 2 ^ suc m ≡ 2 ^ m * 2 = omega (arith, twice) in
@@ -86,7 +86,7 @@ module _ {A : Type 0} (decide : Cell → Option A) (bits : ℕ → Option Bool) 
         ∙ drawn-from m n (suc j) (suc place) (omega arith) (omega arith) have.1 (fails-on fault place (suc m) later)
 
 -- a number below 2^b has no bit above the b-th
-none-above : (k w : ℕ) → k < w → 0 ≡ k / w
+pub none-above : (k w : ℕ) → k < w → 0 ≡ k / w
 none-above k w below = sym (ap (λ n. n / w) (let e : k ≡ 0 * w + k = omega arith in e) ∙ div-mul-add 0 w k below)
 
 -- A cell of the least number of bits that decides is drawn with its answer, if the shelf doesn't

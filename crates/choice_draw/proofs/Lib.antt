@@ -15,3 +15,4 @@ pub mod LeastDrawn
 pub mod SpelledDraws
 pub mod KeptBounds
 pub mod KeptDraws
+pub mod SeenWholes
