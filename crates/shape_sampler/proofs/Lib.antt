@@ -10,3 +10,4 @@ pub mod FreeParts
 pub mod CountVisits
 pub mod PlainMoves
 pub mod Moves
+pub mod CountMoves

@@ -28,7 +28,7 @@ use Rattle.shape_sampler.proofs.PlainMoves.{atom-move}
 use Rattle.shape_sampler.proofs.Union.{Settled, same-state, union-leaves, union-draws, union-session, answer-by-bits}
 
 -- a list with a first item isn't empty
-some-pending : (es : List ℕ) (e : ℕ) → slice_get es 0 ≡ Some e → es ≢ []
+pub some-pending : (es : List ℕ) (e : ℕ) → slice_get es 0 ≡ Some e → es ≢ []
 some-pending es e first none = let f = front es e first in let whole = f.whole in absurd (cc)
 
 -- a pending node is below what all of them are below
@@ -59,7 +59,7 @@ all-visit s before now e n visited first at looks p = record { same = same }
 
 module _ (s : Spec) (x : Fraction) (F : ℕ) (table : (level e : ℕ) → Bounds) (raised : ℕ) where
   -- one move
-  one-move : (before : SessionState) (tape : TapeState) (now : SessionState) (tape_now : TapeState) → Leaves Moved before now → SessionBelongs s x now → tape_now.source ≡ tape.source → tape.used ≤ tape_now.used → ((contents : List ℕ → Option (List ℕ)) → BelongsToShelf contents tape → BelongsToShelf contents tape_now) → ((contents : List ℕ → Option (List ℕ)) → BelongsToShelf contents tape → IsMove s x F table (bits_of_source tape.source contents) raised before tape.used now tape_now.used) → MovesOn s x F table raised 1 before tape now tape_now
+  pub one-move : (before : SessionState) (tape : TapeState) (now : SessionState) (tape_now : TapeState) → Leaves Moved before now → SessionBelongs s x now → tape_now.source ≡ tape.source → tape.used ≤ tape_now.used → ((contents : List ℕ → Option (List ℕ)) → BelongsToShelf contents tape → BelongsToShelf contents tape_now) → ((contents : List ℕ → Option (List ℕ)) → BelongsToShelf contents tape → IsMove s x F table (bits_of_source tape.source contents) raised before tape.used now tape_now.used) → MovesOn s x F table raised 1 before tape now tape_now
   one-move before tape now tape_now leaves session source used belongs move = record {
     moves = λ contents h. AreMoves.further (AreMoves.still refl refl) (move contents h);
     session = session;

@@ -5,11 +5,12 @@ ghost use Rattle.bz_model.specs.Fraction.{IsFractionBits};
 ghost use Rattle.bz_model.specs.Spec.{Node, node_at};
 ghost use Rattle.bit_tape.specs.Tape.{BelongsToShelf, bits_of_source};
 ghost use Rattle.class_system.specs.Views.{number};
-ghost use Rattle.shape_sampler.specs.State.{SessionBelongs};
+ghost use Rattle.shape_sampler.specs.State.{HasCountedPart, SessionBelongs};
 ghost use Rattle.shape_sampler.specs.Visit.{leaf_visited};
 ghost use Rattle.shape_sampler.specs.Answer.{IsPlainVisit, replaced_by};
 ghost use Rattle.shape_sampler.specs.Ahead.{AreMoves, MovesOn, TakesAtoms};
 
+use crate::counted::{put_counted, room_for};
 use crate::placing::{
     drop_first, put_dots, put_drawn, put_first, put_token, replace_first, reserve_drawn,
 };
@@ -22,6 +23,8 @@ use choice_draw::kept::draw_ahead;
 use class_system::expr::Expr;
 use class_system::ids::ExprId;
 use class_system::system::System;
+use count_draw::count::draw_count_ahead;
+use count_draw::drawn_count::CountDrawn;
 use object_store::token::Token;
 use well_founded::examination::Founded;
 
@@ -81,7 +84,7 @@ impl Session {
         let system = founded.system();
         let mut made = 0;
         'moves: while made < most {
-            let moved = self.move_first(system, oracle, tape, most - made);
+            let moved = self.move_first(founded, system, oracle, tape, most - made);
             if moved == 0 {
                 break;
             }
@@ -96,6 +99,7 @@ impl Session {
     #[inline(always)]
     fn move_first<const F: u32, O: Oracle<F>>(
         &mut self,
+        founded: &Founded,
         system: &System,
         oracle: &O,
         tape: &mut Tape,
@@ -103,6 +107,7 @@ impl Session {
     ) -> u64
         requires fraction_bits { IsFractionBits F }
         requires spec { O.spec oracle.now ≡ system.now }
+        requires founded { founded.now ≡ system.now }
         requires running { self.old.stopped ≡ None }
         requires session { SessionBelongs system.now (O.x oracle.now) self.old }
         requires some { 0 < most }
@@ -122,7 +127,9 @@ impl Session {
             Expr::Union(parts) => {
                 moves_of(self.move_union(system, node, parts.items(), oracle, tape))
             }
-            Expr::Seq(_) | Expr::Set(_) | Expr::Cyc(_) => 0,
+            Expr::Seq(part) | Expr::Set(part) | Expr::Cyc(part) => {
+                moves_of(self.move_counted(founded, node, *part, oracle, tape))
+            }
         }
     }
 
@@ -230,6 +237,54 @@ impl Session {
             &mut self.shape,
             &mut self.cells,
             parts,
+            drawn,
+        );
+        true
+    }
+
+    /// A sequence, set or cycle whose number of parts is decided by bits that are read ahead adds
+    /// it, and puts the part in its place so often, where more nodes are pending.
+    #[inline]
+    fn move_counted<const F: u32, O: Oracle<F>>(
+        &mut self,
+        founded: &Founded,
+        node: ExprId,
+        part: ExprId,
+        oracle: &O,
+        tape: &mut Tape,
+    ) -> bool
+        requires fraction_bits { IsFractionBits F }
+        requires spec { O.spec oracle.now ≡ founded.now }
+        requires counted { HasCountedPart founded.now node.0 part.0 }
+        requires running { self.old.stopped ≡ None }
+        requires first { slice_get self.old.pending 0 ≡ Some node.0 }
+        requires session { SessionBelongs founded.now (O.x oracle.now) self.old }
+        ensures moved { IsTrue result → MovesOn founded.now (O.x oracle.now) F (O.table oracle.now)
+            (O.raised oracle.now) 1 self.old tape.old self.new tape.new }
+        ensures left { IsFalse result → (self.new ≡ self.old) × (tape.new ≡ tape.old) }
+    {
+        if !self.pending.has_more() {
+            return false;
+        }
+        if reserve_drawn(&mut self.pending, &mut self.shape, &mut self.cells).is_err() {
+            return false;
+        }
+        founded.known();
+        let system = founded.system();
+        system.known();
+        let room = room_for(founded, part, self.room);
+        let Some(taken) = draw_count_ahead(system, node, room, &self.kept, oracle, tape) else {
+            return false;
+        };
+        let drawn = CountDrawn::Count {
+            value: taken.count,
+            cell: taken.cell,
+        };
+        put_counted(
+            &mut self.pending,
+            &mut self.shape,
+            &mut self.cells,
+            part,
             drawn,
         );
         true

@@ -49,7 +49,7 @@ pub struct Session {
     pub(crate) room: u64,
     pub(crate) stopped: Option<Stepped>,
     // What draws keep for later ones, whatever the attempt.
-    kept: KeptTables,
+    pub(crate) kept: KeptTables,
     pub(crate) unions: KeptUnions,
 }
 

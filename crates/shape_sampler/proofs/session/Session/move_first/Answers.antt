@@ -1,5 +1,6 @@
 -- Each kind of node that moves on.
 use Rattle.std.proofs.Common.{◌≡◌, ◌≤◌, ◌∷◌, [], length, map, slice_get, Some, refl, sym, ◌∙◌, ap, subst}
+use Rattle.std.specs.Prelude.{IsTrue}
 use Rattle.bz_model.specs.Spec.{Node}
 use Rattle.class_system.specs.Views.{number, spec_node}
 use Rattle.object_store.proofs.InRange.{class-known}
@@ -7,6 +8,7 @@ use Rattle.shape_sampler.specs.declared.stepped.Stepped.TheVariants.{Moved}
 use Rattle.shape_sampler.specs.State.{SessionState, attempt_of}
 use Rattle.shape_sampler.specs.Visit.{leaf_visited}
 use Rattle.shape_sampler.specs.Answer.{replaced_by}
+use Rattle.shape_sampler.specs.Ahead.{MovesOn}
 use Rattle.shape_sampler.proofs.Ideal.{ideal-leaf, ideal-class, ideal-product}
 use Rattle.shape_sampler.proofs.Plain.{class-visit, few-parts}
 use Rattle.shape_sampler.proofs.Moves.{first-below, all-visit, plain-moves, told-moves, none-moved, atoms-moves}
@@ -85,10 +87,12 @@ pub returns-in-Union-clause-moved : goal.returns-in-Union-clause-moved
 returns-in-Union-clause-moved g c = told-moves c.args.system.now (g.O.Oracle.x c.args.oracle.now) g.row.F (g.O.Oracle.table c.args.oracle.now) (g.O.Oracle.raised c.args.oracle.now) c.move_union.result c.moves_of-in-Union.result c.args.self.now c.move_union.new.self c.args.tape.now c.move_union.new.tape c.moves_of-in-Union.ensures.one c.moves_of-in-Union.ensures.none c.requires.running c.requires.session c.move_union.ensures.moved c.move_union.ensures.left
 
 pub returns-in-Seq-clause-moved : goal.returns-in-Seq-clause-moved
-returns-in-Seq-clause-moved g c = none-moved c.args.system.now (g.O.Oracle.x c.args.oracle.now) g.row.F (g.O.Oracle.table c.args.oracle.now) (g.O.Oracle.raised c.args.oracle.now) c.args.self.now c.args.tape.now c.requires.running c.requires.session
-
-pub returns-in-Seq-2-clause-moved : goal.returns-in-Seq-2-clause-moved
-returns-in-Seq-2-clause-moved g c = none-moved c.args.system.now (g.O.Oracle.x c.args.oracle.now) g.row.F (g.O.Oracle.table c.args.oracle.now) (g.O.Oracle.raised c.args.oracle.now) c.args.self.now c.args.tape.now c.requires.running c.requires.session
-
-pub returns-in-Seq-3-clause-moved : goal.returns-in-Seq-3-clause-moved
-returns-in-Seq-3-clause-moved g c = none-moved c.args.system.now (g.O.Oracle.x c.args.oracle.now) g.row.F (g.O.Oracle.table c.args.oracle.now) (g.O.Oracle.raised c.args.oracle.now) c.args.self.now c.args.tape.now c.requires.running c.requires.session
+returns-in-Seq-clause-moved g c =
+    let x = g.O.Oracle.x c.args.oracle.now in
+    let table = g.O.Oracle.table c.args.oracle.now in
+    let raised = g.O.Oracle.raised c.args.oracle.now in
+    let before = c.args.self.now in
+    let tape = c.args.tape.now in
+    told-moves c.args.system.now x g.row.F table raised c.move_counted.result c.moves_of-in-Seq.result before c.move_counted.new.self tape c.move_counted.new.tape c.moves_of-in-Seq.ensures.one c.moves_of-in-Seq.ensures.none c.requires.running c.requires.session
+    (subst (λ s. IsTrue c.move_counted.result → MovesOn s x g.row.F table raised 1 before tape c.move_counted.new.self c.move_counted.new.tape) c.requires.founded c.move_counted.ensures.moved)
+    c.move_counted.ensures.left
