@@ -130,7 +130,8 @@ kept-more kept old new option cell same before takes inside outside = record {
       (cases_lt eleven (cell.k * (2048 / 2 ^ cell.b)));
 }
 
-nothing_at : {A : Type 0} (a : A) (n i : ℕ) → get_or (replicate n a) i a ≡ a
+-- A list that repeats one item has it at each place, and past its end where it stands for none.
+pub nothing_at : {A : Type 0} (a : A) (n i : ℕ) → get_or (replicate n a) i a ≡ a
 nothing_at a zero zero = refl
 nothing_at a zero (suc i) = refl
 nothing_at a (suc n) zero = refl

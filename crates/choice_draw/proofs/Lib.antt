@@ -16,3 +16,7 @@ pub mod SpelledDraws
 pub mod KeptBounds
 pub mod KeptDraws
 pub mod SeenWholes
+pub mod Halves
+pub mod FurtherCells
+pub mod UnionHalves
+pub mod Comparing

@@ -5,3 +5,6 @@ pub mod Draw
 pub mod Answer
 pub mod LeastCell
 pub mod KeptChoices
+pub mod Further
+pub mod Marks
+pub mod Compared

@@ -3,6 +3,7 @@ ghost use Rattle.std.specs.Prelude.{◌≡◌, ◌+◌, ◌^◌, ◌<◌, ◌≤
 ghost use Rattle.bz_model.specs.Cell.{IsCell};
 ghost use Rattle.choice_draw.specs.Decision.{level_for};
 ghost use Rattle.choice_draw.specs.Draw.{halved};
+ghost use Rattle.choice_draw.specs.Further.{further_cell};
 
 use bz_model::cell::Cell;
 
@@ -38,5 +39,21 @@ pub fn half_of(cell: Cell, bit: bool) -> Cell
     Cell {
         k: 2 * cell.k + u64::from(bit),
         b: cell.b + 1,
+    }
+}
+
+/// The cell of a cell's bits and of the first of sixteen further ones. Takes no memory.
+#[inline]
+pub fn further(cell: Cell, word: u16, bits: u32) -> Cell
+    requires cell { IsCell cell.k cell.b }
+    requires few { bits ≤ 16 }
+    requires total { cell.b + bits ≤ 60 }
+    ensures exact { result ≡ further_cell cell word bits }
+    ensures cell { IsCell result.k result.b }
+{
+    let first = u64::from(word) >> (16 - bits);
+    Cell {
+        k: (cell.k << bits) + first,
+        b: cell.b + bits,
     }
 }

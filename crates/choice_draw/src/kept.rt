@@ -1,8 +1,9 @@
 //! Choices at the unions of a system, kept from draw to draw.
 ghost use Rattle.std.specs.Prelude.{◌≡◌, ℕ, ◌-◌, ◌*◌, ◌/◌, ◌^◌, ◌<◌, ◌≤◌, ◌⊎◌, max, map};
 ghost use Rattle.std.specs.Prelude.{length, List, Option, IsTrue, IfSome, IfNone, vec_len};
+ghost use Rattle.std.specs.Prelude.{slice_index_or, Some};
 ghost use Rattle.bz_model.specs.Fraction.{IsFractionBits};
-ghost use Rattle.bz_model.specs.Spec.{node_at};
+ghost use Rattle.bz_model.specs.Spec.{Node, node_at};
 ghost use Rattle.bz_model.specs.Cell.{IsCell};
 ghost use Rattle.bz_model.specs.Oracle.{LeavesOracle};
 ghost use Rattle.class_system.specs.Views.{number};
@@ -14,9 +15,11 @@ ghost use Rattle.choice_draw.specs.Draw.{Draw};
 ghost use Rattle.choice_draw.specs.IdealOfCell.{IsIdealOfCell};
 ghost use Rattle.choice_draw.specs.Answer.{IsDraw, OnValue, told_draw, is_draw_fault};
 ghost use Rattle.choice_draw.specs.KeptChoices.{TakesFirst, AreFor, choice_by, kept_at};
+ghost use Rattle.choice_draw.specs.Compared.{AreCompared, kept_for};
 
 use crate::drawn::Drawn;
 use crate::level_bounds::LevelBounds;
+use crate::marks::Marks;
 use crate::union::{draw_union, parts_of};
 use bit_tape::tape::{Peeked, Tape};
 use bz_model::cell::Cell;
@@ -230,10 +233,20 @@ impl KeptUnions {
         Ok(KeptUnions { places, tables })
     }
 
+    /// Nothing, for no system. Takes no memory.
+    pub fn none(alloc: Global) -> KeptUnions {
+        KeptUnions {
+            places: Vec::new(alloc),
+            tables: Vec::new(alloc),
+        }
+    }
+
     /// Where the table of a node stands; `None` where it has none.
     #[inline]
     fn place_of(&self, node: ExprId) -> Option<usize>
         ensures inside { IfSome result (λ place. place < vec_len self.now.tables) }
+        ensures place { IfSome result (λ place.
+            slice_index_or self.now.places.items node.0 0 ≡ place) }
     {
         let place = *self.places.get(node.0 as usize)?;
         if place < self.tables.len() {
@@ -241,6 +254,45 @@ impl KeptUnions {
         } else {
             None
         }
+    }
+
+    /// Whether the table of a union, which stands at this place, has the oracle's bounds at the
+    /// levels that cells of up to so many bits are looked at on, which are raised.
+    ///
+    /// On level 1 they are compared where the union isn't marked, and it is marked where they are
+    /// the same.
+    #[inline]
+    fn is_for<const F: u32, O: Oracle<F>>(
+        &self,
+        place: usize,
+        parts: &[ExprId],
+        node: ExprId,
+        bits: u32,
+        marks: &mut Marks,
+        oracle: &O,
+    ) -> bool
+        requires inside { place < vec_len self.now.tables }
+        requires place { slice_index_or self.now.places.items node.0 0 ≡ place }
+        requires node { node.0 < length (O.spec oracle.now).nodes }
+        requires parts { Each (λ p. p.0 < length (O.spec oracle.now).nodes) parts.now }
+        requires union { map number parts.now ≡ union_parts (node_at (O.spec oracle.now) node.0) }
+        requires few { bits ≤ 11 }
+        requires compared { AreCompared (O.spec oracle.now) (O.table oracle.now)
+            (O.raised oracle.now) self.now marks.old }
+        ensures bounds { IsTrue result → AreFor (O.table oracle.now) node.0 (map number parts.now)
+            bits (kept_for self.now node.0) }
+        ensures raised { IsTrue result → level_for bits ≤ O.raised oracle.now }
+        ensures compared { AreCompared (O.spec oracle.now) (O.table oracle.now)
+            (O.raised oracle.now) self.now marks.new }
+    {
+        let table = &self.tables[place];
+        if !marks.has(node) {
+            if !table.first.is_for(parts, node, 1, oracle) {
+                return false;
+            }
+            marks.put(node);
+        }
+        bits <= LEVEL_BITS || table.second.is_for(parts, node, 2, oracle)
     }
 
     /// Keeps what a draw at a union took by its first bits.
@@ -268,19 +320,24 @@ impl KeptUnions {
 /// Draws the number of a union's part, as `draw_union` does, where kept choices tell it by the bits
 /// that the tape has read ahead.
 ///
-/// `None`, and nothing changes, where they don't. Raises no level, asks no shelf and takes no
-/// memory.
+/// `None`, and tape and tables stay as they are, where they don't. Raises no level, asks no shelf and
+/// takes no memory. The bounds that choices are kept by are compared with the oracle's once for each
+/// marked node, as long as tables and oracle stay.
 #[inline]
 pub fn draw_ahead<const F: u32, O: Oracle<F>>(
     system: &System,
     node: ExprId,
+    parts: &[ExprId],
     kept: &KeptUnions,
+    marks: &mut Marks,
     oracle: &O,
     tape: &mut Tape,
 ) -> Option<Taken>
     requires fraction_bits { IsFractionBits F }
-    requires union { IsUnion system.now node.0 }
+    requires union { node_at system.now node.0 ≡ Some (Node.Union (map number parts.now)) }
     requires spec { O.spec oracle.now ≡ system.now }
+    requires compared { AreCompared system.now (O.table oracle.now) (O.raised oracle.now)
+        kept.now marks.old }
     ensures drawn { IfSome result (λ t. (contents : List ℕ → Option (List ℕ))
         → BelongsToShelf contents tape.old
         → IsDraw (union_decision system.now (O.table oracle.now) node.0)
@@ -288,19 +345,21 @@ pub fn draw_ahead<const F: u32, O: Oracle<F>>(
         (Draw.Decided (Choice.Take t.option) t.cell)) }
     ensures ideal { IfSome result (λ t.
         IsIdealOfCell system.now (O.x oracle.now) node.0 t.cell t.option) }
-    ensures in_range { IfSome result (λ t.
-        t.option < length (union_parts (node_at system.now node.0))) }
+    ensures in_range { IfSome result (λ t. t.option < length parts.now) }
     ensures cell { IfSome result (λ t. IsCell t.cell.k t.cell.b) }
     ensures raised { IfSome result (λ t.
         level_for (tape.new.used - tape.old.used) ≤ O.raised oracle.now) }
     ensures skips { IfSome result (λ t. SkipsBits tape.old t.cell.b tape.new) }
     ensures left { IfNone result (tape.new ≡ tape.old) }
+    ensures compared { AreCompared system.now (O.table oracle.now) (O.raised oracle.now)
+        kept.now marks.new }
 {
     oracle.known();
+    system.known();
     let place = kept.place_of(node)?;
     let table = &kept.tables[place];
     let taken = table.find(tape.peek())?;
-    if !table.is_for(parts_of(system, node), node, taken.cell.b, oracle) {
+    if !kept.is_for(place, parts, node, taken.cell.b, marks, oracle) {
         return None;
     }
     tape.skip(taken.cell.b);
@@ -338,7 +397,9 @@ pub fn draw_union_kept<const F: u32, O: Oracle<F>, S: Shelf, L: Ledger>(
     ensures tape { LeavesTape S.content S.faults (is_draw_fault result) shelf.old shelf.new tape.old
         tape.new }
 {
-    if let Some(taken) = draw_ahead(system, node, kept, oracle, tape) {
+    let parts = parts_of(system, node);
+    let mut marks = Marks::none();
+    if let Some(taken) = draw_ahead(system, node, parts, kept, &mut marks, oracle, tape) {
         return Drawn::Value {
             value: taken.option,
             cell: taken.cell,

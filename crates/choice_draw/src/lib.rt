@@ -14,5 +14,6 @@ pub mod drawn;
 pub mod kept;
 pub mod laws;
 mod level_bounds;
+pub mod marks;
 pub mod union;
 pub mod whole;

@@ -1,6 +1,6 @@
 //! Parts of a union, drawn from bits.
-ghost use Rattle.std.specs.Prelude.{◌≡◌, suc, ◌-◌, ◌*◌, ◌^◌, ◌<◌, ◌≤◌, max, map, length, IfSome};
-ghost use Rattle.std.specs.Prelude.{nat_le};
+ghost use Rattle.std.specs.Prelude.{◌≡◌, ℕ, suc, ◌+◌, ◌-◌, ◌*◌, ◌^◌, ◌<◌, ◌≤◌, max, map, length};
+ghost use Rattle.std.specs.Prelude.{nat_le, IfSome, IfNone, Some, None};
 ghost use Rattle.bz_model.specs.Fraction.{IsFractionBits};
 ghost use Rattle.bz_model.specs.Spec.{node_at};
 ghost use Rattle.bz_model.specs.Cell.{IsCell};
@@ -11,9 +11,10 @@ ghost use Rattle.bit_tape.specs.Tape.{BelongsToShelf, LeavesTape, bits_of_source
 ghost use Rattle.choice_draw.specs.Decision.{Choice, level_for, level_of, IsUnion, union_parts};
 ghost use Rattle.choice_draw.specs.Decision.{union_choice, union_decision, taken};
 ghost use Rattle.choice_draw.specs.IdealOfCell.{IsIdealOfCell};
+ghost use Rattle.choice_draw.specs.Further.{further_cell};
 ghost use Rattle.choice_draw.specs.Answer.{IsDraw, OnValue, told_draw, is_draw_fault};
 
-use crate::cells::{half_of, level_at, power_of_two};
+use crate::cells::{further, half_of, level_at, power_of_two};
 use crate::drawn::Drawn;
 use bit_tape::tape::{BitAnswer, Tape};
 use bz_model::cell::Cell;
@@ -32,6 +33,9 @@ use std::sync::ledger::Ledger;
 /// looked at, and no other. The answer is fixed by the bits that were given and the oracle's table,
 /// whether the shelf tells its content or not. `ReadFault` comes exactly where the count of faults
 /// of the tape's name rose, by one. Takes no memory.
+///
+/// A level's first bit is looked at by itself, and then those read ahead, up to the level's last,
+/// at once.
 pub fn draw_union<const F: u32, O: Oracle<F>, S: Shelf, L: Ledger>(
     system: &System,
     node: ExprId,
@@ -73,8 +77,72 @@ pub fn draw_union<const F: u32, O: Oracle<F>, S: Shelf, L: Ledger>(
             let value = u64::from(option);
             return Drawn::Value { value, cell };
         }
+        let ahead = tape.peek();
+        let word = ahead.word;
+        let many = ahead.count.min((10 - cell.b % 10) % 10);
+        if let Some(found) = least_further(parts, node, cell, word, many, oracle) {
+            tape.skip(found.bits);
+            let last = further(cell, word, found.bits);
+            return Drawn::Value {
+                value: u64::from(found.option),
+                cell: last,
+            };
+        }
+        tape.skip(many);
+        cell = further(cell, word, many);
     }
     Drawn::Straddles { cell }
+}
+
+/// How many further bits decide, and the option that they take.
+#[derive(Clone, Copy)]
+struct FurtherBits {
+    bits: u32,
+    option: u32,
+}
+
+/// The least number of further bits of the word, up to `many`, at which the cell decides.
+///
+/// What a cell decides is decided by its halves, too, while their level is the same. So where all
+/// of them together decide nothing, none of them does.
+fn least_further<const F: u32, O: Oracle<F>>(
+    parts: &[ExprId],
+    node: ExprId,
+    cell: Cell,
+    word: u16,
+    many: u32,
+    oracle: &O,
+) -> Option<FurtherBits>
+    requires cell { IsCell cell.k cell.b }
+    requires many { many ≤ 16 }
+    requires total { cell.b + many ≤ 60 }
+    requires some { 0 < length parts.now }
+    requires few { length parts.now ≤ 64 }
+    requires node { node.0 < length (O.spec oracle.now).nodes }
+    requires parts { Each (λ p. p.0 < length (O.spec oracle.now).nodes) parts.now }
+    requires raised { level_for (cell.b + many) ≤ O.raised oracle.now }
+    ensures bits { IfSome result (λ found. found.bits ≤ many) }
+    ensures decides { IfSome result (λ found. Some (Choice.Take found.option)
+        ≡ union_choice (O.table oracle.now) node.0 (map number parts.now)
+        (further_cell cell word found.bits)) }
+    ensures in_range { IfSome result (λ found. found.option < length parts.now) }
+    ensures none_before { IfSome result (λ found. (j : ℕ) → 1 ≤ j → j < found.bits
+        → union_choice (O.table oracle.now) node.0 (map number parts.now)
+        (further_cell cell word j) ≡ None) }
+    ensures none { IfNone result (union_choice (O.table oracle.now) node.0 (map number parts.now)
+        (further_cell cell word many) ≡ None) }
+{
+    let last = decide_by_table(parts, node, further(cell, word, many), oracle)?;
+    'fronts: for bits in 1..many {
+        let near = further(cell, word, bits);
+        if let Some(option) = decide_by_table(parts, node, near, oracle) {
+            return Some(FurtherBits { bits, option });
+        }
+    }
+    Some(FurtherBits {
+        bits: many,
+        option: last,
+    })
 }
 
 /// The number of the part of a union that is the ideal option of every number of the cell.

@@ -12,4 +12,5 @@ pub mod FirstBounds
 pub mod FirstPlaces
 pub mod OtherRooms
 pub mod Halves
-pub mod FurtherCells
+pub mod FurtherCounts
+pub mod ComparingCounts

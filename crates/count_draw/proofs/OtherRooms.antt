@@ -15,6 +15,7 @@ use Rattle.choice_draw.specs.Decision.{Choice, level_of}
 use Rattle.choice_draw.specs.LeastCell.{front_of}
 use Rattle.choice_draw.specs.KeptChoices.{TakesFirst}
 use Rattle.choice_draw.proofs.Choices.{choice-taken, choice-is_taken}
+use Rattle.choice_draw.proofs.Halves.{begin, begin-inside}
 use Rattle.count_draw.specs.declared.kind.CountChoice.TheVariants as code
 use Rattle.count_draw.specs.Decision.{top_option, counted_options, count_decision}
 use Rattle.count_draw.specs.FirstCounts.{TakesAtRoom, counted_choice}
@@ -27,13 +28,6 @@ use Rattle.count_draw.proofs.FirstBounds.{takes-decision}
 is_option : (high : Option ℕ) (low room i : ℕ) → low ≤ i → IsWithinHigh i high → i ≤ room → i < low + (suc (top_option high room) - low)
 is_option None low room i from within upto = omega arith
 is_option (Some h) low room i from within upto = omega arith
-
--- the number at a cell's begin lies in the cell
-abbrev pub begin : Cell → Fraction
-begin cell = record { num = cell.k; den = 2 ^ cell.b; positive = pow_pos cell.b }
-
-pub begin-inside : (cell : Cell) → IsInCell cell.k cell.b (begin cell)
-begin-inside cell = record { from = omega arith; to = let pos = pow_pos cell.b in omega arith }
 
 -- a quotient and a divisor, both times a number
 front_nat : (k v w p q r : ℕ) → w ≡ p * v → q * v + r ≡ k → r < v → 0 < p → (q * w ≤ k * p) × (k * p < suc q * w)

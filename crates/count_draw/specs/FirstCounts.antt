@@ -1,6 +1,6 @@
 -- What is kept of the numbers of parts that first bits decide, and the bounds that they are decided
 -- by.
-use Rattle.std.specs.Prelude.{◌≡◌, ℕ, ◌-◌, ◌/◌, ◌^◌, ◌<◌, List, length, Option}
+use Rattle.std.specs.Prelude.{◌≡◌, ℕ, ◌-◌, ◌/◌, ◌^◌, ◌<◌, List, length, Option, None}
 use Rattle.std.specs.Prelude.{slice_index_or, nat_le, if◌then◌else◌}
 use Rattle.bz_model.specs.declared.cell.Cell.{Cell}
 use Rattle.bz_model.specs.declared.cell.Bounds.{Bounds}
@@ -20,6 +20,19 @@ pub record CountBounds : Type 0 where
   pub range : Range
   pub first : NodeBounds
   pub second : NodeBounds
+
+-- No bounds.
+abbrev pub no_bounds : NodeBounds
+no_bounds = record { part = record { lo = 0; hi = 0 }; whole = record { lo = 0; hi = 0 } }
+
+abbrev pub none_kept : CountBounds
+none_kept = record {
+  bits = 0;
+  kind = Kind.Seq;
+  range = record { low = 0; high = None };
+  first = no_bounds;
+  second = no_bounds;
+}
 
 -- The bounds at one of the two levels.
 abbrev pub bounds_at : CountBounds → (level : ℕ) → NodeBounds

@@ -4,4 +4,4 @@ pub mod Table
 pub mod Answer
 pub mod Row
 pub mod FirstCounts
-pub mod Further
+pub mod ComparedCounts

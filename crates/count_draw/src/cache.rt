@@ -1,19 +1,23 @@
 //! Values of the counted nodes of a system, kept from draw to draw.
-ghost use Rattle.std.specs.Prelude.{◌≡◌, ◌<◌, ◌≤◌, IsTrue, IfSome, vec_len};
+ghost use Rattle.std.specs.Prelude.{◌≡◌, ◌<◌, ◌≤◌, IsTrue, IfSome, vec_len, slice_index_or};
 ghost use Rattle.bz_model.specs.Fraction.{IsFractionBits};
 ghost use Rattle.bz_model.specs.Cell.{IsCell};
 ghost use Rattle.bz_model.specs.Spec.{IsWithinHigh};
-ghost use Rattle.choice_draw.specs.Decision.{choice_of};
+ghost use Rattle.choice_draw.specs.Decision.{choice_of, level_for};
+ghost use Rattle.count_draw.specs.Kinds.{IsCountedNode};
+ghost use Rattle.count_draw.specs.ComparedCounts.{AreCountsCompared, IsKeptCount, kept_for};
 ghost use Rattle.count_draw.specs.Decision.{top_option, chosen_if};
 ghost use Rattle.count_draw.specs.Table.{options_of};
 ghost use Rattle.count_draw.specs.Row.{AreFor};
 
 use crate::choice::choose;
-use crate::first_counts::FirstCounts;
-use crate::kind::{CountChoice, CountKind};
+use crate::first_counts::{FirstCounts, LEVEL_BITS};
+use crate::kind::{CountChoice, CountKind, counted_at};
 use crate::partial_sums::CountSums;
 use crate::prefix_sums::{LowerRow, UpperRow};
 use bz_model::cell::{Bounds, Cell};
+use bz_model::oracle::Oracle;
+use choice_draw::marks::Marks;
 use class_system::expr::Expr;
 use class_system::ids::ExprId;
 use class_system::system::System;
@@ -182,10 +186,20 @@ impl KeptTables {
         Ok(KeptTables { places, tables })
     }
 
+    /// Nothing, for no system. Takes no memory.
+    pub fn none(alloc: Global) -> KeptTables {
+        KeptTables {
+            places: Vec::new(alloc),
+            tables: Vec::new(alloc),
+        }
+    }
+
     /// Where the tables of a node stand; `None` where it has none.
     #[inline]
     pub(crate) fn place_of(&self, node: ExprId) -> Option<usize>
         ensures inside { IfSome result (λ place. place < vec_len self.now.tables) }
+        ensures place { IfSome result (λ place.
+            slice_index_or self.now.places.items node.0 0 ≡ place) }
     {
         let place = *self.places.get(node.0 as usize)?;
         if place < self.tables.len() {
@@ -193,5 +207,46 @@ impl KeptTables {
         } else {
             None
         }
+    }
+
+    /// Whether what first bits decided at a sequence, set or cycle, which stands at this place, was
+    /// decided by the oracle's bounds at the levels that cells of up to so many bits are looked at
+    /// on, which are raised.
+    ///
+    /// For at most ten bits they aren't compared where the node is marked. It is marked where they
+    /// are the same.
+    #[inline]
+    pub(crate) fn is_for<const F: u32, O: Oracle<F>>(
+        &self,
+        place: usize,
+        system: &System,
+        node: ExprId,
+        bits: u32,
+        marks: &mut Marks,
+        oracle: &O,
+    ) -> bool
+        requires inside { place < vec_len self.now.tables }
+        requires place { slice_index_or self.now.places.items node.0 0 ≡ place }
+        requires counted { IsCountedNode system.now node.0 }
+        requires spec { O.spec oracle.now ≡ system.now }
+        requires few { bits ≤ 11 }
+        requires compared { AreCountsCompared system.now F (O.table oracle.now)
+            (O.raised oracle.now) self.now marks.old }
+        ensures bounds { IsTrue result → IsKeptCount system.now F (O.table oracle.now) node.0 bits
+            (kept_for self.now node.0) }
+        ensures raised { IsTrue result → level_for bits ≤ O.raised oracle.now }
+        ensures compared { AreCountsCompared system.now F (O.table oracle.now)
+            (O.raised oracle.now) self.now marks.new }
+    {
+        if bits <= LEVEL_BITS && marks.has(node) {
+            return true;
+        }
+        let counted = counted_at(system, node);
+        let firsts = &self.tables[place].firsts;
+        if !firsts.is_for(&counted, node, bits, oracle) {
+            return false;
+        }
+        marks.put(node);
+        true
     }
 }

@@ -14,6 +14,7 @@ ghost use Rattle.choice_draw.specs.IdealOfCell.{IsIdealOfCell, IsOverOfCell};
 ghost use Rattle.count_draw.specs.Kinds.{series_of_kind, counted_node, IsCountedNode, SuitsRange};
 ghost use Rattle.count_draw.specs.Decision.{count_choice, count_decision, chosen_if, OnTake};
 ghost use Rattle.count_draw.specs.Decision as decision;
+ghost use Rattle.count_draw.specs.ComparedCounts.{AreCountsCompared};
 ghost use Rattle.count_draw.specs.Answer.{OnCount, OnOver, told_count, is_count_fault};
 
 use crate::cache::{KeptRows, KeptTables, NodeTables};
@@ -25,6 +26,7 @@ use bz_model::cell::Cell;
 use bz_model::oracle::Oracle;
 use bz_model::steps::Steps;
 use bz_outside::shelf::Shelf;
+use choice_draw::marks::Marks;
 use class_system::ids::ExprId;
 use class_system::system::System;
 use std::sync::ledger::Ledger;
@@ -84,14 +86,16 @@ pub fn draw_count<const F: u32, O: Oracle<F>, S: Shelf, L: Ledger>(
 /// Draws the number of parts of a sequence, set or cycle, as `draw_count` does, where kept tables
 /// tell it by the bits that the tape has read ahead.
 ///
-/// `None`, and nothing changes, where they don't. Raises no level, asks no shelf and takes no
-/// memory.
+/// `None`, and tape and tables stay as they are, where they don't. Raises no level, asks no shelf and
+/// takes no memory. The bounds that numbers are kept by are compared with the oracle's once for each
+/// marked node, as long as tables and oracle stay.
 #[inline]
 pub fn draw_count_ahead<const F: u32, O: Oracle<F>>(
     system: &System,
     node: ExprId,
     room: u64,
     kept: &KeptTables,
+    marks: &mut Marks,
     oracle: &O,
     tape: &mut Tape,
 ) -> Option<CountTaken>
@@ -99,6 +103,8 @@ pub fn draw_count_ahead<const F: u32, O: Oracle<F>>(
     requires counted { IsCountedNode system.now node.0 }
     requires room { room ≤ 1000000 }
     requires spec { O.spec oracle.now ≡ system.now }
+    requires compared { AreCountsCompared system.now F (O.table oracle.now) (O.raised oracle.now)
+        kept.now marks.old }
     ensures drawn { IfSome result (λ t. (contents : List ℕ → Option (List ℕ))
         → BelongsToShelf contents tape.old
         → IsDraw (count_decision system.now F (O.table oracle.now) node.0 room)
@@ -113,13 +119,18 @@ pub fn draw_count_ahead<const F: u32, O: Oracle<F>>(
         level_for (tape.new.used - tape.old.used) ≤ O.raised oracle.now) }
     ensures skips { IfSome result (λ t. SkipsBits tape.old t.cell.b tape.new) }
     ensures left { IfNone result (tape.new ≡ tape.old) }
+    ensures compared { AreCountsCompared system.now F (O.table oracle.now) (O.raised oracle.now)
+        kept.now marks.new }
 {
     oracle.known();
+    system.known();
     let place = kept.place_of(node)?;
-    let counted = counted_at(system, node);
+    let tables = &kept.tables[place];
     let ahead = tape.peek();
-    let firsts = &kept.tables[place].firsts;
-    let first = firsts.find(&counted, node, room, ahead, oracle)?;
+    let first = tables.firsts.kept(room, ahead)?;
+    if !kept.is_for(place, system, node, u32::from(first.bits), marks, oracle) {
+        return None;
+    }
     let cell = first.cell(ahead.word);
     tape.skip(cell.b);
     Some(CountTaken {
@@ -165,7 +176,8 @@ pub fn draw_count_kept<const F: u32, O: Oracle<F>, S: Shelf, L: Ledger>(
         (is_count_fault result) shelf.old shelf.new tape.old
         tape.new }
 {
-    if let Some(taken) = draw_count_ahead(system, node, room, kept, oracle, tape) {
+    let mut marks = Marks::none();
+    if let Some(taken) = draw_count_ahead(system, node, room, kept, &mut marks, oracle, tape) {
         return CountDrawn::Count {
             value: taken.count,
             cell: taken.cell,

@@ -23,6 +23,9 @@ const FIRST_BITS: u32 = 11;
 /// How many lists of so many bits there are.
 const PLACES: usize = 2048;
 
+/// The most bits of a cell that is looked at on level 1.
+pub(crate) const LEVEL_BITS: u32 = 10;
+
 /// The greatest number of parts that is kept.
 const MOST_PARTS: u64 = 65535;
 
@@ -182,38 +185,10 @@ impl FirstCounts {
         })
     }
 
-    /// The number of parts up to the room that the bits read ahead take, where it is kept by the
-    /// oracle's bounds.
-    #[inline]
-    pub(crate) fn find<const F: u32, O: Oracle<F>>(
-        &self,
-        counted: &Counted,
-        node: ExprId,
-        room: u64,
-        ahead: Peeked,
-        oracle: &O,
-    ) -> Option<FirstCount>
-        requires node { node.0 < length (O.spec oracle.now).nodes }
-        requires part { counted.now.part.0 < length (O.spec oracle.now).nodes }
-        ensures takes { IfSome result (λ first. TakesAtRoom
-            (counted_choice (series_of_kind counted.now.kind) F (spec_range counted.now.range)
-            (O.table oracle.now) counted.now.part.0 node.0)
-            first.count (peeked_cell ahead.word first.bits)) }
-        ensures ahead { IfSome result (λ first. first.bits ≤ ahead.count) }
-        ensures room { IfSome result (λ first. first.count ≤ room) }
-        ensures raised { IfSome result (λ first. level_for first.bits ≤ O.raised oracle.now) }
-    {
-        let first = self.kept(room, ahead)?;
-        if !self.is_for(counted, node, u32::from(first.bits), oracle) {
-            return None;
-        }
-        Some(first)
-    }
-
     /// The number of parts up to the room that the bits read ahead take by the table's bounds, where
     /// it is kept.
     #[inline]
-    fn kept(&self, room: u64, ahead: Peeked) -> Option<FirstCount>
+    pub(crate) fn kept(&self, room: u64, ahead: Peeked) -> Option<FirstCount>
         ensures takes { IfSome result (λ first. TakesAtRoom (choice_by self.now) first.count
             (peeked_cell ahead.word first.bits)) }
         ensures ahead { IfSome result (λ first. first.bits ≤ ahead.count) }
@@ -230,7 +205,7 @@ impl FirstCounts {
     /// Whether the table is for this node, and by the oracle's bounds at the levels that cells of up
     /// to so many bits are looked at on, which are raised.
     #[inline]
-    fn is_for<const F: u32, O: Oracle<F>>(
+    pub(crate) fn is_for<const F: u32, O: Oracle<F>>(
         &self,
         counted: &Counted,
         node: ExprId,
@@ -246,7 +221,7 @@ impl FirstCounts {
         ensures raised { IsTrue result → level_for bits ≤ O.raised oracle.now }
     {
         self.first.are_at(counted.part, node, 1, oracle)
-            && (bits <= 10 || self.second.are_at(counted.part, node, 2, oracle))
+            && (bits <= LEVEL_BITS || self.second.are_at(counted.part, node, 2, oracle))
             && self.bits == F
             && self.kind == counted.kind
             && self.range == counted.range

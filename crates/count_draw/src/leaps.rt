@@ -10,10 +10,10 @@ ghost use Rattle.bit_tape.specs.Tape.{BelongsToShelf, LeavesTape, bits_of_source
 ghost use Rattle.choice_draw.specs.Decision.{level_for, level_of};
 ghost use Rattle.choice_draw.specs.Answer.{IsDraw};
 ghost use Rattle.choice_draw.specs.IdealOfCell.{IsIdealOfCell, IsOverOfCell};
+ghost use Rattle.choice_draw.specs.Further.{further_cell};
 ghost use Rattle.count_draw.specs.Kinds.{series_of_kind, IsCountedNode, SuitsRange};
 ghost use Rattle.count_draw.specs.Decision.{count_choice, count_decision, chosen_if, choice_meant};
 ghost use Rattle.count_draw.specs.FirstCounts.{counted_choice};
-ghost use Rattle.count_draw.specs.Further.{further_cell};
 ghost use Rattle.count_draw.specs.Answer.{OnCount, OnOver, told_count, is_count_fault};
 
 use crate::cache::KeptRows;
@@ -26,7 +26,7 @@ use bz_model::cell::Cell;
 use bz_model::oracle::Oracle;
 use bz_model::steps::Steps;
 use bz_outside::shelf::Shelf;
-use choice_draw::cells::{half_of, level_at};
+use choice_draw::cells::{further, half_of, level_at};
 use class_system::ids::ExprId;
 use class_system::system::System;
 use std::sync::ledger::Ledger;
@@ -147,22 +147,6 @@ fn least_further<const F: u32, O: Oracle<F>>(
         bits: many,
         choice: last,
     })
-}
-
-/// The cell of a cell's bits and of the first of sixteen further ones.
-#[inline]
-fn further(cell: Cell, word: u16, bits: u32) -> Cell
-    requires cell { IsCell cell.k cell.b }
-    requires few { bits ≤ 16 }
-    requires total { cell.b + bits ≤ 60 }
-    ensures exact { result ≡ further_cell cell word bits }
-    ensures cell { IsCell result.k result.b }
-{
-    let first = u64::from(word) >> (16 - bits);
-    Cell {
-        k: (cell.k << bits) + first,
-        b: cell.b + bits,
-    }
 }
 
 /// What a cell decides at this sequence, set or cycle, by the rows of its level.

@@ -3,3 +3,4 @@ pub mod Belonging
 pub mod State
 pub mod Answer
 pub mod Ahead
+pub mod Compared

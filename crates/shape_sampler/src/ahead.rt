@@ -5,6 +5,7 @@ ghost use Rattle.bz_model.specs.Fraction.{IsFractionBits};
 ghost use Rattle.bz_model.specs.Spec.{Node, node_at};
 ghost use Rattle.bit_tape.specs.Tape.{BelongsToShelf, bits_of_source};
 ghost use Rattle.class_system.specs.Views.{number};
+ghost use Rattle.choice_draw.specs.Compared.{AreCompared};
 ghost use Rattle.shape_sampler.specs.State.{HasCountedPart, SessionBelongs};
 ghost use Rattle.shape_sampler.specs.Visit.{leaf_visited};
 ghost use Rattle.shape_sampler.specs.Answer.{IsPlainVisit, replaced_by};
@@ -19,13 +20,15 @@ use crate::stepped::Stepped;
 use bit_tape::tape::Tape;
 use bz_model::oracle::Oracle;
 use choice_draw::drawn::Drawn;
-use choice_draw::kept::draw_ahead;
+use choice_draw::kept::{KeptUnions, draw_ahead};
+use choice_draw::marks::Marks;
 use class_system::expr::Expr;
 use class_system::ids::ExprId;
 use class_system::system::System;
 use count_draw::count::draw_count_ahead;
 use count_draw::drawn_count::CountDrawn;
 use object_store::token::Token;
+use std::mem::replace;
 use well_founded::examination::Founded;
 
 /// The most atoms that are moved in one go: so many tokens need room before.
@@ -62,13 +65,18 @@ impl Session {
         if self.stopped.is_some() {
             return 0;
         }
-        self.move_on(founded, oracle, tape, most)
+        let unions = replace(&mut self.unions, KeptUnions::none(self.alloc));
+        let made = self.move_on(founded, &unions, oracle, tape, most);
+        self.unions = unions;
+        made
     }
 
-    /// Visits first pending nodes one after the other, while each moves on.
+    /// Visits first pending nodes one after the other, while each moves on, with these choices kept
+    /// for unions.
     fn move_on<const F: u32, O: Oracle<F>>(
         &mut self,
         founded: &Founded,
+        unions: &KeptUnions,
         oracle: &O,
         tape: &mut Tape,
         most: u64,
@@ -82,9 +90,11 @@ impl Session {
             (O.raised oracle.now) result self.old tape.old self.new tape.new }
     {
         let system = founded.system();
+        let mut marks = Marks::none();
         let mut made = 0;
         'moves: while made < most {
-            let moved = self.move_first(founded, system, oracle, tape, most - made);
+            let left = most - made;
+            let moved = self.move_first(founded, system, unions, &mut marks, oracle, tape, left);
             if moved == 0 {
                 break;
             }
@@ -101,12 +111,16 @@ impl Session {
         &mut self,
         founded: &Founded,
         system: &System,
+        unions: &KeptUnions,
+        marks: &mut Marks,
         oracle: &O,
         tape: &mut Tape,
         most: u64,
     ) -> u64
         requires fraction_bits { IsFractionBits F }
         requires spec { O.spec oracle.now ≡ system.now }
+        requires compared { AreCompared system.now (O.table oracle.now) (O.raised oracle.now)
+            unions.now marks.old }
         requires founded { founded.now ≡ system.now }
         requires running { self.old.stopped ≡ None }
         requires session { SessionBelongs system.now (O.x oracle.now) self.old }
@@ -114,6 +128,8 @@ impl Session {
         ensures most { result ≤ most }
         ensures moved { MovesOn system.now (O.x oracle.now) F (O.table oracle.now)
             (O.raised oracle.now) result self.old tape.old self.new tape.new }
+        ensures compared { AreCompared system.now (O.table oracle.now) (O.raised oracle.now)
+            unions.now marks.new }
     {
         system.known();
         let Some(node) = self.pending.first() else {
@@ -125,7 +141,8 @@ impl Session {
             Expr::Class(c) => moves_of(self.move_class(system.body(*c))),
             Expr::Product(parts) => moves_of(self.move_product(parts.items())),
             Expr::Union(parts) => {
-                moves_of(self.move_union(system, node, parts.items(), oracle, tape))
+                let parts = parts.items();
+                moves_of(self.move_union(system, node, parts, unions, marks, oracle, tape))
             }
             Expr::Seq(part) | Expr::Set(part) | Expr::Cyc(part) => {
                 moves_of(self.move_counted(founded, node, *part, oracle, tape))
@@ -207,11 +224,15 @@ impl Session {
         system: &System,
         node: ExprId,
         parts: &[ExprId],
+        unions: &KeptUnions,
+        marks: &mut Marks,
         oracle: &O,
         tape: &mut Tape,
     ) -> bool
         requires fraction_bits { IsFractionBits F }
         requires spec { O.spec oracle.now ≡ system.now }
+        requires compared { AreCompared system.now (O.table oracle.now) (O.raised oracle.now)
+            unions.now marks.old }
         requires union { node_at system.now node.0 ≡ Some (Node.Union (map number parts.now)) }
         requires few { length parts.now ≤ 64 }
         requires running { self.old.stopped ≡ None }
@@ -220,12 +241,14 @@ impl Session {
         ensures moved { IsTrue result → MovesOn system.now (O.x oracle.now) F (O.table oracle.now)
             (O.raised oracle.now) 1 self.old tape.old self.new tape.new }
         ensures left { IsFalse result → (self.new ≡ self.old) × (tape.new ≡ tape.old) }
+        ensures compared { AreCompared system.now (O.table oracle.now) (O.raised oracle.now)
+            unions.now marks.new }
     {
         if reserve_drawn(&mut self.pending, &mut self.shape, &mut self.cells).is_err() {
             return false;
         }
         system.known();
-        let Some(taken) = draw_ahead(system, node, &self.unions, oracle, tape) else {
+        let Some(taken) = draw_ahead(system, node, parts, unions, marks, oracle, tape) else {
             return false;
         };
         let drawn = Drawn::Value {

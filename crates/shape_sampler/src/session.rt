@@ -40,7 +40,7 @@ use well_founded::examination::Founded;
 /// An attempt at an object of class 0 within a room, and what stopped it.
 #[derive(Drop)]
 pub struct Session {
-    alloc: Global,
+    pub(crate) alloc: Global,
     root: ExprId,
     whole: u64,
     pub(crate) pending: Pending,

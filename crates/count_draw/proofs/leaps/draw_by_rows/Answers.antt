@@ -8,17 +8,18 @@ use Rattle.bit_tape.proofs.Leaving.{leaves-none, leaves-more}
 use Rattle.choice_draw.specs.Decision.{level_for, level_of}
 use Rattle.choice_draw.specs.Draw.{Draw}
 use Rattle.choice_draw.specs.Answer.{IsDraw}
+use Rattle.choice_draw.specs.Further.{further_cell}
 use Rattle.choice_draw.specs.IdealOfCell.{IsIdealOfCell, IsOverOfCell}
 use Rattle.choice_draw.proofs.Ticks.{oracle-none, oracle-more}
 use Rattle.choice_draw.proofs.GivenDraws.{IsUnderWay, draw-begins, draw-on, draw-decides, draw-ends, draw-fails, draw-straddles}
 use Rattle.choice_draw.proofs.KeptDraws.{leaves-skipped}
+use Rattle.choice_draw.proofs.FurtherCells.{further-on, further-ends}
 use Rattle.count_draw.specs.Kinds.{series_of_kind}
 use Rattle.count_draw.specs.Decision.{count_decision, choice_meant}
 use Rattle.count_draw.specs.FirstCounts.{counted_choice}
-use Rattle.count_draw.specs.Further.{further_cell}
 use Rattle.count_draw.proofs.CountedNodes.{decision-by}
 use Rattle.count_draw.proofs.CountsIdeal.{choice-ideal, choice-ranged, choice-over_none, answer-take, answer-over}
-use Rattle.count_draw.proofs.FurtherCells.{further-on, further-ends, decisions-undecided}
+use Rattle.count_draw.proofs.FurtherCounts.{decisions-undecided}
 use Rattle.count_draw.proofs.ToldCounts.{told-answer, answer-leaves}
 use Rattle.count_draw.proofs.leaps.draw_by_rows.Goals as goal
 

@@ -1,8 +1,8 @@
 use Rattle.std.proofs.Common.{◌≡◌, ℕ, ◌<◌, ◌≤◌, None}
 use Rattle.class_system.specs.Views.{spec_range}
+use Rattle.choice_draw.specs.Further.{further_cell}
 use Rattle.count_draw.specs.Kinds.{series_of_kind}
 use Rattle.count_draw.specs.FirstCounts.{counted_choice}
-use Rattle.count_draw.specs.Further.{further_cell}
 use Rattle.count_draw.proofs.leaps.least_further.Given as goal
 
 -- fewer further bits than those looked at next decide nothing

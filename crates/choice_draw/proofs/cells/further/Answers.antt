@@ -1,7 +1,7 @@
 -- The shifted number and the first further bits fit into 60 bits.
 use Rattle.std.proofs.Common.{◌≡◌, ◌+◌, ◌-◌, ◌*◌, ◌/◌, ◌^◌, arith, ◌∙◌, ap}
-use Rattle.count_draw.proofs.FurtherCells.{further-below, further-most, further-kept}
-use Rattle.count_draw.proofs.leaps.further.Goals as goal
+use Rattle.choice_draw.proofs.FurtherCells.{further-below, further-most, further-kept}
+use Rattle.choice_draw.proofs.cells.further.Goals as goal
 
 pub overflow_add-result : goal.overflow_add-result
 overflow_add-result c =

@@ -1,27 +1,18 @@
 -- Cells of further bits are halves of halves: where none of them decides a draw goes on from the last, and it ends where one does.
-use Rattle.std.proofs.Common.{◌≡◌, ℕ, zero, suc, ◌+◌, ◌-◌, ◌*◌, ◌/◌, ◌%◌, ◌^◌, ◌<◌, ◌≤◌, length, arith, refl, sym, ◌∙◌, ap, subst, Bool, Option, Some, None, ⊎_elim}
+use Rattle.std.proofs.Common.{◌≡◌, ℕ, zero, suc, ◌+◌, ◌-◌, ◌*◌, ◌/◌, ◌%◌, ◌^◌, ◌<◌, ◌≤◌, arith, refl, sym, ◌∙◌, ap, subst, Bool, Option, Some, None, ⊎_elim}
 use Rattle.std.specs.Prelude.{IfSome, nat_eq}
 use Rattle.std.proofs.Math.Nat.{pow-succ', mul-le-mul_right, pow-le-pow_right, mod-eq_of_lt}
 use Rattle.std.proofs.lemmas.Nat.{shr-shr, pow_pos, pow-add, mod_below, div-add-mod', div_below}
 use Rattle.std.proofs.lemmas.Bool.{cases_lt}
 use Rattle.bz_model.specs.declared.cell.Cell.{Cell}
-use Rattle.bz_model.specs.declared.cell.Bounds.{Bounds}
-use Rattle.bz_model.specs.Fraction.{Fraction}
-use Rattle.bz_model.specs.Spec.{Spec, Range}
 use Rattle.bz_model.specs.Cell.{IsCell}
-use Rattle.bz_model.specs.Oracle.{IsSoundTable}
 use Rattle.bit_tape.specs.Bits.{peeked_bit}
-use Rattle.series_bounds.specs.Series.{Kind}
 use Rattle.choice_draw.specs.Decision.{level_for, level_of}
 use Rattle.choice_draw.specs.Draw.{Draw, halved, bit_number}
 use Rattle.choice_draw.specs.Answer.{IsDraw}
+use Rattle.choice_draw.specs.Further.{further_cell}
 use Rattle.choice_draw.proofs.ToldDraws.{on_some}
 use Rattle.choice_draw.proofs.GivenDraws.{IsUnderWay, draw-on, draw-decides}
-use Rattle.count_draw.specs.Decision.{count_decision}
-use Rattle.count_draw.specs.FirstCounts.{counted_choice}
-use Rattle.count_draw.specs.Further.{further_cell}
-use Rattle.count_draw.proofs.CountedNodes.{IsCountedAs, decision-is}
-use Rattle.count_draw.proofs.Halves.{half-undecided}
 
 bit-is : (r : ℕ) → r < 2 → bit_number (nat_eq r 1) ≡ r
 bit-is zero few = refl
@@ -32,7 +23,7 @@ half_nat : (k p q w h r g v : ℕ) → q ≡ 2 * p → h * 2 + r ≡ w → h ≡
 half_nat k p q w h r g v twice parts same bit = let e : k * q ≡ k * (2 * p) = ap (λ n. k * n) twice in omega (arith, e, parts, same, bit)
 
 module _ (cell : Cell) (word : ℕ) where
-  -- one further bit halves a cell
+  -- One further bit halves a cell.
   pub further-halved : (j : ℕ) → j < 16 → further_cell cell word (suc j) ≡ halved (further_cell cell word j) (peeked_bit word j)
   further-halved j less =
       let w = word / 2 ^ (15 - j) in
@@ -45,7 +36,7 @@ module _ (cell : Cell) (word : ℕ) where
       let bs : cell.b + suc j ≡ suc (cell.b + j) = omega arith in
       ap (λ k. record { k = k; b = cell.b + suc j }) ks ∙ ap (λ b. record { k = 2 * (cell.k * 2 ^ j + word / 2 ^ (16 - j)) + bit_number (peeked_bit word j); b = b }) bs
 
-  -- no further bit leaves a cell as it is
+  -- No further bit leaves a cell as it is.
   pub further-none : word < 65536 → further_cell cell word 0 ≡ cell
   further-none small =
       let gone : word / 2 ^ 16 < 1 = div_below word (2 ^ 16) 1 (omega arith) (omega arith) in
@@ -53,7 +44,7 @@ module _ (cell : Cell) (word : ℕ) where
       let bs : cell.b + 0 ≡ cell.b = omega arith in
       ap (λ k. record { k = k; b = cell.b + 0 }) ks ∙ ap (λ b. record { k = cell.k; b = b }) bs
 
-  -- its number stays below the power of its bits
+  -- Its number stays below the power of its bits.
   pub further-below : (j : ℕ) → j ≤ 16 → word < 65536 → cell.k < 2 ^ cell.b → cell.k * 2 ^ j + word / 2 ^ (16 - j) < 2 ^ (cell.b + j)
   further-below j few small below =
       let parts : 2 ^ 16 ≡ 2 ^ j * 2 ^ (16 - j) = ap (λ n. 2 ^ n) (let e : 16 ≡ j + (16 - j) = omega arith in e) ∙ pow-add 2 j (16 - j) in
@@ -62,10 +53,11 @@ module _ (cell : Cell) (word : ℕ) where
       let whole : 2 ^ (cell.b + j) ≡ 2 ^ cell.b * 2 ^ j = pow-add 2 cell.b j in
       omega (arith, low, all, whole)
 
-  -- and it is found within 64 bits
+  -- The power of its bits has at most 60 bits.
   pub further-most : (j : ℕ) → cell.b + j ≤ 60 → 2 ^ (cell.b + j) ≤ 2 ^ 60
   further-most j total = pow-le-pow_right (let pos : 0 < 2 = omega arith in pos) total
 
+  -- The number is shifted within 64 bits.
   pub further-kept : (j : ℕ) → cell.b + j ≤ 60 → cell.k < 2 ^ cell.b → cell.k * 2 ^ j % 18446744073709551616 ≡ cell.k * 2 ^ j
   further-kept j total below =
       let all : suc cell.k * 2 ^ j ≤ 2 ^ cell.b * 2 ^ j = mul-le-mul_right (2 ^ j) below in
@@ -75,7 +67,7 @@ module _ (cell : Cell) (word : ℕ) where
       mod-eq_of_lt (let less : cell.k * 2 ^ j < 18446744073709551616 = omega (arith, all, whole, most, pos) in less)
 
 module _ {A : Type 0} (decide : Cell → Option A) (told : Option (ℕ → Option Bool)) (start : ℕ) (cell : Cell) (used word n : ℕ) (way : IsUnderWay decide told start cell used) (small : word < 65536) (few : n ≤ 16) (shown : IfSome told (λ bits. (i : ℕ) → i < n → bits (used + i) ≡ Some (peeked_bit word i))) where
-  -- further bits that decide nothing lead on
+  -- Further bits that decide nothing lead a draw on.
   pub further-on : (m : ℕ) → m ≤ n → cell.b + m ≤ 60 → ((j : ℕ) → 1 ≤ j → j ≤ m → decide (further_cell cell word j) ≡ None) → IsUnderWay decide told start (further_cell cell word m) (used + m)
   further-on zero within total none =
       subst (λ c. IsUnderWay decide told start c (used + 0)) (sym (further-none cell word small)) (subst (IsUnderWay decide told start cell) (let e : used ≡ used + 0 = omega arith in e) way)
@@ -83,7 +75,7 @@ module _ {A : Type 0} (decide : Cell → Option A) (told : Option (ℕ → Optio
       draw-on decide told start (further_cell cell word m) (used + m) (further-on m (omega arith) (omega arith) (λ j some less. none j some (omega arith))) (peeked_bit word m) (further_cell cell word (suc m)) (used + suc m) (omega arith)
       (on_some told (λ bits all. all m (omega arith)) shown) (further-halved cell word m (omega arith)) (omega arith) (none (suc m) (omega arith) (omega arith))
 
-  -- and the first that decide end the draw
+  -- The first further bits that decide end the draw.
   pub further-ends : (m : ℕ) (answer : A) → decide cell ≡ None → m ≤ n → cell.b + m ≤ 60 → used ≡ start + cell.b → IsCell (further_cell cell word m).k (further_cell cell word m).b → ((j : ℕ) → 1 ≤ j → j < m → decide (further_cell cell word j) ≡ None) → decide (further_cell cell word m) ≡ Some answer → IsDraw decide told start (used + m) (Draw.Decided answer (further_cell cell word m))
   further-ends zero answer undecided within total so_far is_cell none decided =
       let both : None ≡ Some answer = sym undecided ∙ ap decide (sym (further-none cell word small)) ∙ decided in
@@ -92,20 +84,14 @@ module _ {A : Type 0} (decide : Cell → Option A) (told : Option (ℕ → Optio
       draw-decides decide told start (further_cell cell word m) (used + m) (further-on m (omega arith) (omega arith) (λ j some less. none j some (omega arith))) (peeked_bit word m) (further_cell cell word (suc m)) answer (used + suc m) (omega arith) (omega arith)
       (on_some told (λ bits all. all m (omega arith)) shown) (further-halved cell word m (omega arith)) is_cell (omega arith) decided
 
-module _ (s : Spec) (x : Fraction) (F e part : ℕ) (kind : Kind) (r : Range) (table : (level node : ℕ) → Bounds) (at : IsCountedAs s e part kind r) (sound : IsSoundTable s x F table) (part_in : part < length s.nodes) (room : ℕ) (cell : Cell) (word : ℕ) (some_bits : 1 ≤ cell.b) where
-  -- where all further bits decide nothing, and the level is the cell's, fewer of them decide nothing
-  pub fronts-undecided : (m : ℕ) → m ≤ 16 → cell.b + m ≤ 60 → level_for (cell.b + m) ≡ level_of cell → counted_choice kind F r table part e room (further_cell cell word m) ≡ None → (j : ℕ) → 1 ≤ j → j ≤ m → counted_choice kind F r table part e room (further_cell cell word j) ≡ None
+module _ {A : Type 0} (decide : Cell → Option A) (halves : (d : Cell) (v : Bool) → 1 ≤ d.b → d.b ≤ 60 → level_for (suc d.b) ≡ level_of d → decide (halved d v) ≡ None → decide d ≡ None) (cell : Cell) (word : ℕ) (some_bits : 1 ≤ cell.b) where
+  -- Where a cell decides if its half does, on one level, and all further bits decide nothing, the level being the cell's, fewer of them decide nothing.
+  pub fronts-undecided : (m : ℕ) → m ≤ 16 → cell.b + m ≤ 60 → level_for (cell.b + m) ≡ level_of cell → decide (further_cell cell word m) ≡ None → (j : ℕ) → 1 ≤ j → j ≤ m → decide (further_cell cell word j) ≡ None
   fronts-undecided zero few total level none j some within = let never : ⊥ = omega arith in absurd never
   fronts-undecided (suc m) few total level none j some within = ⊎_elim
       (λ less.
       fronts-undecided m (omega arith) (omega arith) (omega arith)
-      (half-undecided s x F e part kind r table at sound part_in room (further_cell cell word m) (peeked_bit word m) (omega arith) (omega arith) (omega arith)
-      (subst (λ c. counted_choice kind F r table part e room c ≡ None) (further-halved cell word m (omega arith)) none)) j some (omega arith))
-      (λ no_less. let same : suc m ≡ j = omega arith in subst (λ i. counted_choice kind F r table part e room (further_cell cell word i) ≡ None) same none)
+      (halves (further_cell cell word m) (peeked_bit word m) (omega arith) (omega arith) (omega arith)
+      (subst (λ c. decide c ≡ None) (further-halved cell word m (omega arith)) none)) j some (omega arith))
+      (λ no_less. let same : suc m ≡ j = omega arith in subst (λ i. decide (further_cell cell word i) ≡ None) same none)
       (cases_lt j (suc m))
-
-  -- so their decisions are none, by an equal table
-  pub decisions-undecided : (other : (level node : ℕ) → Bounds) → other ≡ table → (m : ℕ) → m ≤ 16 → cell.b + m ≤ 60 → level_for (cell.b + m) ≡ level_of cell → counted_choice kind F r other part e room (further_cell cell word m) ≡ None → (j : ℕ) → 1 ≤ j → j ≤ m → count_decision s F table e room (further_cell cell word j) ≡ None
-  decisions-undecided other same m few total level none j some within =
-      decision-is s F e part room kind r table (further_cell cell word j) at
-      ∙ fronts-undecided m few total level (subst (λ (t : (level node : ℕ) → Bounds). counted_choice kind F r t part e room (further_cell cell word m) ≡ None) same none) j some within
