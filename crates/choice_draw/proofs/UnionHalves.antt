@@ -1,5 +1,5 @@
 -- A cell that decides no part of a union is the half of a cell that decides none, while both are looked at on the same level.
-use Rattle.std.proofs.Common.{◌≡◌, ℕ, suc, ◌+◌, ◌<◌, ◌≤◌, length, map, List, arith, refl, sym, ◌∙◌, ap, subst, Bool, Option, Some, None}
+use Rattle.std.proofs.Common.{◌≡◌, ℕ, suc, ◌+◌, ◌<◌, ◌≤◌, length, map, List, arith, refl, sym, ◌∙◌, ap, subst, Bool, Some, None}
 use Rattle.bz_model.specs.declared.cell.Cell.{Cell}
 use Rattle.bz_model.specs.declared.cell.Bounds.{Bounds}
 use Rattle.bz_model.specs.Fraction.{Fraction}

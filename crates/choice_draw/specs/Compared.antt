@@ -1,5 +1,5 @@
 -- Nodes whose kept bounds were compared with a table's.
-use Rattle.std.specs.Prelude.{◌≡◌, ℕ, ◌≤◌, Bool, List, [], slice_index_or}
+use Rattle.std.specs.Prelude.{ℕ, ◌≤◌, Bool, List, [], slice_index_or}
 use Rattle.bz_model.specs.declared.cell.Bounds.{Bounds}
 use Rattle.bz_model.specs.Spec.{Spec, node_at}
 use Rattle.choice_draw.specs.declared.kept.KeptUnions.{KeptUnions}

@@ -11,3 +11,4 @@ pub mod CountVisits
 pub mod PlainMoves
 pub mod Moves
 pub mod CountMoves
+pub mod ComparedTables

@@ -5,10 +5,10 @@ ghost use Rattle.bz_model.specs.Fraction.{IsFractionBits};
 ghost use Rattle.bz_model.specs.Spec.{Node, node_at};
 ghost use Rattle.bit_tape.specs.Tape.{BelongsToShelf, bits_of_source};
 ghost use Rattle.class_system.specs.Views.{number};
-ghost use Rattle.choice_draw.specs.Compared.{AreCompared};
 ghost use Rattle.shape_sampler.specs.State.{HasCountedPart, SessionBelongs};
 ghost use Rattle.shape_sampler.specs.Visit.{leaf_visited};
 ghost use Rattle.shape_sampler.specs.Answer.{IsPlainVisit, replaced_by};
+ghost use Rattle.shape_sampler.specs.Compared.{AreTablesCompared};
 ghost use Rattle.shape_sampler.specs.Ahead.{AreMoves, MovesOn, TakesAtoms};
 
 use crate::counted::{put_counted, room_for};
@@ -17,11 +17,11 @@ use crate::placing::{
 };
 use crate::session::Session;
 use crate::stepped::Stepped;
+use crate::tables::{DrawMarks, DrawTables};
 use bit_tape::tape::Tape;
 use bz_model::oracle::Oracle;
 use choice_draw::drawn::Drawn;
-use choice_draw::kept::{KeptUnions, draw_ahead};
-use choice_draw::marks::Marks;
+use choice_draw::kept::draw_ahead;
 use class_system::expr::Expr;
 use class_system::ids::ExprId;
 use class_system::system::System;
@@ -65,18 +65,17 @@ impl Session {
         if self.stopped.is_some() {
             return 0;
         }
-        let unions = replace(&mut self.unions, KeptUnions::none(self.alloc));
-        let made = self.move_on(founded, &unions, oracle, tape, most);
-        self.unions = unions;
+        let tables = replace(&mut self.tables, DrawTables::none(self.alloc));
+        let made = self.move_on(founded, &tables, oracle, tape, most);
+        self.tables = tables;
         made
     }
 
-    /// Visits first pending nodes one after the other, while each moves on, with these choices kept
-    /// for unions.
+    /// Visits first pending nodes one after the other, while each moves on, by these tables.
     fn move_on<const F: u32, O: Oracle<F>>(
         &mut self,
         founded: &Founded,
-        unions: &KeptUnions,
+        tables: &DrawTables,
         oracle: &O,
         tape: &mut Tape,
         most: u64,
@@ -90,11 +89,11 @@ impl Session {
             (O.raised oracle.now) result self.old tape.old self.new tape.new }
     {
         let system = founded.system();
-        let mut marks = Marks::none();
+        let mut marks = DrawMarks::none();
         let mut made = 0;
         'moves: while made < most {
             let left = most - made;
-            let moved = self.move_first(founded, system, unions, &mut marks, oracle, tape, left);
+            let moved = self.move_first(founded, system, tables, &mut marks, oracle, tape, left);
             if moved == 0 {
                 break;
             }
@@ -111,16 +110,16 @@ impl Session {
         &mut self,
         founded: &Founded,
         system: &System,
-        unions: &KeptUnions,
-        marks: &mut Marks,
+        tables: &DrawTables,
+        marks: &mut DrawMarks,
         oracle: &O,
         tape: &mut Tape,
         most: u64,
     ) -> u64
         requires fraction_bits { IsFractionBits F }
         requires spec { O.spec oracle.now ≡ system.now }
-        requires compared { AreCompared system.now (O.table oracle.now) (O.raised oracle.now)
-            unions.now marks.old }
+        requires compared { AreTablesCompared system.now F (O.table oracle.now)
+            (O.raised oracle.now) tables.now marks.old }
         requires founded { founded.now ≡ system.now }
         requires running { self.old.stopped ≡ None }
         requires session { SessionBelongs system.now (O.x oracle.now) self.old }
@@ -128,8 +127,8 @@ impl Session {
         ensures most { result ≤ most }
         ensures moved { MovesOn system.now (O.x oracle.now) F (O.table oracle.now)
             (O.raised oracle.now) result self.old tape.old self.new tape.new }
-        ensures compared { AreCompared system.now (O.table oracle.now) (O.raised oracle.now)
-            unions.now marks.new }
+        ensures compared { AreTablesCompared system.now F (O.table oracle.now)
+            (O.raised oracle.now) tables.now marks.new }
     {
         system.known();
         let Some(node) = self.pending.first() else {
@@ -142,10 +141,11 @@ impl Session {
             Expr::Product(parts) => moves_of(self.move_product(parts.items())),
             Expr::Union(parts) => {
                 let parts = parts.items();
-                moves_of(self.move_union(system, node, parts, unions, marks, oracle, tape))
+                moves_of(self.move_union(system, node, parts, tables, marks, oracle, tape))
             }
             Expr::Seq(part) | Expr::Set(part) | Expr::Cyc(part) => {
-                moves_of(self.move_counted(founded, node, *part, oracle, tape))
+                let part = *part;
+                moves_of(self.move_counted(founded, node, part, tables, marks, oracle, tape))
             }
         }
     }
@@ -224,15 +224,15 @@ impl Session {
         system: &System,
         node: ExprId,
         parts: &[ExprId],
-        unions: &KeptUnions,
-        marks: &mut Marks,
+        tables: &DrawTables,
+        marks: &mut DrawMarks,
         oracle: &O,
         tape: &mut Tape,
     ) -> bool
         requires fraction_bits { IsFractionBits F }
         requires spec { O.spec oracle.now ≡ system.now }
-        requires compared { AreCompared system.now (O.table oracle.now) (O.raised oracle.now)
-            unions.now marks.old }
+        requires compared { AreTablesCompared system.now F (O.table oracle.now)
+            (O.raised oracle.now) tables.now marks.old }
         requires union { node_at system.now node.0 ≡ Some (Node.Union (map number parts.now)) }
         requires few { length parts.now ≤ 64 }
         requires running { self.old.stopped ≡ None }
@@ -241,13 +241,15 @@ impl Session {
         ensures moved { IsTrue result → MovesOn system.now (O.x oracle.now) F (O.table oracle.now)
             (O.raised oracle.now) 1 self.old tape.old self.new tape.new }
         ensures left { IsFalse result → (self.new ≡ self.old) × (tape.new ≡ tape.old) }
-        ensures compared { AreCompared system.now (O.table oracle.now) (O.raised oracle.now)
-            unions.now marks.new }
+        ensures compared { AreTablesCompared system.now F (O.table oracle.now)
+            (O.raised oracle.now) tables.now marks.new }
     {
         if reserve_drawn(&mut self.pending, &mut self.shape, &mut self.cells).is_err() {
             return false;
         }
         system.known();
+        let unions = &tables.unions;
+        let marks = &mut marks.unions;
         let Some(taken) = draw_ahead(system, node, parts, unions, marks, oracle, tape) else {
             return false;
         };
@@ -273,11 +275,15 @@ impl Session {
         founded: &Founded,
         node: ExprId,
         part: ExprId,
+        tables: &DrawTables,
+        marks: &mut DrawMarks,
         oracle: &O,
         tape: &mut Tape,
     ) -> bool
         requires fraction_bits { IsFractionBits F }
         requires spec { O.spec oracle.now ≡ founded.now }
+        requires compared { AreTablesCompared founded.now F (O.table oracle.now)
+            (O.raised oracle.now) tables.now marks.old }
         requires counted { HasCountedPart founded.now node.0 part.0 }
         requires running { self.old.stopped ≡ None }
         requires first { slice_get self.old.pending 0 ≡ Some node.0 }
@@ -285,6 +291,8 @@ impl Session {
         ensures moved { IsTrue result → MovesOn founded.now (O.x oracle.now) F (O.table oracle.now)
             (O.raised oracle.now) 1 self.old tape.old self.new tape.new }
         ensures left { IsFalse result → (self.new ≡ self.old) × (tape.new ≡ tape.old) }
+        ensures compared { AreTablesCompared founded.now F (O.table oracle.now)
+            (O.raised oracle.now) tables.now marks.new }
     {
         if !self.pending.has_more() {
             return false;
@@ -296,7 +304,10 @@ impl Session {
         let system = founded.system();
         system.known();
         let room = room_for(founded, part, self.room);
-        let Some(taken) = draw_count_ahead(system, node, room, &self.kept, oracle, tape) else {
+        let counts = &tables.counts;
+        let marks = &mut marks.counts;
+        let taken = draw_count_ahead(system, node, room, counts, marks, oracle, tape);
+        let Some(taken) = taken else {
             return false;
         };
         let drawn = CountDrawn::Count {

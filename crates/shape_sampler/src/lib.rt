@@ -14,3 +14,4 @@ mod placing;
 mod plain_visits;
 pub mod session;
 pub mod stepped;
+mod tables;

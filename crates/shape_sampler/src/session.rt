@@ -16,6 +16,7 @@ ghost use Rattle.shape_sampler.specs.Answer.{IsVisitByBits, IsIdealAnswer, Draws
 use crate::counted::{answer_to_count, counted_part, put_counted, room_for};
 use crate::placing::{answer_to, put_drawn, reserve_drawn, stop_of};
 use crate::stepped::Stepped;
+use crate::tables::DrawTables;
 use bit_tape::tape::Tape;
 use bz_model::cell::Cell;
 use bz_model::cells::Cells;
@@ -23,11 +24,10 @@ use bz_model::oracle::Oracle;
 use bz_model::steps::Steps;
 use bz_outside::shelf::Shelf;
 use choice_draw::drawn::Drawn;
-use choice_draw::kept::{KeptUnions, draw_union_kept};
+use choice_draw::kept::draw_union_kept;
 use class_system::expr::Expr;
 use class_system::ids::{ClassId, ExprId};
 use class_system::system::System;
-use count_draw::cache::KeptTables;
 use count_draw::count::draw_count_kept;
 use object_store::pending::Pending;
 use object_store::shape::Shape;
@@ -48,9 +48,7 @@ pub struct Session {
     pub(crate) cells: Cells,
     pub(crate) room: u64,
     pub(crate) stopped: Option<Stepped>,
-    // What draws keep for later ones, whatever the attempt.
-    pub(crate) kept: KeptTables,
-    pub(crate) unions: KeptUnions,
+    pub(crate) tables: DrawTables,
 }
 
 impl Model for Session {
@@ -95,8 +93,7 @@ impl Session {
             cells: Cells::new(alloc),
             room,
             stopped: None,
-            kept: KeptTables::make(alloc, system)?,
-            unions: KeptUnions::make(alloc, system)?,
+            tables: DrawTables::make(alloc, system)?,
         })
     }
 
@@ -284,7 +281,7 @@ impl Session {
             return Stepped::OutOfMemory;
         }
         system.known();
-        let unions = &mut self.unions;
+        let unions = &mut self.tables.unions;
         let drawn = draw_union_kept(system, node, unions, oracle, tape, shelf, steps);
         put_drawn(
             &mut self.pending,
@@ -347,7 +344,7 @@ impl Session {
             system,
             node,
             room,
-            &mut self.kept,
+            &mut self.tables.counts,
             oracle,
             tape,
             shelf,

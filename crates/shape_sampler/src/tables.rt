@@ -1,8 +1,6 @@
 //! What draws keep for later ones, whatever the attempt.
-ghost use Rattle.shape_sampler.specs.Compared.{AreTablesCompared};
 ghost use Rattle.std.specs.Prelude.{ℕ};
-ghost use Rattle.bz_model.specs.declared.cell.Bounds.{Bounds};
-ghost use Rattle.bz_model.specs.Spec.{Spec};
+ghost use Rattle.choice_draw.specs.Marks.{IsMarked};
 
 use choice_draw::kept::KeptUnions;
 use choice_draw::marks::Marks;
@@ -46,8 +44,8 @@ impl DrawMarks {
     /// No node was compared.
     #[inline(always)]
     pub(crate) fn none() -> DrawMarks
-        ensures { (s : Spec) (f : ℕ) (table : (level node : ℕ) → Bounds) (highest : ℕ)
-            (tables : DrawTables) → AreTablesCompared s f table highest tables result }
+        ensures unions { (node : ℕ) → ¬ IsMarked result.unions node }
+        ensures counts { (node : ℕ) → ¬ IsMarked result.counts node }
     {
         DrawMarks {
             unions: Marks::none(),

@@ -1,12 +1,11 @@
 -- What the bits took before they take again.
-use Rattle.std.proofs.Common.{◌≡◌, ◌<◌, length, map, arith, refl, sym, ◌∙◌, ap, subst, Some}
+use Rattle.std.proofs.Common.{◌≡◌, map, arith, refl, sym, ap, subst, Some}
 use Rattle.std.proofs.lemmas.List.{length-map}
-use Rattle.bz_model.specs.Spec.{node_at}
 use Rattle.bit_tape.specs.Tape.{bits_of_source}
 use Rattle.class_system.specs.Views.{number}
 use Rattle.choice_draw.specs.Decision.{union_decision, union_parts}
-use Rattle.choice_draw.specs.KeptChoices.{KeptBounds, AreFor}
-use Rattle.choice_draw.specs.Compared.{AreCompared, kept_for}
+use Rattle.choice_draw.specs.KeptChoices.{AreFor}
+use Rattle.choice_draw.specs.Compared.{kept_for}
 use Rattle.choice_draw.proofs.UnionIdeal.{union-ideal}
 use Rattle.choice_draw.proofs.UnionParts.{parts-two, parts-in_range, within}
 use Rattle.choice_draw.proofs.Comparing.{kept-there}

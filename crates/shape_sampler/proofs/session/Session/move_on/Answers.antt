@@ -1,22 +1,22 @@
 -- The moves so far, and one more.
 use Rattle.std.proofs.Common.{◌≡◌, ◌+◌, arith, sym, subst}
 use Rattle.bz_model.specs.Spec.{Spec}
-use Rattle.choice_draw.specs.Compared.{AreCompared}
-use Rattle.choice_draw.proofs.Comparing.{none-compared}
 use Rattle.shape_sampler.specs.State.{SessionBelongs}
 use Rattle.shape_sampler.specs.Ahead.{MovesOn}
+use Rattle.shape_sampler.specs.Compared.{AreTablesCompared}
 use Rattle.shape_sampler.proofs.Moves.{none-moved, more-moved}
+use Rattle.shape_sampler.proofs.ComparedTables.{none-compared}
 use Rattle.shape_sampler.proofs.session.Session.move_on.Goals as goal
 
 pub moves-init : goal.moves-init
 moves-init g c = record {
   few = omega arith;
   moved = none-moved c.args.founded.now (g.O.Oracle.x c.args.oracle.now) g.row.F (g.O.Oracle.table c.args.oracle.now) (g.O.Oracle.raised c.args.oracle.now) c.args.self.now c.args.tape.now c.requires.running c.requires.session;
-  compared = none-compared c.args.founded.now (g.O.Oracle.table c.args.oracle.now) (g.O.Oracle.raised c.args.oracle.now) c.args.unions.now c.none-marks.result c.none-marks.ensures;
+  compared = none-compared c.args.founded.now g.row.F (g.O.Oracle.table c.args.oracle.now) (g.O.Oracle.raised c.args.oracle.now) c.args.tables.now c.none-marks.result c.none-marks.ensures.unions c.none-marks.ensures.counts;
 }
 
 pub move_first-moved-requires-clause-compared : goal.move_first-moved-requires-clause-compared
-move_first-moved-requires-clause-compared g c = subst (λ (s : Spec). AreCompared s (g.O.Oracle.table c.args.oracle.now) (g.O.Oracle.raised c.args.oracle.now) c.args.unions.now c.moves.marks) (sym c.system-system.ensures.system) c.moves.invariant.compared
+move_first-moved-requires-clause-compared g c = subst (λ (s : Spec). AreTablesCompared s g.row.F (g.O.Oracle.table c.args.oracle.now) (g.O.Oracle.raised c.args.oracle.now) c.args.tables.now c.moves.marks) (sym c.system-system.ensures.system) c.moves.invariant.compared
 
 pub move_first-moved-requires-clause-running : goal.move_first-moved-requires-clause-running
 move_first-moved-requires-clause-running g c = c.moves.invariant.moved.running
@@ -35,7 +35,7 @@ moves-preserved g c =
     record {
       few = omega arith;
       moved = more-moved c.args.founded.now x g.row.F table raised c.moves.made c.move_first-moved.result c.args.self.now c.moves.self c.move_first-moved.new.self c.args.tape.now c.moves.tape c.move_first-moved.new.tape c.moves.invariant.moved next;
-      compared = subst (λ (s : Spec). AreCompared s table raised c.args.unions.now c.move_first-moved.new.marks) c.system-system.ensures.system c.move_first-moved.ensures.compared;
+      compared = subst (λ (s : Spec). AreTablesCompared s g.row.F table raised c.args.tables.now c.move_first-moved.new.marks) c.system-system.ensures.system c.move_first-moved.ensures.compared;
     }
 
 pub returns-then-moved-eq0-clause-moved : goal.returns-then-moved-eq0-clause-moved
