@@ -219,6 +219,7 @@ impl FirstCounts {
             (spec_range counted.now.range) (O.table oracle.now) counted.now.part.0 node.0 bits
             self.now }
         ensures raised { IsTrue result → level_for bits ≤ O.raised oracle.now }
+        ensures from_one { IsTrue result → 1 ≤ O.raised oracle.now }
     {
         self.first.are_at(counted.part, node, 1, oracle)
             && (bits <= LEVEL_BITS || self.second.are_at(counted.part, node, 2, oracle))

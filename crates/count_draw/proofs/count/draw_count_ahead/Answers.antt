@@ -27,19 +27,19 @@ returns-clause-drawn g c = λ contents belongs.
     let first = c.in_ok-first.first in
     let by = c.index-tables.result.now.firsts in
     let same : by ≡ kept_for c.args.kept.now c.args.node.0 = kept-there c.args.kept.now c.args.node.0 c.in_ok-place.place c.index-tables.result.now c.in_ok-place.ensures.place c.in_ok-place.ensures.inside c.index-tables.ensures in
-    let k : IsKeptCount s g.row.F table c.args.node.0 c.from-2.result by = subst (IsKeptCount s g.row.F table c.args.node.0 c.from-2.result) (sym same) (c.if-not-is_for.ensures.bounds refl) in
+    let k : IsKeptCount s g.row.F table c.args.node.0 c.from.result by = subst (IsKeptCount s g.row.F table c.args.node.0 c.from.result) (sym same) (c.if-not-is_for.ensures.bounds refl) in
     let cell = peeked_cell c.peek-ahead.result.word first.bits in
     let sound = rw c.requires.spec at c.known.ensures.sound in
     let at : IsCountedAs s c.args.node.0 k.part k.kind k.range = record { node = k.node; range = k.has_range; suits = suits s c.args.node.0 k.part k.kind k.range c.known-2.ensures.sound k.node k.has_range } in
     let inside = part_inside s c.args.node.0 k.part k.kind c.known-2.ensures.sound k.node in
-    let taken = takes-from k.kind g.row.F k.range table k.part c.args.node.0 by c.from-2.result k.bounds first.count cell (omega (arith, c.from-2.ensures)) c.in_ok-first.ensures.takes in
+    let taken = takes-from k.kind g.row.F k.range table k.part c.args.node.0 by c.from.result k.bounds first.count cell (omega (arith, c.from.ensures)) c.in_ok-first.ensures.takes in
     let takes = takes-within s x g.row.F c.args.node.0 k.part k.kind k.range table at sound inside c.args.room first.count cell taken c.in_ok-first.ensures.room in
     let told = bits_of_source c.args.tape.now.source contents in
     let start = c.args.tape.now.used in
     let decide = count_decision s g.row.F table c.args.node.0 c.args.room in
     let drawn = draw-found decide told start c.skip.new.self.used c.peek-ahead.result.word c.peek-ahead.result.count first.count cell takes refl c.in_ok-first.ensures.ahead (c.peek-ahead.ensures.next contents belongs) (c.skip.ensures.used ∙ ap (λ d. start + d.b) c.cell-cell.ensures.exact) in
-    subst (λ d. IsDraw decide told start c.skip.new.self.used (Draw.Decided (Choice.Take c.from.result) d)) (sym c.cell-cell.ensures.exact)
-    (subst (λ n. IsDraw decide told start c.skip.new.self.used (Draw.Decided (Choice.Take n) cell)) (sym c.from.ensures) drawn)
+    subst (λ d. IsDraw decide told start c.skip.new.self.used (Draw.Decided (Choice.Take c.from-2.result) d)) (sym c.cell-cell.ensures.exact)
+    (subst (λ n. IsDraw decide told start c.skip.new.self.used (Draw.Decided (Choice.Take n) cell)) (sym c.from-2.ensures) drawn)
 
 pub returns-clause-ideal : goal.returns-clause-ideal
 returns-clause-ideal g c =
@@ -49,15 +49,15 @@ returns-clause-ideal g c =
     let first = c.in_ok-first.first in
     let by = c.index-tables.result.now.firsts in
     let same : by ≡ kept_for c.args.kept.now c.args.node.0 = kept-there c.args.kept.now c.args.node.0 c.in_ok-place.place c.index-tables.result.now c.in_ok-place.ensures.place c.in_ok-place.ensures.inside c.index-tables.ensures in
-    let k : IsKeptCount s g.row.F table c.args.node.0 c.from-2.result by = subst (IsKeptCount s g.row.F table c.args.node.0 c.from-2.result) (sym same) (c.if-not-is_for.ensures.bounds refl) in
+    let k : IsKeptCount s g.row.F table c.args.node.0 c.from.result by = subst (IsKeptCount s g.row.F table c.args.node.0 c.from.result) (sym same) (c.if-not-is_for.ensures.bounds refl) in
     let cell = peeked_cell c.peek-ahead.result.word first.bits in
     let sound = rw c.requires.spec at c.known.ensures.sound in
     let at : IsCountedAs s c.args.node.0 k.part k.kind k.range = record { node = k.node; range = k.has_range; suits = suits s c.args.node.0 k.part k.kind k.range c.known-2.ensures.sound k.node k.has_range } in
     let inside = part_inside s c.args.node.0 k.part k.kind c.known-2.ensures.sound k.node in
-    let taken = takes-from k.kind g.row.F k.range table k.part c.args.node.0 by c.from-2.result k.bounds first.count cell (omega (arith, c.from-2.ensures)) c.in_ok-first.ensures.takes in
+    let taken = takes-from k.kind g.row.F k.range table k.part c.args.node.0 by c.from.result k.bounds first.count cell (omega (arith, c.from.ensures)) c.in_ok-first.ensures.takes in
     let takes = takes-within s x g.row.F c.args.node.0 k.part k.kind k.range table at sound inside c.args.room first.count cell taken c.in_ok-first.ensures.room in
     let ideal = choice-ideal s x g.row.F c.args.node.0 k.part k.kind k.range table at sound inside c.args.room cell takes.is_cell (Some (Take first.count)) takes.takes in
-    subst (λ d. IsIdealOfCell s x c.args.node.0 d c.from.result) (sym c.cell-cell.ensures.exact) (subst (λ n. IsIdealOfCell s x c.args.node.0 cell n) (sym c.from.ensures) ideal)
+    subst (λ d. IsIdealOfCell s x c.args.node.0 d c.from-2.result) (sym c.cell-cell.ensures.exact) (subst (λ n. IsIdealOfCell s x c.args.node.0 cell n) (sym c.from-2.ensures) ideal)
 
 pub returns-clause-in_range : goal.returns-clause-in_range
 returns-clause-in_range g c =
@@ -67,15 +67,15 @@ returns-clause-in_range g c =
     let first = c.in_ok-first.first in
     let by = c.index-tables.result.now.firsts in
     let same : by ≡ kept_for c.args.kept.now c.args.node.0 = kept-there c.args.kept.now c.args.node.0 c.in_ok-place.place c.index-tables.result.now c.in_ok-place.ensures.place c.in_ok-place.ensures.inside c.index-tables.ensures in
-    let k : IsKeptCount s g.row.F table c.args.node.0 c.from-2.result by = subst (IsKeptCount s g.row.F table c.args.node.0 c.from-2.result) (sym same) (c.if-not-is_for.ensures.bounds refl) in
+    let k : IsKeptCount s g.row.F table c.args.node.0 c.from.result by = subst (IsKeptCount s g.row.F table c.args.node.0 c.from.result) (sym same) (c.if-not-is_for.ensures.bounds refl) in
     let cell = peeked_cell c.peek-ahead.result.word first.bits in
     let sound = rw c.requires.spec at c.known.ensures.sound in
     let at : IsCountedAs s c.args.node.0 k.part k.kind k.range = record { node = k.node; range = k.has_range; suits = suits s c.args.node.0 k.part k.kind k.range c.known-2.ensures.sound k.node k.has_range } in
     let inside = part_inside s c.args.node.0 k.part k.kind c.known-2.ensures.sound k.node in
-    let taken = takes-from k.kind g.row.F k.range table k.part c.args.node.0 by c.from-2.result k.bounds first.count cell (omega (arith, c.from-2.ensures)) c.in_ok-first.ensures.takes in
+    let taken = takes-from k.kind g.row.F k.range table k.part c.args.node.0 by c.from.result k.bounds first.count cell (omega (arith, c.from.ensures)) c.in_ok-first.ensures.takes in
     let takes = takes-within s x g.row.F c.args.node.0 k.part k.kind k.range table at sound inside c.args.room first.count cell taken c.in_ok-first.ensures.room in
     let ranged = choice-ranged s x g.row.F c.args.node.0 k.part k.kind k.range table at sound inside c.args.room cell takes.is_cell (Some (Take first.count)) takes.takes in
-    subst (λ n. IsInRange n (range_at s c.args.node.0) × (n ≤ c.args.room)) (sym c.from.ensures) ranged
+    subst (λ n. IsInRange n (range_at s c.args.node.0) × (n ≤ c.args.room)) (sym c.from-2.ensures) ranged
 
 pub returns-clause-cell : goal.returns-clause-cell
 returns-clause-cell g c =
@@ -85,11 +85,11 @@ returns-clause-cell g c =
     let first = c.in_ok-first.first in
     let by = c.index-tables.result.now.firsts in
     let same : by ≡ kept_for c.args.kept.now c.args.node.0 = kept-there c.args.kept.now c.args.node.0 c.in_ok-place.place c.index-tables.result.now c.in_ok-place.ensures.place c.in_ok-place.ensures.inside c.index-tables.ensures in
-    let k : IsKeptCount s g.row.F table c.args.node.0 c.from-2.result by = subst (IsKeptCount s g.row.F table c.args.node.0 c.from-2.result) (sym same) (c.if-not-is_for.ensures.bounds refl) in
+    let k : IsKeptCount s g.row.F table c.args.node.0 c.from.result by = subst (IsKeptCount s g.row.F table c.args.node.0 c.from.result) (sym same) (c.if-not-is_for.ensures.bounds refl) in
     let cell = peeked_cell c.peek-ahead.result.word first.bits in
     let sound = rw c.requires.spec at c.known.ensures.sound in
     let at : IsCountedAs s c.args.node.0 k.part k.kind k.range = record { node = k.node; range = k.has_range; suits = suits s c.args.node.0 k.part k.kind k.range c.known-2.ensures.sound k.node k.has_range } in
     let inside = part_inside s c.args.node.0 k.part k.kind c.known-2.ensures.sound k.node in
-    let taken = takes-from k.kind g.row.F k.range table k.part c.args.node.0 by c.from-2.result k.bounds first.count cell (omega (arith, c.from-2.ensures)) c.in_ok-first.ensures.takes in
+    let taken = takes-from k.kind g.row.F k.range table k.part c.args.node.0 by c.from.result k.bounds first.count cell (omega (arith, c.from.ensures)) c.in_ok-first.ensures.takes in
     let takes = takes-within s x g.row.F c.args.node.0 k.part k.kind k.range table at sound inside c.args.room first.count cell taken c.in_ok-first.ensures.room in
     subst (λ d. IsCell d.k d.b) (sym c.cell-cell.ensures.exact) takes.is_cell
