@@ -9,3 +9,4 @@ pub mod IdealByBits
 pub mod Ascending
 pub mod SpelledLabels
 pub mod DrawnAgain
+pub mod RemainingLabels

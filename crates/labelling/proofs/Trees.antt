@@ -96,8 +96,8 @@ module _ {h height : ℕ} {counts root left right : List ℕ} (fork : IsFork h h
     );
   }
 
--- the numbers from a on, taken in two parts
-numbers-parts : (a m n : ℕ) → numbers_from a m ++ numbers_from (a + m) n ≡ numbers_from a (m + n)
+-- The numbers from a on, taken in two parts.
+pub numbers-parts : (a m n : ℕ) → numbers_from a m ++ numbers_from (a + m) n ≡ numbers_from a (m + n)
 numbers-parts a zero n = let e : a + 0 ≡ a = omega arith in let f : 0 + n ≡ n = omega arith in ap (λ x. numbers_from x n) e ∙ ap (numbers_from a) (sym f)
 numbers-parts a (suc m) n =
     let e : a + suc m ≡ suc a + m = omega arith in

@@ -20,8 +20,8 @@ use std::alloc::Global;
 /// number is drawn for it, so that no bit is taken where `n` is 0 or 1. The answer is fixed by the
 /// bits that were given, whether the shelf tells its content or not. `ReadFault` comes exactly
 /// where the count of faults of the tape's name rose, by one. All memory is taken before the first
-/// bit: a tree of counts, the labels and the cells. `OutOfMemory` leaves tape and shelf as they
-/// were.
+/// bit: for the labels that remain, those given and the cells. `OutOfMemory` leaves tape and shelf
+/// as they were.
 pub fn label<S: Shelf>(alloc: Global, n: u64, tape: &mut Tape, shelf: &mut S) -> Labelled
     requires within_limit { n ≤ 1000000 }
     requires belongs { BelongsToShelf (S.content shelf.old) tape.old }

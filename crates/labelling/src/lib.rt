@@ -12,4 +12,5 @@ pub mod labelled;
 pub mod labels;
 pub mod laws;
 mod progress;
+mod remaining;
 pub mod tree;

@@ -6,7 +6,7 @@ ghost use Rattle.bz_model.specs.Labels.{numbers_from};
 ghost use Rattle.labelling.specs.Progress.{one_given};
 
 use crate::labels::Labels;
-use crate::tree::LabelTree;
+use crate::remaining::Remaining;
 use bz_model::cell::Cell;
 use bz_model::cells::Cells;
 use std::alloc::{AllocError, Global};
@@ -17,7 +17,7 @@ use std::marker::Model;
 /// There is spare room for the labels that remain, and for a cell for each of them.
 #[derive(Drop)]
 pub(crate) struct Progress {
-    tree: LabelTree,
+    remaining: Remaining,
     given: Vec<u64>,
     cells: Cells,
 }
@@ -29,13 +29,13 @@ impl Model for Progress {
     ghost Value = { ProgressState };
 
     ghost view = { λ p. record {
-      remaining = p.tree;
+      remaining = p.remaining;
       given = p.given.items;
       cells = p.cells.items;
     } };
 
-    ghost invariant = { λ p. (vec_len p.given + length p.tree ≤ vec_capacity p.given)
-        × (length p.tree ≤ p.cells.spare) };
+    ghost invariant = { λ p. (vec_len p.given + length p.remaining ≤ vec_capacity p.given)
+        × (length p.remaining ≤ p.cells.spare) };
 }
 
 impl Progress {
@@ -45,11 +45,15 @@ impl Progress {
         ensures begun { IfOk result (λ progress. progress
             ≡ record { remaining = numbers_from 1 n; given = []; cells = [] }) }
     {
-        let tree = LabelTree::make(alloc, n)?;
+        let remaining = Remaining::make(alloc, n)?;
         let given = Vec::with_capacity(alloc, n as usize)?;
         let mut cells = Cells::new(alloc);
         cells.reserve(n as usize)?;
-        Ok(Progress { tree, given, cells })
+        Ok(Progress {
+            remaining,
+            given,
+            cells,
+        })
     }
 
     /// Gives the next atom the label with `i` remaining labels below it, `cell` being that of the
@@ -59,7 +63,7 @@ impl Progress {
         requires cell { IsCell cell.k cell.b }
         ensures { self.new ≡ one_given self.old i cell }
     {
-        let label = self.tree.take(i);
+        let label = self.remaining.take(i);
         put_label(&mut self.given, label);
         self.cells.put(cell);
     }
@@ -72,12 +76,12 @@ impl Progress {
         ensures cells { result.1.items ≡ self.cells }
     {
         let Progress {
-            mut tree,
+            mut remaining,
             mut given,
             cells,
         } = self;
-        if tree.left() == 1 {
-            let label = tree.take(0);
+        if !remaining.is_empty() {
+            let label = remaining.take(0);
             put_label(&mut given, label);
         }
         (Labels::of(given), cells)

@@ -27,4 +27,4 @@ returns-clause-moved g c = λ told.
     let settled = count-settle c.args.node c.args.part.0 drawn (the_view c.self.inside) c.args.self.now now Moved c.reserve_drawn.new.pending.items c.reserve_drawn.new.shape.items c.reserve_drawn.new.cells.items c.self.view_is refl refl refl c.reserve_drawn.ensures.pending c.reserve_drawn.ensures.tokens c.reserve_drawn.ensures.cells c.put_counted.ensures.pending c.put_counted.ensures.tokens c.put_counted.ensures.cells stopped answered in
     let room_at : IsRoomFor c.args.founded.now c.args.part.0 c.args.self.now.room c.room_for-room.result = record { free = c.room_for-room.ensures.free; taking = λ none. c.room_for-room.ensures.taking none ∙ ap (λ (st : SessionState). st.room) c.self.view_is } in
     let sound : IsSound c.args.founded.now = rw c.system-system.ensures.system at c.known-2.ensures.sound in
-    counted-moves c.args.founded.now (g.O.Oracle.x c.args.oracle.now) g.row.F (g.O.Oracle.table c.args.oracle.now) (g.O.Oracle.raised c.args.oracle.now) c.args.node c.args.part.0 c.in-Some.taken.count c.in-Some.taken.cell c.args.self.now now c.args.tape.now c.draw_count_ahead.new.tape c.requires.running c.requires.first answered settled c.requires.counted c.room_for-room.result room_at sound c.known.ensures.well_founded (c.known.ensures.decided c.args.part.0) c.requires.session c.in-Some.ensures.cell (rw c.system-system.ensures.system at c.in-Some.ensures.ideal) (rw c.system-system.ensures.system at c.in-Some.ensures.in_range) c.in-Some.ensures.skips c.in-Some.ensures.raised (rw c.system-system.ensures.system at c.in-Some.ensures.drawn)
+    counted-moves c.args.founded.now (g.O.Oracle.x c.args.oracle.now) g.row.F (g.O.Oracle.table c.args.oracle.now) (g.O.Oracle.raised c.args.oracle.now) c.args.node c.args.part.0 c.in-Some.taken.count c.in-Some.taken.cell c.args.self.now now c.args.tape.now c.draw_count_ahead-taken.new.tape c.requires.running c.requires.first answered settled c.requires.counted c.room_for-room.result room_at sound c.known.ensures.well_founded (c.known.ensures.decided c.args.part.0) c.requires.session c.in-Some.ensures.cell (rw c.system-system.ensures.system at c.in-Some.ensures.ideal) (rw c.system-system.ensures.system at c.in-Some.ensures.in_range) c.in-Some.ensures.skips c.in-Some.ensures.raised (rw c.system-system.ensures.system at c.in-Some.ensures.drawn)

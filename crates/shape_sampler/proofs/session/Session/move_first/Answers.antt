@@ -20,7 +20,7 @@ body-requires g c = record { in_range = class-known c.args.system.now c.known.en
 pub move_union-requires-clause-few : goal.move_union-requires-clause-few
 move_union-requires-clause-few g c =
     let few = few-parts c.args.system.now c.known.ensures.limits c.in-Some.node.0 c.in-Union.parts (c.node.ensures.node ∙ ap (λ n. Some (spec_node n)) c.in-Union.is) in
-    subst (λ ps. length ps ≤ 64) (sym c.items-in-Union.ensures.items) few
+    subst (λ ps. length ps ≤ 64) (sym c.items-parts.ensures.items) few
 
 pub node-requires : goal.node-requires
 node-requires g c =

@@ -8,5 +8,5 @@ use Rattle.shape_sampler.proofs.session.Session.visit_ahead.Goals as goal
 pub returns-then-is_some-clause-moves : goal.returns-then-is_some-clause-moves
 returns-then-is_some-clause-moves g c = λ contents belongs. AreMoves.still refl refl
 
-pub move_on-requires-clause-running : goal.move_on-requires-clause-running
-move_on-requires-clause-running g c = ap (λ (st : SessionState). st.stopped) (sym c.self.view_is) ∙ not-stopped c.self.inside.stopped c.if-is_some.ensures
+pub move_on-made-requires-clause-running : goal.move_on-made-requires-clause-running
+move_on-made-requires-clause-running g c = not-stopped c.self.inside.stopped c.if-is_some.ensures
