@@ -11,9 +11,9 @@ pub listed-all : (n listed : ℕ) → (listed ≡ n) ⊎ (listed ≡ 0) → list
 listed-all n listed (inl all) most =
     let none : n - listed ≡ 0 = omega arith in
     ap (λ m. numbers_from 1 listed ++ numbers_from 1 m) none ∙ append-nil (numbers_from 1 listed) ∙ ap (numbers_from 1) all
-listed-all n listed (inr no) most =
+listed-all n listed (inr none) most =
     let rest : n - listed ≡ n = omega arith in
-    ap (λ m. numbers_from 1 m ++ numbers_from 1 (n - listed)) no ∙ ap (numbers_from 1) rest
+    ap (λ m. numbers_from 1 m ++ numbers_from 1 (n - listed)) none ∙ ap (numbers_from 1) rest
 
 -- A label read in the first list is read at the same place in both.
 pub read-first : (xs ys : List ℕ) (i label : ℕ) → i < length xs → label ≡ get_or xs i label → label ≡ slice_index (xs ++ ys) i
@@ -28,3 +28,14 @@ pub numbers-more : (n : ℕ) (xs : List ℕ) → xs ≡ numbers_from 1 n → xs 
 numbers-more n xs so_far =
     let next : n + 1 ≡ 1 + n = omega arith in
     ap (λ ys. ys ++ (n + 1) ∷ []) so_far ∙ ap (λ m. numbers_from 1 n ++ m ∷ []) next ∙ numbers-parts 1 n 1
+
+-- Where some labels are left and no two, one is.
+pub one-left : (xs : List ℕ) → length xs ≤ 1 → (length xs ≡ 0 → ⊥) → xs ≡ slice_index xs 0 ∷ []
+one-left [] few some = absurd (some refl)
+one-left (x ∷ []) few some = refl
+one-left (x ∷ y ∷ xs) few some = let never : ⊥ = omega arith in absurd never
+
+-- Where there are none, the list is empty.
+pub none-left : (xs : List ℕ) → length xs ≡ 0 → xs ≡ []
+none-left [] none = refl
+none-left (x ∷ xs) none = let never : ⊥ = omega arith in absurd never

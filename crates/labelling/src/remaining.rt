@@ -1,5 +1,5 @@
 //! Which labels remain.
-ghost use Rattle.std.specs.Prelude.{◌≡◌, ◌<◌, ◌≤◌, ◌⊎◌, ◌↔◌, [], length, remove, slice_index, IfOk};
+ghost use Rattle.std.specs.Prelude.{◌≡◌, ◌<◌, ◌≤◌, ◌⊎◌, ◌↔◌, length, remove, slice_index, IfOk};
 ghost use Rattle.std.specs.Prelude.{IsTrue};
 ghost use Rattle.bz_model.specs.Labels.{numbers_from};
 
@@ -42,9 +42,9 @@ impl Remaining {
 
     /// Whether no label remains. Takes no memory.
     pub(crate) fn is_empty(&self) -> bool
-        ensures { IsTrue result ↔ (self.now ≡ []) }
+        ensures { IsTrue result ↔ (length self.now ≡ 0) }
     {
-        self.list.is_empty() && self.tree.left() == 0
+        self.list.len() == 0 && self.tree.left() == 0
     }
 
     /// Removes and answers the label that has exactly `i` remaining labels below it. Takes no

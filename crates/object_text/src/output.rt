@@ -2,7 +2,8 @@
 //!
 //! The text of a part of a set or a cycle is kept by itself until all parts are there: their order
 //! is known only then.
-ghost use Rattle.std.specs.Prelude.{◌≡◌, ◌≤◌, ◌++◌, ◌∷◌, [], IfOk, OnOk, decimal, length, take, drop};
+ghost use Rattle.std.specs.Prelude.{◌≡◌, ◌≤◌, ◌++◌, ◌∷◌, [], IfOk, OnOk, decimal, length};
+ghost use Rattle.std.specs.Prelude.{take, drop};
 ghost use Rattle.bz_model.specs.ObjectText.{lesser_label, least_of, spaced, rotated_to};
 ghost use Rattle.object_text.specs.Output.{blank, grown, form_opened, part_printed, form_closed};
 ghost use Rattle.object_text.specs.Output.{arranged, opening_byte};
@@ -18,6 +19,10 @@ use std::mem;
 /// Up to this many parts of a set or a cycle are kept in the value itself: most have few.
 const SHORT: usize = 4;
 
+/// Up to this many bytes of a part's text are kept in the part itself: a leaf with its label has
+/// fewer.
+const INLINE: usize = 24;
+
 /// What is arranged: the parts of a set, or those of a cycle.
 #[derive(Clone, Copy)]
 pub(crate) enum Form {
@@ -29,7 +34,7 @@ pub(crate) enum Form {
 #[derive(Drop)]
 pub(crate) struct Part {
     least: u64,
-    text: Vec<u8>,
+    text: SmallVec<u8, INLINE>,
 }
 
 impl Model for Part {
@@ -44,7 +49,7 @@ impl MadeWith<Global> for Part {
     fn made_with(alloc: Global) -> Part {
         Part {
             least: 0,
-            text: Vec::new(alloc),
+            text: SmallVec::new(alloc),
         }
     }
 }
@@ -162,10 +167,9 @@ impl Output {
     pub(crate) fn end_part(&mut self) -> Result<(), AllocError>
         ensures { OnOk result (self.new ≡ part_printed self.old) }
     {
-        let alloc = *self.text.allocator();
         let part = Part {
             least: self.least,
-            text: mem::replace(&mut self.text, Vec::new(alloc)),
+            text: take_text(&mut self.text)?,
         };
         self.least = 0;
         let Some(frame) = self.frames.last_mut() else {
@@ -192,6 +196,21 @@ impl Output {
         self.text = text;
         Ok(())
     }
+}
+
+/// Takes the bytes of a text, and leaves it empty.
+///
+/// A short text is copied, which takes no memory, and keeps its room. A longer one gives up its own.
+fn take_text(text: &mut Vec<u8>) -> Result<SmallVec<u8, INLINE>, AllocError>
+    ensures { IfOk result (λ taken. (taken.items ≡ text.old.items) × (text.new.items ≡ [])) }
+{
+    let alloc = *text.allocator();
+    if text.len() <= INLINE {
+        let short = SmallVec::from_slice(alloc, text)?;
+        text.clear();
+        return Ok(short);
+    }
+    Ok(SmallVec::from_vec(mem::replace(text, Vec::new(alloc))))
 }
 
 /// Appends the parts of a set or a cycle in canonical order, between its brackets.
