@@ -320,9 +320,9 @@ impl KeptUnions {
 /// Draws the number of a union's part, as `draw_union` does, where kept choices tell it by the bits
 /// that the tape has read ahead.
 ///
-/// `None`, and tape and tables stay as they are, where they don't. Raises no level, asks no shelf and
-/// takes no memory. The bounds that choices are kept by are compared with the oracle's once for each
-/// marked node, as long as tables and oracle stay.
+/// `None`, and tape and tables stay as they are, where they don't. Raises no level, asks no shelf
+/// and takes no memory. The bounds that choices are kept by are compared with the oracle's once for
+/// each marked node, as long as tables and oracle stay.
 #[inline]
 pub fn draw_ahead<const F: u32, O: Oracle<F>>(
     system: &System,

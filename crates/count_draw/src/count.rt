@@ -86,9 +86,9 @@ pub fn draw_count<const F: u32, O: Oracle<F>, S: Shelf, L: Ledger>(
 /// Draws the number of parts of a sequence, set or cycle, as `draw_count` does, where kept tables
 /// tell it by the bits that the tape has read ahead.
 ///
-/// `None`, and tape and tables stay as they are, where they don't. Raises no level, asks no shelf and
-/// takes no memory. The bounds that numbers are kept by are compared with the oracle's once for each
-/// marked node, as long as tables and oracle stay.
+/// `None`, and tape and tables stay as they are, where they don't. Raises no level, asks no shelf
+/// and takes no memory. The bounds that numbers are kept by are compared with the oracle's once for
+/// each marked node, as long as tables and oracle stay.
 #[inline]
 pub fn draw_count_ahead<const F: u32, O: Oracle<F>>(
     system: &System,
