@@ -200,7 +200,8 @@ impl Output {
 
 /// Takes the bytes of a text, and leaves it empty.
 ///
-/// A short text is copied, which takes no memory, and keeps its room. A longer one gives up its own.
+/// A short text is copied, which takes no memory, and keeps its room. A longer one gives up its
+/// own.
 fn take_text(text: &mut Vec<u8>) -> Result<SmallVec<u8, INLINE>, AllocError>
     ensures { IfOk result (λ taken. (taken.items ≡ text.old.items) × (text.new.items ≡ [])) }
 {
